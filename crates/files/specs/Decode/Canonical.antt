@@ -1,0 +1,128 @@
+-- An accepted graph file is the bytes of its graph: no two accepted files hold one graph. Assumes nothing.
+use mathlib.Core.Path.{_≡_, refl, sym, ap, ap₂, subst, _∙_}
+use mathlib.Core.Logic.{_⊎_, inl, inr}
+use mathlib.Core.Bool.{Bool, true, false}
+use mathlib.Core.List.{List, [], _∷_, _++_, map}
+use mathlib.Core.Option.{Option, none, some}
+use Prim.Native.Nat.{ℕ, zero, suc, _+_, _-_, _*_, _/_, _%_, _≤_, _<_}
+use native.Mathlib.Nat.{zero-add, add-zero}
+use native.Mathlib.Decide.{ℕ-discrete}
+use native.Mathlib.Omega.{arith}
+use lib.Dec.{eqb}
+use lib.ListN.{length, getD}
+use Rattle.files.specs.Basics.Lists.{span}
+use Rattle.files.specs.Basics.Tables.{table}
+use Rattle.files.specs.Basics.Tests.{one}
+use Rattle.files.specs.Decode.{to-node, to-edge, decode-graph, node-rec, edge-rec, graph-recs, graph-bytes}
+use Rattle.files.specs.Decode.Graphs.{at-most, is-node, is-edge, few}
+use Rattle.files.specs.Decode.Written.{skip-rec}
+use Rattle.files.specs.Graph.{Node, Edge, Graph}
+use Rattle.files.specs.Record.{record-from, record-at, kind-at, count, six, write}
+use Rattle.files.specs.Refusal.{graph, nodes-of, refusal}
+use Rattle.files.specs.Refusal.Laws.{accepted-iff}
+use Rattle.files.specs.Table.{Applies}
+use Rattle.files.specs.declared.record.Limits.{Limits}
+use Rattle.files.specs.declared.record.Record.{Record}
+
+module _ {A : Type 0} where
+  table-same : (f g : ℕ → A) (a n : ℕ) → ((i : ℕ) → a ≤ i → i < a + n → f i ≡ g i) → table f a n ≡ table g a n
+  table-same f g a zero h = refl
+  table-same f g a (suc n) h = ap₂ _∷_ (h a (omega arith) (omega arith)) (table-same f g (suc a) n (λ i x y. h i (omega arith) (omega arith)))
+
+  table-shift : (f : ℕ → A) (a n : ℕ) → table f (suc a) n ≡ table (λ i. f (suc i)) a n
+  table-shift f a zero = refl
+  table-shift f a (suc n) = ap (λ (xs : List A). f (suc a) ∷ xs) (table-shift f (suc a) n)
+
+  table-append : (f : ℕ → A) (a n m : ℕ) → table f a n ++ table f (a + n) m ≡ table f a (n + m)
+  table-append f a zero m = ap₂ (table f) (add-zero a) (sym (zero-add m))
+  table-append f a (suc n) m =
+      let e : a + suc n ≡ suc a + n = omega arith in
+      let c : suc n + m ≡ suc (n + m) = omega arith in
+      ap (λ (k : ℕ). table f a (suc n) ++ table f k m) e ∙ ap (λ (xs : List A). f a ∷ xs) (table-append f (suc a) n m) ∙ sym (ap (table f a) c)
+
+map-table : {A B : Type 0} (g : A → B) (f : ℕ → A) (a n : ℕ) → map g (table f a n) ≡ table (λ i. g (f i)) a n
+map-table g f a zero = refl
+map-table g f a (suc n) = ap (λ xs. g (f a) ∷ xs) (map-table g f (suc a) n)
+
+-- whole records are the bytes
+pub write-recs : (n : ℕ) (l : List ℕ) → length l ≡ 6 * n → write (table (record-at l) 0 n) ≡ l
+write-recs zero [] e = refl
+write-recs zero (a ∷ l) e = absurd (omega arith)
+write-recs (suc n) [] e = absurd (omega arith)
+write-recs (suc n) (a ∷ []) e = absurd (omega arith)
+write-recs (suc n) (a ∷ b ∷ []) e = absurd (omega arith)
+write-recs (suc n) (a ∷ b ∷ c ∷ []) e = absurd (omega arith)
+write-recs (suc n) (a ∷ b ∷ c ∷ d ∷ []) e = absurd (omega arith)
+write-recs (suc n) (a ∷ b ∷ c ∷ d ∷ f ∷ []) e = absurd (omega arith)
+write-recs (suc n) (a ∷ b ∷ c ∷ d ∷ f ∷ g ∷ l) e =
+    ap (λ (rs : List Record). six r ++ write rs) rest ∙ ap (λ (xs : List ℕ). six r ++ xs) (write-recs n l (omega arith))
+  where
+    r : Record
+    r = record { kind = a; first = b; second = c; third = d; fourth = f; fifth = g }
+
+    step : (i : ℕ) → record-at (a ∷ b ∷ c ∷ d ∷ f ∷ g ∷ l) (suc i) ≡ record-at l i
+    step i =
+        let q : 6 * suc i ≡ 6 + 6 * i = omega arith in
+        ap (record-from (a ∷ b ∷ c ∷ d ∷ f ∷ g ∷ l)) q ∙ skip-rec (record { kind = a; first = b; second = c; third = d; fourth = f; fifth = g }) l (6 * i)
+
+    rest : table (record-at (a ∷ b ∷ c ∷ d ∷ f ∷ g ∷ l)) 1 n ≡ table (record-at l) 0 n
+    rest = table-shift (record-at (a ∷ b ∷ c ∷ d ∷ f ∷ g ∷ l)) 0 n ∙ table-same (λ i. record-at (a ∷ b ∷ c ∷ d ∷ f ∷ g ∷ l) (suc i)) (record-at l) 0 n (λ i x y. step i)
+
+-- ---- a record of an accepted file is that of its value
+
+flag-back : (x : ℕ) → x ≤ 1 → one (eqb x 1) ≡ x
+flag-back zero h = refl
+flag-back (suc zero) h = refl
+flag-back (suc (suc x)) h = absurd (omega arith)
+
+node-same : (r : Record) → r .kind ≡ 1 → r .second ≤ 1 → r .third ≤ 1 → r .fourth ≡ 0 → r .fifth ≡ 0 → node-rec (to-node r) ≡ r
+node-same r k a b c d = λ i. record { kind = sym k i; first = r .first; second = flag-back (r .second) a i; third = flag-back (r .third) b i; fourth = sym c i; fifth = sym d i }
+
+edge-same : (r : Record) → r .kind ≡ 2 → r .fourth ≡ 0 → r .fifth ≡ 0 → edge-rec (to-edge r) ≡ r
+edge-same r k c d = λ i. record { kind = sym k i; first = r .first; second = r .second; third = r .third; fourth = sym c i; fifth = sym d i }
+
+unused : (x : ℕ) → ((x ≡ 0 → ⊥) → ⊥) → x ≡ 0
+unused x f = go (ℕ-discrete x 0)
+  where
+    go : Dec (x ≡ 0) → x ≡ 0
+    go (yes e) = e
+    go (no e) = absurd (f e)
+
+module _ (L : Limits) (l : List ℕ) (accepted : refusal L graph l ≡ none) where
+  none-applies : (n i : ℕ) → Applies L graph l n i → ⊥
+  none-applies = (accepted-iff L graph l) .0 accepted
+
+  node-at : (i : ℕ) → i < nodes-of l → node-rec (to-node (record-at l i)) ≡ record-at l i
+  node-at i h =
+      let n : i < count l = omega (arith, few L l accepted) in
+      let k = is-node L l accepted i h in
+      node-same (record-at l i) k (at-most _ 1 (λ x. none-applies 3 i (n, inl (k, inr (inl x))))) (at-most _ 1 (λ x. none-applies 3 i (n, inl (k, inr (inr (inl x))))))
+      (unused _ (λ x. none-applies 3 i (n, inl (k, inr (inr (inr (inl x))))))) (unused _ (λ x. none-applies 3 i (n, inl (k, inr (inr (inr (inr x)))))))
+
+  edge-at : (i : ℕ) → nodes-of l ≤ i → i < count l → edge-rec (to-edge (record-at l i)) ≡ record-at l i
+  edge-at i h n =
+      let k = is-edge L l accepted i h n in
+      edge-same (record-at l i) k (unused _ (λ x. none-applies 3 i (n, inr (inl (k, inr (inl x)))))) (unused _ (λ x. none-applies 3 i (n, inr (inl (k, inr (inr x))))))
+
+  whole-records : length l ≡ 6 * count l
+  whole-records = go (ℕ-discrete (length l) (6 * count l))
+    where
+      go : Dec (length l ≡ 6 * count l) → length l ≡ 6 * count l
+      go (yes e) = e
+      go (no e) = absurd (none-applies 1 0 (refl, λ n q. e (omega arith)))
+
+  recs-same : graph-recs (decode-graph l) ≡ table (record-at l) 0 (count l)
+  unfolding decode-graph
+  recs-same =
+      let a : 0 + nodes-of l ≡ nodes-of l = zero-add (nodes-of l) in
+      let b : nodes-of l + (count l - nodes-of l) ≡ count l = omega (arith, few L l accepted) in
+      ap₂ _++_
+      (map-table node-rec (λ i. to-node (record-at l i)) 0 (nodes-of l) ∙ table-same (λ i. node-rec (to-node (record-at l i))) (record-at l) 0 (nodes-of l) (λ i x y. node-at i (omega arith)))
+      (map-table edge-rec (λ i. to-edge (record-at l i)) (nodes-of l) (count l - nodes-of l)
+      ∙ table-same (λ i. edge-rec (to-edge (record-at l i))) (record-at l) (nodes-of l) (count l - nodes-of l) (λ i x y. edge-at i x (omega (arith, few L l accepted))))
+      ∙ ap (λ (k : ℕ). table (record-at l) 0 (nodes-of l) ++ table (record-at l) k (count l - nodes-of l)) (sym a)
+      ∙ table-append (record-at l) 0 (nodes-of l) (count l - nodes-of l) ∙ ap (table (record-at l) 0) b
+
+  pub bytes-decode : graph-bytes (decode-graph l) ≡ l
+  unfolding graph-bytes
+  bytes-decode = ap write recs-same ∙ write-recs (count l) l whole-records

@@ -1,0 +1,2 @@
+-- Examples.
+use mathlib.Core.Path.{_≡_, refl}

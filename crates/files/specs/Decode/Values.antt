@@ -1,0 +1,2 @@
+-- Round trips.
+use mathlib.Core.Path.{_≡_, refl}

@@ -1,0 +1,2 @@
+-- Laws of interfaces.
+use mathlib.Core.Path.{_≡_, refl}

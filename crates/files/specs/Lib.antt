@@ -1,0 +1,11 @@
+pub mod Basics
+pub mod Limits
+pub mod Record
+pub mod Graph
+pub mod Property
+pub mod Interface
+pub mod Rules
+pub mod Refusal
+pub mod Table
+pub mod Decode
+pub mod Outcome

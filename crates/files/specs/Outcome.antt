@@ -1,0 +1,152 @@
+-- What a call answers and writes, and how its refusals are ordered: a list of checks in the published order beside the same list as the table words it.
+use mathlib.Core.Path.{_≡_}
+use mathlib.Core.Logic.{_⊎_}
+use mathlib.Core.Bool.{Bool, true, false, not, cond, _&&_}
+use mathlib.Core.List.{List, [], _∷_, _++_}
+use mathlib.Core.Option.{Option, none, some}
+use Prim.Native.Nat.{ℕ, zero, suc, _<_}
+use lib.Dec.{eqb, leb, ltb}
+use lib.ListN.{length, drop, replicate}
+use Rattle.files.specs.Basics.First.{whole, Finds}
+use Rattle.files.specs.declared.record.Limits.{Limits}
+use Rattle.files.specs.declared.refusal.Refusal.{Refusal}
+use Rattle.files.specs.Refusal.{Kind, findings}
+use Rattle.files.specs.Table.{Applies}
+pub mod Laws
+
+-- "A refusal carries number, file position from 1 and first offending record from 0."
+abbrev pub refusal-at : ℕ → ℕ → ℕ → Refusal
+refusal-at n f i = record { number = n; file = f; «record» = i }
+
+-- A verdict: 1 for holds, yes, written, shown and clean, 2 for fails, no and bad; its values; and the bytes of the result.
+pub record Said : Type 0 where
+  pub verdict : ℕ
+  pub values : List ℕ
+  pub written : List ℕ
+
+pub data Outcome : Type 0 where
+  refuses : Refusal → Outcome
+  says : Said → Outcome
+
+-- ---- the answer as numbers
+
+-- verdict 0 is a refusal, with its number; its values are file and record
+pub record Answer : Type 0 where
+  pub verdict : ℕ
+  pub number : ℕ
+  pub values : List ℕ
+
+abbrev pub refused-answer : Refusal → Answer
+refused-answer r = record { verdict = 0; number = r .number; values = r .file ∷ r .«record» ∷ [] }
+
+abbrev pub verdict-answer : ℕ → List ℕ → Answer
+verdict-answer v xs = record { verdict = v; number = 0; values = xs }
+
+abbrev pub answer : Outcome → Answer
+answer (refuses r) = refused-answer r
+answer (says s) = verdict-answer (s .verdict) (s .values)
+
+-- ---- the lent bytes
+
+abbrev pub written-of : Outcome → List ℕ
+written-of (refuses r) = []
+written-of (says s) = s .written
+
+-- "Output is unchanged after a refusal; after success, bytes past the result are unchanged."
+abbrev pub out-after : Outcome → List ℕ → List ℕ
+out-after o out = written-of o ++ drop (length (written-of o)) out
+
+-- "Work buffers are all zero after every call except refusal 13, which leaves them."
+abbrev pub work-after : Outcome → List ℕ → List ℕ
+work-after (refuses r) work = cond (eqb (r .number) 13) work (replicate (length work) 0)
+work-after (says s) work = replicate (length work) 0
+
+-- ---- the order of refusals, computed
+
+-- one line of the published order: number, file, and the first record that offends, if any
+pub record Check : Type 0 where
+  pub number : ℕ
+  pub file : ℕ
+  pub found : Option ℕ
+
+abbrev pub check : ℕ → ℕ → Option ℕ → Check
+check n f m = record { number = n; file = f; found = m }
+
+-- numbers from n on, of file f, one for each finding
+abbrev pub numbered : ℕ → ℕ → List (Option ℕ) → List Check → List Check
+numbered n f [] cs = cs
+numbered n f (m ∷ ms) cs = check n f m ∷ numbered (suc n) f ms cs
+
+-- a file's numbers 1 to 8, before the checks that follow
+abbrev pub file-checks : Limits → ℕ → Kind → List ℕ → List Check → List Check
+file-checks L f k l cs = numbered 1 f (findings L k l) cs
+
+-- a number of no file in particular: "Record is 0 .. ; file is 0"
+abbrev pub whole-check : ℕ → Bool → List Check → List Check
+whole-check n b cs = check n 0 (whole b) ∷ cs
+
+abbrev pub or-next : ℕ → ℕ → Option ℕ → Option Refusal → Option Refusal
+or-next n f (some i) rest = some (refusal-at n f i)
+or-next n f none rest = rest
+
+abbrev pub first-refusal : List Check → Option Refusal
+first-refusal [] = none
+first-refusal (c ∷ cs) = or-next (c .number) (c .file) (c .found) (first-refusal cs)
+
+abbrev pub unless : Option Refusal → Said → Outcome
+unless (some r) s = refuses r
+unless none s = says s
+
+-- a call: refused by the first check that finds something, or else the verdict
+abbrev pub answered : List Check → Said → Outcome
+answered cs s = unless (first-refusal cs) s
+
+-- ---- the order of refusals, as the paper words it
+
+-- lines in the published order: number, file, and at which records it applies
+pub data Lines : Type 1 where
+  end : Lines
+  line : ℕ → ℕ → (ℕ → Type 0) → Lines → Lines
+
+-- "each file in argument order, its lowest number among 1..8"
+abbrev pub file-lines : Limits → ℕ → Kind → List ℕ → Lines → Lines
+file-lines L f k l ls =
+    line 1 f (Applies L k l 1) (line 2 f (Applies L k l 2) (line 3 f (Applies L k l 3) (line 4 f (Applies L k l 4)
+    (line 5 f (Applies L k l 5) (line 6 f (Applies L k l 6) (line 7 f (Applies L k l 7) (line 8 f (Applies L k l 8) ls)))))))
+
+abbrev pub whole-line : ℕ → Type 0 → Lines → Lines
+whole-line n P ls = line n 0 (λ i. (i ≡ 0) × P) ls
+
+-- n of file f, at record i, comes first: it applies there and at no earlier record, and no line before it applies anywhere
+abbrev pub FirstOf : Lines → ℕ → ℕ → ℕ → Type 0
+FirstOf end n f i = ⊥
+FirstOf (line k g A ls) n f i = ((k ≡ n) × ((g ≡ f) × (A i × ((j : ℕ) → j < i → A j → ⊥)))) ⊎ (((j : ℕ) → A j → ⊥) × FirstOf ls n f i)
+
+-- no line applies
+abbrev pub NoneOf : Lines → Type 0
+NoneOf end = Unit {0}
+NoneOf (line k g A ls) = ((j : ℕ) → A j → ⊥) × NoneOf ls
+
+-- each check finds what its line says
+abbrev pub Matches : List Check → Lines → Type 0
+Matches [] end = Unit {0}
+Matches [] (line k g A ls) = ⊥
+Matches (c ∷ cs) end = ⊥
+Matches (c ∷ cs) (line k g A ls) = (c .number ≡ k) × ((c .file ≡ g) × (Finds (c .found) A × Matches cs ls))
+
+-- ---- numbers that several calls share
+
+-- 13: "work buffer shorter than its length published"
+abbrev pub short : ℕ → ℕ → Bool
+short room work = ltb work room
+
+-- "start method not 1..8"
+abbrev pub no-start : ℕ → Bool
+no-start m = not (leb 1 m && leb m 8)
+
+-- 12: "output shorter than the whole result"
+abbrev pub out-check : ℕ → Said → List Check
+out-check out s = whole-check 12 (ltb out (length (s .written))) []
+
+abbrev pub out-line : ℕ → Said → Lines
+out-line out s = whole-line 12 (out < length (s .written)) end

@@ -1,0 +1,2 @@
+-- Laws of the monitor.
+use mathlib.Core.Path.{_≡_, refl}

@@ -1,0 +1,164 @@
+// The record of six bytes, whatever its kind: its constants, its constructors, and what it reads as.
+ghost use mathlib.Core.Path.{_≡_};
+ghost use Rattle.files.specs.Record.{six, node-record, edge-record, row-record, rule-record, interface-record};
+ghost use Rattle.files.specs.Limits.{desk};
+
+// The six bytes of a record, in file order.
+pub struct Record {
+    pub kind: u8,
+    pub first: u8,
+    pub second: u8,
+    pub third: u8,
+    pub fourth: u8,
+    pub fifth: u8,
+}
+
+impl Record {
+    // The length of every record, in bytes.
+    pub const LEN: usize = 6;
+
+    pub const NODE: u8 = 1;
+
+    pub const EDGE: u8 = 2;
+
+    pub const ROW: u8 = 3;
+
+    pub const RULE: u8 = 4;
+
+    pub const INTERFACE: u8 = 5;
+
+    pub fn node(method: u8, returns: bool, entry: bool) -> Self
+        ensures { λ r. ⌜ r ≡ node-record method returns entry ⌝ }
+    {
+        Record {
+            kind: Record::NODE,
+            first: method,
+            second: returns as u8,
+            third: entry as u8,
+            fourth: 0,
+            fifth: 0,
+        }
+    }
+
+    pub fn edge(from: u8, label: u8, to: u8) -> Self
+        ensures { λ r. ⌜ r ≡ edge-record from label to ⌝ }
+    {
+        Record {
+            kind: Record::EDGE,
+            first: from,
+            second: label,
+            third: to,
+            fourth: 0,
+            fifth: 0,
+        }
+    }
+
+    pub fn row(operator: u8, a: u8, b: u8) -> Self
+        ensures { λ r. ⌜ r ≡ row-record operator a b ⌝ }
+    {
+        Record {
+            kind: Record::ROW,
+            first: operator,
+            second: a,
+            third: b,
+            fourth: 0,
+            fifth: 0,
+        }
+    }
+
+    pub fn rule(state: u8, event: u8, m1: u8, m2: u8, next: u8) -> Self
+        ensures { λ r. ⌜ r ≡ rule-record state event m1 m2 next ⌝ }
+    {
+        Record {
+            kind: Record::RULE,
+            first: state,
+            second: event,
+            third: m1,
+            fourth: m2,
+            fifth: next,
+        }
+    }
+
+    pub fn interface(provided: u8, required: u8) -> Self
+        ensures { λ r. ⌜ r ≡ interface-record provided required ⌝ }
+    {
+        Record {
+            kind: Record::INTERFACE,
+            first: provided,
+            second: required,
+            third: 0,
+            fourth: 0,
+            fifth: 0,
+        }
+    }
+
+    // As bytes, in file order.
+    pub fn bytes(self) -> [u8; Record::LEN]
+        ensures { λ r. ⌜ r ≡ six self ⌝ }
+    {
+        [
+            self.kind,
+            self.first,
+            self.second,
+            self.third,
+            self.fourth,
+            self.fifth,
+        ]
+    }
+}
+
+// How much a file may hold.
+pub struct Limits {
+    pub nodes: usize,
+    pub edges: usize,
+    pub rows: usize,
+    pub ors: usize,
+}
+
+impl Limits {
+    // The limits of the desk.
+    pub const DESK: Limits = Limits {
+        nodes: 256,
+        edges: 4096,
+        rows: 32,
+        ors: 12,
+    };
+
+    pub fn desk() -> Self
+        ensures { λ r. ⌜ r ≡ desk ⌝ }
+    {
+        Limits::DESK
+    }
+}
+
+// What the six bytes of a record read as. `Wrong`: a field is out of range or an unused byte is not 0. `Other`: the kind is none of the five.
+pub enum Parsed {
+    Node {
+        method: u8,
+        returns: bool,
+        entry: bool,
+    },
+    Edge {
+        from: usize,
+        label: u8,
+        to: usize,
+    },
+    Row {
+        operator: u8,
+        a: u8,
+        b: u8,
+    },
+    Rule {
+        state: u8,
+        event: u8,
+        m1: u8,
+        m2: u8,
+        next: u8,
+    },
+    Interface {
+        provided: u8,
+        required: u8,
+    },
+    Wrong,
+    Other,
+}
