@@ -4,6 +4,7 @@ pub mod Says
 pub mod Lists
 pub mod Tables
 pub mod First
+pub mod Binary
 pub mod Lexical
 pub mod Least
 pub mod Settle

@@ -22,6 +22,7 @@ pub mod Interfaces
 pub mod Written
 pub mod Accepted
 pub mod Canonical
+pub mod Listed
 pub mod Values
 pub mod Order
 pub mod Bytes

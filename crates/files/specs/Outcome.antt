@@ -123,12 +123,12 @@ FirstOf end n f i = ⊥
 FirstOf (line k g A ls) n f i = ((k ≡ n) × ((g ≡ f) × (A i × ((j : ℕ) → j < i → A j → ⊥)))) ⊎ (((j : ℕ) → A j → ⊥) × FirstOf ls n f i)
 
 -- no line applies
-abbrev pub NoneOf : Lines → Type 0
+pub NoneOf : Lines → Type 0
 NoneOf end = Unit {0}
 NoneOf (line k g A ls) = ((j : ℕ) → A j → ⊥) × NoneOf ls
 
 -- each check finds what its line says
-abbrev pub Matches : List Check → Lines → Type 0
+pub Matches : List Check → Lines → Type 0
 Matches [] end = Unit {0}
 Matches [] (line k g A ls) = ⊥
 Matches (c ∷ cs) end = ⊥

@@ -37,14 +37,14 @@ module _ {X R : Type 0} (leaving : X → List R) (end : R → X) (key : R → Li
   lowest r [] = r
   lowest r (s ∷ ss) = lowest (cond (before (key s) (key r)) s r) ss
 
-  abbrev pub onward : (R → List R) → List R → List R
-  onward f [] = []
-  onward f (r ∷ rs) = let b = lowest r rs in b ∷ f b
+  abbrev pub taking : (R → List R) → List R → List R
+  taking f [] = []
+  taking f (r ∷ rs) = let b = lowest r rs in b ∷ f b
 
   -- the path of k records: at each point the record of least key from whose end the rest can be done
   unfoldable pub walk : ℕ → X → List R
   walk zero x = []
-  walk (suc k) x = onward (λ r. walk k (end r)) (keep (λ r. ways k (end r)) (leaving x))
+  walk (suc k) x = taking (λ r. walk k (end r)) (keep (λ r. ways k (end r)) (leaving x))
 
   -- ---- the lowest
 
@@ -125,7 +125,7 @@ module _ {X R : Type 0} (leaving : X → List R) (end : R → X) (key : R → Li
     where
       go : (cs : List R) → ((y : R) → List·Memᴰ y cs → List·Memᴰ y (leaving x) × T (ways k (end y))) → (r : R) × List·Memᴰ r cs
           → ((r : R) → T (ways k (end r)) → To (end r) (walk k (end r)) × (length (walk k (end r)) ≡ k))
-          → To x (onward (λ r. walk k (end r)) cs) × (length (onward (λ r. walk k (end r)) cs) ≡ suc k)
+          → To x (taking (λ r. walk k (end r)) cs) × (length (taking (λ r. walk k (end r)) cs) ≡ suc k)
       go [] f c ih = absurd (List·Memᴰ·not-nil (c .1))
       go (r ∷ rs) f c ih =
           let b = lowest r rs in
@@ -148,7 +148,7 @@ module _ {X R : Type 0} (leaving : X → List R) (end : R → X) (key : R → Li
         (keep-i (λ r. ways k (end r)) (leaving x) r m w) (walk-first k (end r) (met-on x a r m) ss p (suc-inj e))
       where
         go : (cs : List R) → ((y : R) → List·Memᴰ y cs → List·Memᴰ y (leaving x)) → List·Memᴰ r cs → UpTo (walk k (end r)) ss
-            → UpTo (onward (λ r. walk k (end r)) cs) (r ∷ ss)
+            → UpTo (taking (λ r. walk k (end r)) cs) (r ∷ ss)
         go [] f c ih = absurd (List·Memᴰ·not-nil c)
         go (q ∷ qs) f c ih = on (before-total (key r) (key (lowest q qs)) (one-size r (lowest q qs)) (lowest-low one-size q qs r c))
           where

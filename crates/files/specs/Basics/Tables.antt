@@ -25,6 +25,11 @@ pub length-span : (a n : ℕ) → length (span a n) ≡ n
 length-span a zero = refl
 length-span a (suc n) = ap suc (length-span (suc a) n)
 
+pub getD-span : (a n i d : ℕ) → i < n → getD (span a n) i d ≡ a + i
+getD-span a zero i d h = absurd (not-suc-le-zero h)
+getD-span a (suc n) zero d h = sym (add-zero a)
+getD-span a (suc n) (suc i) d h = let e : suc a + i ≡ a + suc i = omega arith in getD-span (suc a) n i d (le-of-suc-le-suc h) ∙ e
+
 module _ {A : Type 0} (f : ℕ → A) where
   pub length-table : (a n : ℕ) → length (table f a n) ≡ n
   length-table a n = length-map (span a n) f ∙ length-span a n

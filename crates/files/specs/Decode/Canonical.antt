@@ -25,7 +25,7 @@ use Rattle.files.specs.declared.record.Limits.{Limits}
 use Rattle.files.specs.declared.record.Record.{Record}
 
 module _ {A : Type 0} where
-  table-same : (f g : ℕ → A) (a n : ℕ) → ((i : ℕ) → a ≤ i → i < a + n → f i ≡ g i) → table f a n ≡ table g a n
+  pub table-same : (f g : ℕ → A) (a n : ℕ) → ((i : ℕ) → a ≤ i → i < a + n → f i ≡ g i) → table f a n ≡ table g a n
   table-same f g a zero h = refl
   table-same f g a (suc n) h = ap₂ _∷_ (h a (omega arith) (omega arith)) (table-same f g (suc a) n (λ i x y. h i (omega arith) (omega arith)))
 
@@ -40,7 +40,7 @@ module _ {A : Type 0} where
       let c : suc n + m ≡ suc (n + m) = omega arith in
       ap (λ (k : ℕ). table f a (suc n) ++ table f k m) e ∙ ap (λ (xs : List A). f a ∷ xs) (table-append f (suc a) n m) ∙ sym (ap (table f a) c)
 
-map-table : {A B : Type 0} (g : A → B) (f : ℕ → A) (a n : ℕ) → map g (table f a n) ≡ table (λ i. g (f i)) a n
+pub map-table : {A B : Type 0} (g : A → B) (f : ℕ → A) (a n : ℕ) → map g (table f a n) ≡ table (λ i. g (f i)) a n
 map-table g f a zero = refl
 map-table g f a (suc n) = ap (λ xs. g (f a) ∷ xs) (map-table g f (suc a) n)
 
@@ -81,7 +81,7 @@ node-same r k a b c d = λ i. record { kind = sym k i; first = r .first; second 
 edge-same : (r : Record) → r .kind ≡ 2 → r .fourth ≡ 0 → r .fifth ≡ 0 → edge-rec (to-edge r) ≡ r
 edge-same r k c d = λ i. record { kind = sym k i; first = r .first; second = r .second; third = r .third; fourth = sym c i; fifth = sym d i }
 
-unused : (x : ℕ) → ((x ≡ 0 → ⊥) → ⊥) → x ≡ 0
+pub unused : (x : ℕ) → ((x ≡ 0 → ⊥) → ⊥) → x ≡ 0
 unused x f = go (ℕ-discrete x 0)
   where
     go : Dec (x ≡ 0) → x ≡ 0

@@ -68,7 +68,7 @@ row-or (suc (suc (suc (suc (suc (suc (suc zero))))))) a b = omega arith
 row-or (suc (suc (suc (suc (suc (suc (suc (suc zero)))))))) a b = omega arith
 row-or (suc (suc (suc (suc (suc (suc (suc (suc (suc k))))))))) a b = omega arith
 
-tally-mono : (p q : ℕ → Bool) (n : ℕ) → ((i : ℕ) → i < n → one (p i) ≤ one (q i)) → tally p n ≤ tally q n
+pub tally-mono : (p q : ℕ → Bool) (n : ℕ) → ((i : ℕ) → i < n → one (p i) ≤ one (q i)) → tally p n ≤ tally q n
 tally-mono p q zero h = omega arith
 tally-mono p q (suc n) h = omega (arith, h n (omega arith), tally-mono p q n (λ i l. h i (omega arith)))
 
@@ -76,14 +76,14 @@ module _ (L : Limits) (l : List ℕ) (accepted : refusal L property l ≡ none) 
   none-applies : (n i : ℕ) → Applies L property l n i → ⊥
   none-applies = (accepted-iff L property l) .0 accepted
 
-  is-row : (i : ℕ) → i < count l → kind-at l i ≡ 3
+  pub is-row : (i : ℕ) → i < count l → kind-at l i ≡ 3
   is-row i h = go (ℕ-discrete (kind-at l i) 3)
     where
       go : Dec (kind-at l i ≡ 3) → kind-at l i ≡ 3
       go (yes e) = e
       go (no e) = absurd (none-applies 2 i (h, e))
 
-  right : (i : ℕ) → i < count l → RowWrong (record-at l i) → ⊥
+  pub right : (i : ℕ) → i < count l → RowWrong (record-at l i) → ⊥
   right i h w = none-applies 3 i (h, inr (inr (inl (is-row i h, w))))
 
   operator : (i : ℕ) → i < count l → (record-at l i) .first ≤ 9

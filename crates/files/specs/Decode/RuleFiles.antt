@@ -39,7 +39,7 @@ module _ (L : Limits) (l : List ℕ) (accepted : refusal L rules l ≡ none) whe
   none-applies : (n i : ℕ) → Applies L rules l n i → ⊥
   none-applies = (accepted-iff L rules l) .0 accepted
 
-  is-rule : (i : ℕ) → i < count l → kind-at l i ≡ 4
+  pub is-rule : (i : ℕ) → i < count l → kind-at l i ≡ 4
   is-rule i h = go (ℕ-discrete (kind-at l i) 4)
     where
       go : Dec (kind-at l i ≡ 4) → kind-at l i ≡ 4

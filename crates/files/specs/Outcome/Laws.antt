@@ -17,9 +17,33 @@ use Rattle.files.specs.Table.{Applies}
 use Rattle.files.specs.declared.record.Limits.{Limits}
 use Rattle.files.specs.declared.refusal.Refusal.{Refusal}
 
+-- ---- no line applies, line by line
+
+pub none-end : NoneOf end
+unfolding NoneOf
+none-end = tt
+
+pub none-i : (n f : ℕ) (A : ℕ → Type 0) (ls : Lines) → ((j : ℕ) → A j → ⊥) → NoneOf ls → NoneOf (line n f A ls)
+unfolding NoneOf
+none-i n f A ls a b = (a, b)
+
+pub none-e : (n f : ℕ) (A : ℕ → Type 0) (ls : Lines) → NoneOf (line n f A ls) → ((j : ℕ) → A j → ⊥) × NoneOf ls
+unfolding NoneOf
+none-e n f A ls a = a
+
+-- of a number of no file: what it names is not so
+pub whole-none : (n : ℕ) (P : Type 0) (ls : Lines) → NoneOf (whole-line n P ls) → (P → ⊥) × NoneOf ls
+unfolding NoneOf
+whole-none n P ls a = (λ x. a .0 0 (refl, x), a .1)
+
+pub whole-none-i : (n : ℕ) (P : Type 0) (ls : Lines) → (P → ⊥) → NoneOf ls → NoneOf (whole-line n P ls)
+unfolding NoneOf
+whole-none-i n P ls f a = (λ j x. f (x .1), a)
+
 -- ---- checks and lines that match
 
 pub files-match : (L : Limits) (f : ℕ) (k : Kind) (l : List ℕ) (cs : List Check) (ls : Lines) → Matches cs ls → Matches (file-checks L f k l cs) (file-lines L f k l ls)
+unfolding Matches
 files-match L f k l cs ls m = go (findings L k l) (eight L k l) (found L k l)
   where
     go : (ms : List (Option ℕ)) → length ms ≡ 8 → Found (Applies L k l) 1 ms → Matches (numbered 1 f ms cs) (file-lines L f k l ls)
@@ -35,11 +59,21 @@ files-match L f k l cs ls m = go (findings L k l) (eight L k l) (found L k l)
     go (m1 ∷ m2 ∷ m3 ∷ m4 ∷ m5 ∷ m6 ∷ m7 ∷ m8 ∷ []) e (a1, (a2, (a3, (a4, (a5, (a6, (a7, (a8, t)))))))) =
         (refl, (refl, (a1, (refl, (refl, (a2, (refl, (refl, (a3, (refl, (refl, (a4, (refl, (refl, (a5, (refl, (refl, (a6, (refl, (refl, (a7, (refl, (refl, (a8, m))))))))))))))))))))))))
 
+pub no-more : Matches [] end
+unfolding Matches
+no-more = tt
+
 pub whole-match : (n : ℕ) (b : Bool) (P : Type 0) → Says b P → (cs : List Check) (ls : Lines) → Matches cs ls → Matches (whole-check n b cs) (whole-line n P ls)
+unfolding Matches
 whole-match n b P s cs ls m = (refl, (refl, (whole-finds b P s, m)))
 
 pub out-match : (out : ℕ) (s : Said) → Matches (out-check out s) (out-line out s)
-out-match out s = whole-match 12 _ _ (says-lt out (length (s .written))) [] end tt
+out-match out s = whole-match 12 _ _ (says-lt out (length (s .written))) [] end no-more
+
+-- a number of file f, at the first record that the test finds
+pub scan-match : (n f : ℕ) (m : Option ℕ) (A : ℕ → Type 0) → Finds m A → (cs : List Check) (ls : Lines) → Matches cs ls → Matches (check n f m ∷ cs) (line n f A ls)
+unfolding Matches
+scan-match n f m A x cs ls k = (refl, (refl, (x, k)))
 
 -- ---- the theorem
 
@@ -49,6 +83,7 @@ Told ls none = NoneOf ls
 Told ls (some r) = FirstOf ls (r .number) (r .file) (r .«record»)
 
 told : (cs : List Check) (ls : Lines) → Matches cs ls → Told ls (first-refusal cs)
+unfolding Matches NoneOf
 told [] end m = tt
 told [] (line k g A ls) m = absurd m
 told (c ∷ cs) end m = absurd m
@@ -76,6 +111,7 @@ first-one (line k g A ls) n f i n′ f′ i′ (inr a) (inl b) = absurd (a .0 i�
 first-one (line k g A ls) n f i n′ f′ i′ (inr a) (inr b) = first-one ls n f i n′ f′ i′ (a .1) (b .1)
 
 none-first : (ls : Lines) (n f i : ℕ) → NoneOf ls → FirstOf ls n f i → ⊥
+unfolding NoneOf
 none-first end n f i a b = b
 none-first (line k g A ls) n f i a (inl b) = a .0 i (b .1 .1 .0)
 none-first (line k g A ls) n f i a (inr b) = none-first ls n f i (a .1) (b .1)
@@ -134,8 +170,9 @@ module _ (cs : List Check) (ls : Lines) (match : Matches cs ls) (s : Said) where
 
 -- ---- files
 
--- a file's lines do not apply exactly where it is accepted
+-- where a file's lines do not apply the file is accepted
 pub file-accepted : (L : Limits) (f : ℕ) (k : Kind) (l : List ℕ) (ls : Lines) → NoneOf (file-lines L f k l ls) → (refusal L k l ≡ none) × NoneOf ls
+unfolding NoneOf
 file-accepted L f k l ls (a1, (a2, (a3, (a4, (a5, (a6, (a7, (a8, rest)))))))) = (accepted-iff L k l .1 nothing, rest)
   where
     nothing : (n i : ℕ) → Applies L k l n i → ⊥
@@ -149,6 +186,11 @@ file-accepted L f k l ls (a1, (a2, (a3, (a4, (a5, (a6, (a7, (a8, rest)))))))) = 
     nothing (suc (suc (suc (suc (suc (suc (suc zero))))))) i x = a7 i x
     nothing (suc (suc (suc (suc (suc (suc (suc (suc zero)))))))) i x = a8 i x
     nothing (suc (suc (suc (suc (suc (suc (suc (suc (suc n))))))))) i x = x
+
+-- and where it is accepted its lines do not apply
+pub file-none : (L : Limits) (f : ℕ) (k : Kind) (l : List ℕ) (ls : Lines) → refusal L k l ≡ none → NoneOf ls → NoneOf (file-lines L f k l ls)
+unfolding NoneOf
+file-none L f k l ls e rest = let a = accepted-iff L k l .0 e in (a 1, (a 2, (a 3, (a 4, (a 5, (a 6, (a 7, (a 8, rest))))))))
 
 -- what a file's checks come to: its refusal, or what follows
 abbrev pub file-or : ℕ → Option (ℕ × ℕ) → Option Refusal → Option Refusal

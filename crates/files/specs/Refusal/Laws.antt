@@ -31,7 +31,7 @@ says-out lo hi x = says-or (says-lt x lo) (says-lt hi x)
 says-used : (x : ℕ) → Says (used x) (Used x)
 says-used x = says-not (says-eq x 0)
 
-says-wrong : (r : Record) → Says (wrong r) (Wrong r)
+pub says-wrong : (r : Record) → Says (wrong r) (Wrong r)
 says-wrong r =
     says-or (says-and (says-eq (r .kind) 1) (says-or (says-out 1 8 (r .first)) (says-or (says-lt 1 (r .second)) (says-or (says-lt 1 (r .third)) tail))))
     (says-or (says-and (says-eq (r .kind) 2) (says-or (says-lt 8 (r .second)) tail))
@@ -70,7 +70,7 @@ says-missing property l = says-eq _ _
 says-missing rules l = says-never
 says-missing interface l = says-eq _ _
 
-says-past : (k : Kind) (l : List ℕ) (i : ℕ) → Says (past k l i) (Past k l i)
+pub says-past : (k : Kind) (l : List ℕ) (i : ℕ) → Says (past k l i) (Past k l i)
 says-past graph l i = says-and (says-kind l 2 i) (says-or (says-le _ _) (says-le _ _))
 says-past property l i = says-or (says-and (says-or (says-eq _ _) (says-eq _ _)) (says-or (says-le _ _) (says-le _ _))) (says-and (says-eq _ _) (says-le _ _))
 says-past rules l i = says-never

@@ -1,0 +1,58 @@
+-- The call "compare": what it answers and writes, from the bytes of its files and the lengths of its buffers.
+use mathlib.Core.Path.{_≡_}
+use mathlib.Core.Logic.{_↔_}
+use mathlib.Core.Bool.{Bool, cond}
+use mathlib.Core.List.{List, [], _∷_}
+use Prim.Native.Nat.{ℕ, _<_}
+use lib.Dec.{T}
+use Rattle.files.specs.declared.record.Limits.{Limits}
+use Rattle.files.specs.Graph.{Graph, Flow, node, size}
+use Rattle.files.specs.Refusal.{graph}
+use Rattle.files.specs.Decode.{decode-graph}
+use Rattle.files.specs.Outcome.{Said, Outcome, Answer, refused-answer, verdict-answer, Check, whole-check, file-checks, out-check, answered, Lines, whole-line, file-lines, out-line, short}
+use Rattle.judging.specs.declared.answers.Compared.{Compared}
+use Rattle.judging.specs.declared.answers.Compared.the-variants.{Yes, No, Refused}
+use Rattle.judging.specs.Simulation.{Simulation, Simulates, related, covered, simulates, uncovered, relation-bytes}
+pub mod Laws
+pub mod Examples
+
+-- the published length of the work buffer
+abbrev pub compare-room : ℕ
+compare-room = 44800
+
+-- the paper's number and values for each case
+abbrev pub compared-answer : Compared → Answer
+compared-answer Yes = verdict-answer 1 []
+compared-answer (No g) = verdict-answer 2 (g ∷ [])
+compared-answer (Refused r) = refused-answer r
+
+-- "The largest relation is written, under either verdict"; 'A "no" names the lowest uncovered entry.'
+pub compare-said : Graph → Graph → Said
+compare-said G H =
+    cond (simulates G H) (record { verdict = 1; values = []; written = relation-bytes G H }) (record { verdict = 2; values = uncovered G H ∷ []; written = relation-bytes G H })
+
+-- "comparing takes two graphs". `out` and `work` are the lengths of the buffers.
+module _ (L : Limits) (first second : List ℕ) (out work : ℕ) where
+  abbrev pub compare-verdict : Said
+  compare-verdict = compare-said (decode-graph first) (decode-graph second)
+
+  abbrev pub compare-checks : List Check
+  compare-checks = whole-check 13 (short compare-room work) (file-checks L 1 graph first (file-checks L 2 graph second (out-check out compare-verdict)))
+
+  abbrev pub compare-lines : Lines
+  compare-lines = whole-line 13 (work < compare-room) (file-lines L 1 graph first (file-lines L 2 graph second (out-line out compare-verdict)))
+
+  pub compared : Outcome
+  compared = answered compare-checks compare-verdict
+
+-- What a verdict of comparing says: 1 exactly where the second graph simulates the first; 2 otherwise, with the lowest entry of the first that no entry
+-- of the second covers; and the bytes of the largest simulation (Simulation.Laws: `related-simulation`, `largest`, `relation-bit`).
+pub record Compares (G H : Graph) (s : Said) : Type 1 where
+  pub first-flow : Flow G
+  pub second-flow : Flow H
+  pub yes-iff : (s .verdict ≡ 1) ↔ Simulates G H
+  pub no-iff : (s .verdict ≡ 2) ↔ (Simulates G H → ⊥)
+  pub no-entry : s .verdict ≡ 2 → (s .values ≡ uncovered G H ∷ []) × (uncovered G H < size G) × T ((node G (uncovered G H)) .entry)
+      × ((R : ℕ → ℕ → Type 0) → Simulation G H R → (h : ℕ) → T ((node H h) .entry) → R (uncovered G H) h → ⊥)
+  pub lowest-entry : (g : ℕ) → g < uncovered G H → T ((node G g) .entry) → T (covered G H g)
+  pub writes : s .written ≡ relation-bytes G H

@@ -1,0 +1,90 @@
+-- Comparing is refused by the first line of its published order that applies, and otherwise says what `Compares` says.
+use mathlib.Core.Path.{_≡_, refl, sym, ap, subst, _∙_}
+use mathlib.Core.Logic.{_⊎_, inl, inr, _↔_}
+use mathlib.Core.Bool.{Bool, true, false, not, cond}
+use mathlib.Core.List.{List, [], _∷_}
+use mathlib.Core.Option.{Option, none, some}
+use Prim.Native.Nat.{ℕ, _<_}
+use native.Mathlib.Omega.{arith}
+use lib.Dec.{T, T-not}
+use lib.ListN.{length}
+use Rattle.files.specs.Basics.Says.{says-lt}
+use Rattle.files.specs.Decode.{decode-graph}
+use Rattle.files.specs.Decode.Graphs.{decoded-flow}
+use Rattle.files.specs.Graph.{Graph, Flow, node, size}
+use Rattle.files.specs.Outcome.{Said, Outcome, refuses, says, refusal-at, NoneOf, FirstOf, Matches, out-check, out-line, file-lines}
+use Rattle.files.specs.Outcome.Laws.{whole-match, files-match, out-match, refused-by, accepted-by, verdict-is, file-accepted, whole-none}
+use Rattle.files.specs.Refusal.{graph, refusal}
+use Rattle.files.specs.declared.record.Limits.{Limits}
+use Rattle.judging.specs.Compare.{compare-room, compare-said, compare-verdict, compare-checks, compare-lines, compared, Compares}
+use Rattle.judging.specs.Simulation.{Simulation, Simulates, related, covered, simulates, uncovered, relation-bytes}
+use Rattle.judging.specs.Simulation.Laws.{verdict, largest, covered-i, uncovered-is, uncovered-lowest}
+
+module _ (L : Limits) (g h : List ℕ) (out work : ℕ) where
+  compare-match : Matches (compare-checks L g h out work) (compare-lines L g h out work)
+  compare-match =
+      whole-match 13 _ (work < compare-room) (says-lt work compare-room) _ _ (files-match L 1 graph g _ _ (files-match L 2 graph h _ _ (out-match out (compare-verdict L g h out work))))
+
+  -- refused, by number, file and record, exactly where that comes first in the published order
+  pub compare-refused : (n f i : ℕ) → (compared L g h out work ≡ refuses (refusal-at n f i)) ↔ FirstOf (compare-lines L g h out work) n f i
+  unfolding compared
+  compare-refused = refused-by _ _ compare-match (compare-verdict L g h out work)
+
+  -- accepted exactly where nothing applies
+  pub compare-accepted : (compared L g h out work ≡ says (compare-verdict L g h out work)) ↔ NoneOf (compare-lines L g h out work)
+  unfolding compared
+  compare-accepted = accepted-by _ _ compare-match (compare-verdict L g h out work)
+
+  -- a verdict is that of the two graphs, and both files are accepted
+  pub compare-files : (s : Said) → compared L g h out work ≡ says s → (s ≡ compare-verdict L g h out work) × (refusal L graph g ≡ none) × (refusal L graph h ≡ none)
+  unfolding compared
+  compare-files s e =
+      let a = verdict-is _ _ compare-match (compare-verdict L g h out work) s e in
+      let b = file-accepted L 1 graph g _ ((whole-none 13 _ _ (a .1)) .1) in
+      let c = file-accepted L 2 graph h _ (b .1) in
+      (a .0, b .0, c .0)
+
+-- ---- what the verdict says
+
+compare-cases : (G H : Graph) (s : Said) → Flow G → Flow H → s ≡ compare-said G H → Compares G H s
+unfolding compare-said
+compare-cases G H s fg fh e = go (simulates G H) refl (verdict G H fg fh) e
+  where
+    entry-is : T (not (simulates G H)) → (uncovered G H < size G) × T ((node G (uncovered G H)) .entry)
+        × ((R : ℕ → ℕ → Type 0) → Simulation G H R → (h : ℕ) → T ((node H h) .entry) → R (uncovered G H) h → ⊥)
+    entry-is t =
+        let a = uncovered-is G H t in
+        (a .0, a .1, λ R s h x r. T-not (covered G H (uncovered G H)) (a .2) (covered-i G H fg fh (uncovered G H) h x (largest G H fg fh R s (uncovered G H) h r)))
+
+    go : (b : Bool) → simulates G H ≡ b → T b ↔ Simulates G H
+        → s ≡ cond b (record { verdict = 1; values = []; written = relation-bytes G H }) (record { verdict = 2; values = uncovered G H ∷ []; written = relation-bytes G H })
+        → Compares G H s
+    go true c i q =
+        let v : s .verdict ≡ 1 = ap (λ (x : Said). x .verdict) q in
+        record {
+          first-flow = fg;
+          second-flow = fh;
+          yes-iff = (λ x. i .0 tt, λ x. v);
+          no-iff = (λ x. absurd (omega arith), λ f. absurd (f (i .0 tt)));
+          no-entry = λ x. absurd (omega arith);
+          lowest-entry = uncovered-lowest G H;
+          writes = ap (λ (x : Said). x .written) q;
+        }
+    go false c i q =
+        let v : s .verdict ≡ 2 = ap (λ (x : Said). x .verdict) q in
+        let a = entry-is (subst (λ (b : Bool). T (not b)) (sym c) tt) in
+        record {
+          first-flow = fg;
+          second-flow = fh;
+          yes-iff = (λ x. absurd (omega arith), λ f. absurd (i .1 f));
+          no-iff = (λ x f. i .1 f, λ f. v);
+          no-entry = λ x. (ap (λ (x : Said). x .values) q, a .0, a .1, a .2);
+          lowest-entry = uncovered-lowest G H;
+          writes = ap (λ (x : Said). x .written) q;
+        }
+
+-- whatever the bytes and lengths, a verdict of comparing says what `Compares` says
+pub compare-says : (L : Limits) (g h : List ℕ) (out work : ℕ) (s : Said) → compared L g h out work ≡ says s → Compares (decode-graph g) (decode-graph h) s
+compare-says L g h out work s e =
+    let a = compare-files L g h out work s e in
+    compare-cases (decode-graph g) (decode-graph h) s (decoded-flow L g (a .1)) (decoded-flow L h (a .2)) (a .0)

@@ -1,0 +1,84 @@
+-- Judging is refused by the first line of its published order that applies, and otherwise says what `Judges` says.
+use mathlib.Core.Path.{_≡_, refl, sym, ap, subst, _∙_}
+use mathlib.Core.Logic.{_⊎_, inl, inr, _↔_}
+use mathlib.Core.Bool.{Bool, true, false, cond}
+use mathlib.Core.List.{List, [], _∷_}
+use mathlib.Core.Option.{Option, none, some}
+use Prim.Native.Nat.{ℕ, _<_}
+use native.Mathlib.Omega.{arith}
+use lib.Dec.{T}
+use lib.ListN.{length}
+use Rattle.files.specs.Basics.Says.{says-lt}
+use Rattle.files.specs.Decode.{decode-graph, decode-property}
+use Rattle.files.specs.Decode.Graphs.{decoded-flow}
+use Rattle.files.specs.Decode.Properties.{decoded-property}
+use Rattle.files.specs.Graph.{Graph, Flow}
+use Rattle.files.specs.Outcome.{Said, Outcome, refuses, says, refusal-at, NoneOf, FirstOf, Matches, out-check, out-line, file-lines}
+use Rattle.files.specs.Outcome.Laws.{whole-match, files-match, out-match, refused-by, accepted-by, verdict-is, file-accepted, whole-none}
+use Rattle.files.specs.Property.{Row, Property}
+use Rattle.files.specs.Refusal.{graph, property, refusal}
+use Rattle.files.specs.declared.record.Limits.{Limits}
+use Rattle.judging.specs.Judge.{judge-room, judge-said, judge-verdict, judge-checks, judge-lines, judged, Judges}
+use Rattle.judging.specs.Levels.{Satisfies, satisfies}
+use Rattle.judging.specs.Levels.Laws.{satisfies-agrees}
+use Rattle.judging.specs.Levels.Sheet.{sheet, sheet-bytes}
+
+module _ (L : Limits) (g p : List ℕ) (out work : ℕ) where
+  judge-match : Matches (judge-checks L g p out work) (judge-lines L g p out work)
+  judge-match =
+      whole-match 13 _ (work < judge-room) (says-lt work judge-room) _ _ (files-match L 1 graph g _ _ (files-match L 2 property p _ _ (out-match out (judge-verdict L g p out work))))
+
+  -- refused, by number, file and record, exactly where that comes first in the published order
+  pub judge-refused : (n f i : ℕ) → (judged L g p out work ≡ refuses (refusal-at n f i)) ↔ FirstOf (judge-lines L g p out work) n f i
+  unfolding judged
+  judge-refused = refused-by _ _ judge-match (judge-verdict L g p out work)
+
+  -- accepted exactly where nothing applies
+  pub judge-accepted : (judged L g p out work ≡ says (judge-verdict L g p out work)) ↔ NoneOf (judge-lines L g p out work)
+  unfolding judged
+  judge-accepted = accepted-by _ _ judge-match (judge-verdict L g p out work)
+
+  -- a verdict is that of the graph and the property, and both files are accepted
+  pub judge-files : (s : Said) → judged L g p out work ≡ says s → (s ≡ judge-verdict L g p out work) × (refusal L graph g ≡ none) × (refusal L property p ≡ none)
+  unfolding judged
+  judge-files s e =
+      let a = verdict-is _ _ judge-match (judge-verdict L g p out work) s e in
+      let b = file-accepted L 1 graph g _ ((whole-none 13 _ _ (a .1)) .1) in
+      let c = file-accepted L 2 property p _ (b .1) in
+      (a .0, b .0, c .0)
+
+-- ---- what the verdict says
+
+judge-cases : (G : Graph) (P : List Row) (s : Said) → Flow G → Property P → s ≡ judge-said G P → Judges G P s
+unfolding judge-said
+judge-cases G P s flow wf e = go (satisfies G P) (satisfies-agrees G P flow wf) e
+  where
+    go : (b : Bool) → T b ↔ Satisfies G P
+        → s ≡ cond b (record { verdict = 1; values = []; written = [] }) (record { verdict = 2; values = length (sheet G P) ∷ []; written = sheet-bytes G P })
+        → Judges G P s
+    go true i q =
+        let v : s .verdict ≡ 1 = ap (λ (x : Said). x .verdict) q in
+        record {
+          is-flow = flow;
+          is-property = wf;
+          holds-iff = (λ x. i .0 tt, λ x. v);
+          fails-iff = (λ x. absurd (omega arith), λ f. absurd (f (i .0 tt)));
+          holds-writes = λ x. (ap (λ (x : Said). x .values) q, ap (λ (x : Said). x .written) q);
+          fails-writes = λ x. absurd (omega arith);
+        }
+    go false i q =
+        let v : s .verdict ≡ 2 = ap (λ (x : Said). x .verdict) q in
+        record {
+          is-flow = flow;
+          is-property = wf;
+          holds-iff = (λ x. absurd (omega arith), λ f. absurd (i .1 f));
+          fails-iff = (λ x f. i .1 f, λ f. v);
+          holds-writes = λ x. absurd (omega arith);
+          fails-writes = λ x. (ap (λ (x : Said). x .values) q, ap (λ (x : Said). x .written) q);
+        }
+
+-- whatever the bytes and lengths, a verdict of judging says what `Judges` says
+pub judge-says : (L : Limits) (g p : List ℕ) (out work : ℕ) (s : Said) → judged L g p out work ≡ says s → Judges (decode-graph g) (decode-property p) s
+judge-says L g p out work s e =
+    let a = judge-files L g p out work s e in
+    judge-cases (decode-graph g) (decode-property p) s (decoded-flow L g (a .1)) ((decoded-property L p (a .2)) .rows-named) (a .0)

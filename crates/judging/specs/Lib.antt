@@ -1,0 +1,4 @@
+pub mod Levels
+pub mod Simulation
+pub mod Judge
+pub mod Compare

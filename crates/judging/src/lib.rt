@@ -1,0 +1,2 @@
+// Judging a graph against a property, and comparing two graphs by simulation: the answers.
+pub mod answers;

@@ -1,0 +1,2 @@
+// The maximal model of a property: the answer.
+pub mod answers;
