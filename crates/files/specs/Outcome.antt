@@ -1,7 +1,7 @@
 -- What a call answers and writes, and how its refusals are ordered: a list of checks in the published order beside the same list as the table words it.
 use mathlib.Core.Path.{_≡_}
 use mathlib.Core.Logic.{_⊎_}
-use mathlib.Core.Bool.{Bool, true, false, not, cond, _&&_}
+use mathlib.Core.Bool.{Bool, true, false, not, cond, _&&_, _||_}
 use mathlib.Core.List.{List, [], _∷_, _++_}
 use mathlib.Core.Option.{Option, none, some}
 use Prim.Native.Nat.{ℕ, zero, suc, _<_}
@@ -10,6 +10,7 @@ use lib.ListN.{length, drop, replicate}
 use Rattle.files.specs.Basics.First.{whole, Finds}
 use Rattle.files.specs.declared.record.Limits.{Limits}
 use Rattle.files.specs.declared.refusal.Refusal.{Refusal}
+use Rattle.files.specs.Graph.{Graph, size}
 use Rattle.files.specs.Refusal.{Kind, findings}
 use Rattle.files.specs.Table.{Applies}
 pub mod Laws
@@ -150,3 +151,10 @@ out-check out s = whole-check 12 (ltb out (length (s .written))) []
 
 abbrev pub out-line : ℕ → Said → Lines
 out-line out s = whole-line 12 (out < length (s .written)) end
+
+-- 11: "model or joined graph would pass" the limits on nodes and edges
+abbrev pub too-large : Limits → Graph → Bool
+too-large L G = ltb (L .nodes) (size G) || ltb (L .edges) (length (G .edges))
+
+abbrev pub TooLarge : Limits → Graph → Type 0
+TooLarge L G = (L .nodes < size G) ⊎ (L .edges < length (G .edges))

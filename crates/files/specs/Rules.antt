@@ -43,7 +43,11 @@ bad-state = 7
 pub watch : List Rule → ℕ → Event → ℕ
 watch us q v = cond (eqb q 7) 7 (by-rule us q v)
 
+-- a monitor: the next state, by state and event
+abbrev pub Monitor : Type 0
+Monitor = ℕ → Event → ℕ
+
 -- a step that names no event leaves the state
-abbrev pub sees : List Rule → ℕ → Option Event → ℕ
-sees us q none = q
-sees us q (some v) = watch us q v
+abbrev pub sees : Monitor → ℕ → Option Event → ℕ
+sees mon q none = q
+sees mon q (some v) = mon q v

@@ -102,7 +102,7 @@ module _ {X : Type 0} (same : X → X → Bool) where
             on (inl d) = (List·Memᴰ·head d, λ n. subst T e (seen-i y seen (subst (λ (z : X). List·Memᴰ z seen) d n)))
             on (inr j) = let a = g j in (List·Memᴰ·tail (a .0), λ n. a .1 (List·Memᴰ·tail n))
 
-    fresh-i : (seen ys : List X) (x : X) → List·Memᴰ x ys → List·Memᴰ x seen ⊎ List·Memᴰ x (fresh seen ys)
+    pub fresh-i : (seen ys : List X) (x : X) → List·Memᴰ x ys → List·Memᴰ x seen ⊎ List·Memᴰ x (fresh seen ys)
     unfolding fresh
     fresh-i seen [] x m = absurd (List·Memᴰ·not-nil m)
     fresh-i seen (y ∷ ys) x m = go (any (same y) seen) refl (fresh-i seen ys x) (fresh-i (y ∷ seen) ys x) (List·Memᴰ·cases-cons m)
@@ -123,7 +123,7 @@ module _ {X : Type 0} (same : X → X → Bool) where
             on (inl j) = at (List·Memᴰ·cases-cons j)
             on (inr j) = inr (List·Memᴰ·tail j)
 
-    fresh-once : (seen ys : List X) → Once (fresh seen ys)
+    pub fresh-once : (seen ys : List X) → Once (fresh seen ys)
     unfolding fresh
     fresh-once seen [] = tt
     fresh-once seen (y ∷ ys) = go (any (same y) seen) (fresh-once seen ys) (fresh-once (y ∷ seen) ys)

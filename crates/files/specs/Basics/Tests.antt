@@ -225,3 +225,11 @@ not-all p (x ∷ xs) t = go (not-all p xs) (not-and (p x) (all p xs) t)
     go : (T (not (all p xs)) → (y : _) × List·Memᴰ y xs × T (not (p y))) → T (not (p x)) ⊎ T (not (all p xs)) → (y : _) × List·Memᴰ y (x ∷ xs) × T (not (p y))
     go f (inl s) = (x, List·Memᴰ·head refl, s)
     go f (inr s) = let r = f s in (r .0, List·Memᴰ·tail (r .1), r .2)
+
+-- ---- bounds from what is not so
+
+pub below : (a b : ℕ) → (b ≤ a → ⊥) → a < b
+below a b f = omega arith
+
+pub at-most : (a b : ℕ) → (b < a → ⊥) → a ≤ b
+at-most a b f = omega arith

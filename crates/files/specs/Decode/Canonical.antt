@@ -12,9 +12,9 @@ use lib.Dec.{eqb}
 use lib.ListN.{length, getD}
 use Rattle.files.specs.Basics.Lists.{span}
 use Rattle.files.specs.Basics.Tables.{table}
-use Rattle.files.specs.Basics.Tests.{one}
+use Rattle.files.specs.Basics.Tests.{one, at-most}
 use Rattle.files.specs.Decode.{to-node, to-edge, decode-graph, node-rec, edge-rec, graph-recs, graph-bytes}
-use Rattle.files.specs.Decode.Graphs.{at-most, is-node, is-edge, few}
+use Rattle.files.specs.Decode.Graphs.{is-node, is-edge, few}
 use Rattle.files.specs.Decode.Written.{skip-rec}
 use Rattle.files.specs.Graph.{Node, Edge, Graph}
 use Rattle.files.specs.Record.{record-from, record-at, kind-at, count, six, write}

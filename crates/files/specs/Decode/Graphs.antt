@@ -13,7 +13,7 @@ use lib.ListN.{length, getD}
 use Rattle.files.specs.Basics.Lexical.{Before, says-before}
 use Rattle.files.specs.Basics.Says.{Says}
 use Rattle.files.specs.Basics.Tables.{tally, table, length-table, getD-table, table-e, tally-le, tally-down, tally-both}
-use Rattle.files.specs.Basics.Tests.{eq-eqb, T-eq, one}
+use Rattle.files.specs.Basics.Tests.{eq-eqb, T-eq, one, below}
 use Rattle.files.specs.Decode.{to-node, to-edge, decode-graph, key, Filed}
 use Rattle.files.specs.Graph.{Node, Edge, Graph, Flow, node, size, no-edge}
 use Rattle.files.specs.Record.{record-at, kind-at, count}
@@ -22,12 +22,6 @@ use Rattle.files.specs.Refusal.Laws.{accepted-iff}
 use Rattle.files.specs.Table.{Applies}
 use Rattle.files.specs.declared.record.Limits.{Limits}
 use Rattle.files.specs.declared.record.Record.{Record}
-
-pub below : (a b : ℕ) → (b ≤ a → ⊥) → a < b
-below a b f = omega arith
-
-pub at-most : (a b : ℕ) → (b < a → ⊥) → a ≤ b
-at-most a b f = omega arith
 
 -- one of two kinds
 pub one-kind : (x : ℕ) → (x ≡ 1) ⊎ (x ≡ 2) → one (eqb x 1) + one (eqb x 2) ≡ 1

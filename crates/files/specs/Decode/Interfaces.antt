@@ -6,12 +6,12 @@ use mathlib.Core.Option.{Option, none, some}
 use Prim.Native.Nat.{ℕ, zero, suc, _≤_, _<_}
 use native.Mathlib.Decide.{ℕ-discrete}
 use native.Mathlib.Omega.{arith}
-use Rattle.files.specs.Decode.Graphs.{below, at-most}
 use Rattle.files.specs.Record.{kind-at, count}
 use Rattle.files.specs.Refusal.{interface, refusal}
 use Rattle.files.specs.Refusal.Laws.{accepted-iff}
 use Rattle.files.specs.Table.{Applies}
 use Rattle.files.specs.declared.record.Limits.{Limits}
+use Rattle.files.specs.Basics.Tests.{below, at-most}
 
 -- an accepted interface file holds exactly one record, of six bytes
 module _ (L : Limits) (l : List ℕ) (accepted : refusal L interface l ≡ none) where

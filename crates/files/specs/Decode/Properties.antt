@@ -13,9 +13,8 @@ use lib.ListN.{length, getD}
 use Rattle.files.specs.Basics.Lexical.{Before, says-before}
 use Rattle.files.specs.Basics.Says.{Says}
 use Rattle.files.specs.Basics.Tables.{tally, table, length-table, getD-table, table-e}
-use Rattle.files.specs.Basics.Tests.{and-i, one}
+use Rattle.files.specs.Basics.Tests.{and-i, one, below, at-most}
 use Rattle.files.specs.Decode.{row-of, decode-property, to-rule, decode-rules, FiledRows, RowIn}
-use Rattle.files.specs.Decode.Graphs.{below, at-most}
 use Rattle.files.specs.Property.{Row, Property, row, names, always, never, returns, not-returns, in-method, not-in-method, both, either, box, is-either}
 use Rattle.files.specs.Record.{record-at, kind-at, count}
 use Rattle.files.specs.Refusal.{property, rules, interface, ors-of, is-or, rule-key, refusal}

@@ -13,7 +13,6 @@ use Rattle.files.specs.Basics.Lexical.{Before, says-before}
 use Rattle.files.specs.Basics.Says.{Says}
 use Rattle.files.specs.Basics.Tables.{table, length-table, getD-table, table-e}
 use Rattle.files.specs.Decode.{to-rule, decode-rules, FiledRules, RuleIn, rule-order}
-use Rattle.files.specs.Decode.Graphs.{below, at-most}
 use Rattle.files.specs.Record.{record-at, kind-at, count}
 use Rattle.files.specs.Refusal.{rules, interface, rule-key, refusal}
 use Rattle.files.specs.Refusal.Laws.{accepted-iff}
@@ -21,6 +20,7 @@ use Rattle.files.specs.Rules.{Rule, no-rule}
 use Rattle.files.specs.Table.{Applies, RuleWrong, Out}
 use Rattle.files.specs.declared.record.Limits.{Limits}
 use Rattle.files.specs.declared.record.Record.{Record}
+use Rattle.files.specs.Basics.Tests.{at-most}
 
 inside : (lo hi x : ℕ) → (Out lo hi x → ⊥) → (lo ≤ x) × (x ≤ hi)
 inside lo hi x f = (at-most lo x (λ h. f (inl h)), at-most x hi (λ h. f (inr h)))

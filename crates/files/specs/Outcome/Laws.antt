@@ -9,13 +9,14 @@ use native.Mathlib.Decide.{decLt}
 use native.Mathlib.Omega.{arith}
 use lib.ListN.{length}
 use Rattle.files.specs.Basics.First.{whole, pick, Finds, whole-finds, finds-unique, Found}
-use Rattle.files.specs.Basics.Says.{Says, says-lt}
-use Rattle.files.specs.Outcome.{Said, Outcome, refuses, says, Check, check, numbered, file-checks, whole-check, or-next, first-refusal, unless, answered, Lines, end, line, file-lines, whole-line, FirstOf, NoneOf, Matches, refusal-at, out-check, out-line}
+use Rattle.files.specs.Basics.Says.{Says, says-lt, says-not, says-and, says-or, says-le}
+use Rattle.files.specs.Outcome.{Said, Outcome, refuses, says, Check, check, numbered, file-checks, whole-check, or-next, first-refusal, unless, answered, Lines, end, line, file-lines, whole-line, FirstOf, NoneOf, Matches, refusal-at, out-check, out-line, Graph, no-start, TooLarge, too-large, size}
 use Rattle.files.specs.Refusal.{Kind, findings, refusal}
 use Rattle.files.specs.Refusal.Laws.{accepted-iff, found, eight, refusal-is}
 use Rattle.files.specs.Table.{Applies}
 use Rattle.files.specs.declared.record.Limits.{Limits}
 use Rattle.files.specs.declared.refusal.Refusal.{Refusal}
+use Rattle.files.specs.Basics.Tests.{at-most}
 
 -- ---- no line applies, line by line
 
@@ -204,3 +205,19 @@ numbered-pick n f (none ∷ ms) cs = numbered-pick (suc n) f ms cs
 
 pub file-first : (L : Limits) (f : ℕ) (k : Kind) (l : List ℕ) (cs : List Check) → first-refusal (file-checks L f k l cs) ≡ file-or f (refusal L k l) (first-refusal cs)
 file-first L f k l cs = numbered-pick 1 f (findings L k l) cs ∙ ap (λ (o : Option (ℕ × ℕ)). file-or f o (first-refusal cs)) (sym (refusal-is L k l))
+
+-- ---- numbers that several calls share
+
+pub says-too-large : (L : Limits) (G : Graph) → Says (too-large L G) (TooLarge L G)
+says-too-large L G = says-or (says-lt _ _) (says-lt _ _)
+
+-- a graph that is not too large is within the limits
+pub small-enough : (L : Limits) (G : Graph) → (TooLarge L G → ⊥) → (size G ≤ L .nodes) × (length (G .edges) ≤ L .edges)
+small-enough L G f = (at-most _ _ (λ h. f (inl h)), at-most _ _ (λ h. f (inr h)))
+
+-- a start method that is not refused is one of 1 to 8
+abbrev pub NoStart : ℕ → Type 0
+NoStart m = ((1 ≤ m) × (m ≤ 8)) → ⊥
+
+pub says-no-start : (m : ℕ) → Says (no-start m) (NoStart m)
+says-no-start m = says-not (says-and (says-le 1 m) (says-le m 8))

@@ -1,0 +1,2 @@
+// Joining, showing, watching and the composed verdict: the answers.
+pub mod answers;
