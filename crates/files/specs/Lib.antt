@@ -8,4 +8,5 @@ pub mod Rules
 pub mod Refusal
 pub mod Table
 pub mod Decode
+pub mod Sides
 pub mod Outcome

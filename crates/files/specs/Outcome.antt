@@ -4,7 +4,7 @@ use mathlib.Core.Logic.{_⊎_}
 use mathlib.Core.Bool.{Bool, true, false, not, cond, _&&_, _||_}
 use mathlib.Core.List.{List, [], _∷_, _++_}
 use mathlib.Core.Option.{Option, none, some}
-use Prim.Native.Nat.{ℕ, zero, suc, _<_}
+use Prim.Native.Nat.{ℕ, zero, suc, _≤_, _<_}
 use lib.Dec.{eqb, leb, ltb}
 use lib.ListN.{length, drop, replicate}
 use Rattle.files.specs.Basics.First.{whole, Finds}
@@ -13,6 +13,7 @@ use Rattle.files.specs.declared.refusal.Refusal.{Refusal}
 use Rattle.files.specs.Graph.{Graph, size}
 use Rattle.files.specs.Refusal.{Kind, findings}
 use Rattle.files.specs.Table.{Applies}
+use Rattle.files.specs.Decode.{graph-bytes}
 pub mod Laws
 
 -- "A refusal carries number, file position from 1 and first offending record from 0."
@@ -106,7 +107,7 @@ answered cs s = unless (first-refusal cs) s
 
 -- lines in the published order: number, file, and at which records it applies
 pub data Lines : Type 1 where
-  end : Lines
+  no-lines : Lines
   line : ℕ → ℕ → (ℕ → Type 0) → Lines → Lines
 
 -- "each file in argument order, its lowest number among 1..8"
@@ -120,19 +121,19 @@ whole-line n P ls = line n 0 (λ i. (i ≡ 0) × P) ls
 
 -- n of file f, at record i, comes first: it applies there and at no earlier record, and no line before it applies anywhere
 abbrev pub FirstOf : Lines → ℕ → ℕ → ℕ → Type 0
-FirstOf end n f i = ⊥
+FirstOf no-lines n f i = ⊥
 FirstOf (line k g A ls) n f i = ((k ≡ n) × ((g ≡ f) × (A i × ((j : ℕ) → j < i → A j → ⊥)))) ⊎ (((j : ℕ) → A j → ⊥) × FirstOf ls n f i)
 
 -- no line applies
 pub NoneOf : Lines → Type 0
-NoneOf end = Unit {0}
+NoneOf no-lines = Unit {0}
 NoneOf (line k g A ls) = ((j : ℕ) → A j → ⊥) × NoneOf ls
 
 -- each check finds what its line says
 pub Matches : List Check → Lines → Type 0
-Matches [] end = Unit {0}
+Matches [] no-lines = Unit {0}
 Matches [] (line k g A ls) = ⊥
-Matches (c ∷ cs) end = ⊥
+Matches (c ∷ cs) no-lines = ⊥
 Matches (c ∷ cs) (line k g A ls) = (c .number ≡ k) × ((c .file ≡ g) × (Finds (c .found) A × Matches cs ls))
 
 -- ---- numbers that several calls share
@@ -145,12 +146,15 @@ short room work = ltb work room
 abbrev pub no-start : ℕ → Bool
 no-start m = not (leb 1 m && leb m 8)
 
+abbrev pub NoStart : ℕ → Type 0
+NoStart m = ((1 ≤ m) × (m ≤ 8)) → ⊥
+
 -- 12: "output shorter than the whole result"
 abbrev pub out-check : ℕ → Said → List Check
 out-check out s = whole-check 12 (ltb out (length (s .written))) []
 
 abbrev pub out-line : ℕ → Said → Lines
-out-line out s = whole-line 12 (out < length (s .written)) end
+out-line out s = whole-line 12 (out < length (s .written)) no-lines
 
 -- 11: "model or joined graph would pass" the limits on nodes and edges
 abbrev pub too-large : Limits → Graph → Bool
@@ -158,3 +162,11 @@ too-large L G = ltb (L .nodes) (size G) || ltb (L .edges) (length (G .edges))
 
 abbrev pub TooLarge : Limits → Graph → Type 0
 TooLarge L G = (L .nodes < size G) ⊎ (L .edges < length (G .edges))
+
+-- a graph written: its bytes, with its nodes and edges counted, and further values
+abbrev pub graph-said : Graph → List ℕ → Said
+graph-said G more = record { verdict = 1; values = size G ∷ length (G .edges) ∷ more; written = graph-bytes G }
+
+-- a number of file f, at the first record that a scan finds
+abbrev pub scan-check : ℕ → ℕ → Option ℕ → List Check → List Check
+scan-check n f m cs = check n f m ∷ cs

@@ -10,8 +10,8 @@ use Rattle.files.specs.Graph.{Graph, size, Flow}
 use Rattle.files.specs.Property.{Row, Property}
 use Rattle.files.specs.Interface.{Interface, Of}
 use Rattle.files.specs.Refusal.{graph, property, interface, refusal}
-use Rattle.files.specs.Decode.{decode-graph, decode-property, decode-interface, graph-bytes}
-use Rattle.files.specs.Outcome.{Said, Outcome, Answer, refused-answer, verdict-answer, Check, whole-check, file-checks, out-check, answered, Lines, whole-line, file-lines, out-line, short, too-large, TooLarge}
+use Rattle.files.specs.Decode.{decode-graph, decode-property, decode-interface}
+use Rattle.files.specs.Outcome.{Said, Outcome, Answer, refused-answer, verdict-answer, Check, whole-check, file-checks, out-check, answered, Lines, whole-line, file-lines, out-line, short, too-large, TooLarge, graph-said}
 use Rattle.judging.specs.Levels.{Satisfies}
 use Rattle.judging.specs.Simulation.{Simulates}
 use Rattle.maximal.specs.declared.answers.Modelled.{Modelled}
@@ -28,10 +28,6 @@ model-room = 65536
 abbrev pub modelled-answer : Modelled → Answer
 modelled-answer (Written n e) = verdict-answer 1 (n ∷ e ∷ [])
 modelled-answer (Refused r) = refused-answer r
-
--- a graph written: its bytes, with its nodes and edges counted
-abbrev pub graph-said : Graph → List ℕ → Said
-graph-said G more = record { verdict = 1; values = size G ∷ length (G .edges) ∷ more; written = graph-bytes G }
 
 -- "modelling takes interface, property". `out` and `work` are the lengths of the buffers.
 module _ (L : Limits) (i p : List ℕ) (out work : ℕ) where

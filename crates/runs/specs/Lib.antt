@@ -1,3 +1,9 @@
 pub mod Runs
 pub mod Join
 pub mod Summary
+pub mod Answer
+pub mod Joining
+pub mod Showing
+pub mod Watching
+pub mod Composing
+pub mod Verdict

@@ -1,7 +1,7 @@
 -- Runs with an unbounded stack, seen by a monitor. (Source documents 003 and 000.) What a step shows to the monitor is a parameter, the naming.
 use mathlib.Core.Path.{_≡_}
 use mathlib.Core.Bool.{Bool, true, false, not}
-use mathlib.Core.List.{List, [], _∷_, List·Memᴰ}
+use mathlib.Core.List.{List, [], _∷_, _++_, List·Memᴰ}
 use mathlib.Core.Option.{Option, none, some}
 use Prim.Native.Nat.{ℕ, zero, suc, _<_}
 use lib.Dec.{T}
@@ -14,6 +14,13 @@ pub record Config : Type 0 where
   pub at : ℕ
   pub stack : List ℕ
   pub state : ℕ
+
+abbrev pub cfg : ℕ → List ℕ → ℕ → Config
+cfg g s q = record { at = g; stack = s; state = q }
+
+-- the stack t is s with something on it, or s
+abbrev pub On : List ℕ → List ℕ → Type 0
+On s t = (u : List ℕ) × (t ≡ u ++ s)
 
 -- The event, or silence, that a step shows: a call, by its node, the whole stack and the label; a return, by its node, the node popped and the stack below.
 pub record Naming : Type 0 where
@@ -53,6 +60,11 @@ module _ (G : Graph) (N : Naming) (mon : Monitor) where
   pub data Run (m : ℕ) : Config → Type 0 where
     start : (n : ℕ) → EntryOf G m n → Run m (record { at = n; stack = []; state = 0 })
     then : {c d : Config} → Run m c → Step c d → Run m d
+
+  -- steps from c to d with the stack s, unchanged, below every configuration on the way
+  pub data Above (s : List ℕ) (c : Config) : Config → Type 0 where
+    stay : On s (c .stack) → Above s c c
+    next-step : (d e : Config) → Above s c d → Step d e → On s (e .stack) → Above s c e
 
   -- some run takes the monitor to state 7
   pub record BadBy (m : ℕ) : Type 0 where

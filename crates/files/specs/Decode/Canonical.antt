@@ -2,7 +2,7 @@
 use mathlib.Core.Path.{_≡_, refl, sym, ap, ap₂, subst, _∙_}
 use mathlib.Core.Logic.{_⊎_, inl, inr}
 use mathlib.Core.Bool.{Bool, true, false}
-use mathlib.Core.List.{List, [], _∷_, _++_, map}
+use mathlib.Core.List.{List, [], _∷_, _++_, map, append-nil}
 use mathlib.Core.Option.{Option, none, some}
 use Prim.Native.Nat.{ℕ, zero, suc, _+_, _-_, _*_, _/_, _%_, _≤_, _<_}
 use native.Mathlib.Nat.{zero-add, add-zero}
@@ -23,6 +23,10 @@ use Rattle.files.specs.Refusal.Laws.{accepted-iff}
 use Rattle.files.specs.Table.{Applies}
 use Rattle.files.specs.declared.record.Limits.{Limits}
 use Rattle.files.specs.declared.record.Record.{Record}
+use Rattle.files.specs.Record.{part, six}
+use Rattle.files.specs.Record.Laws.{part-length, part-record}
+use Rattle.files.specs.Graph.{size, node}
+use Rattle.files.specs.Decode.Graphs.{decoded-size, decoded-node}
 
 module _ {A : Type 0} where
   pub table-same : (f g : ℕ → A) (a n : ℕ) → ((i : ℕ) → a ≤ i → i < a + n → f i ≡ g i) → table f a n ≡ table g a n
@@ -88,6 +92,13 @@ unused x f = go (ℕ-discrete x 0)
     go (yes e) = e
     go (no e) = absurd (f e)
 
+-- one record of a file, as bytes
+pub part-one : (l : List ℕ) (i : ℕ) → i < count l → part l i 1 ≡ six (record-at l i)
+part-one l i h =
+    let n : length (part l i 1) ≡ 6 * 1 = part-length l i 1 (omega arith) in
+    let e : i + 0 ≡ i = add-zero i in
+    sym (write-recs 1 (part l i 1) n) ∙ append-nil (six (record-at (part l i 1) 0)) ∙ ap six (part-record l i 1 0 (omega arith) (omega arith) ∙ ap (record-at l) e)
+
 module _ (L : Limits) (l : List ℕ) (accepted : refusal L graph l ≡ none) where
   none-applies : (n i : ℕ) → Applies L graph l n i → ⊥
   none-applies = (accepted-iff L graph l) .0 accepted
@@ -126,3 +137,10 @@ module _ (L : Limits) (l : List ℕ) (accepted : refusal L graph l ≡ none) whe
   pub bytes-decode : graph-bytes (decode-graph l) ≡ l
   unfolding graph-bytes
   bytes-decode = ap write recs-same ∙ write-recs (count l) l whole-records
+
+  -- the six bytes of node g are those of record g
+  pub shown-node : (g : ℕ) → g < size (decode-graph l) → part l g 1 ≡ six (node-rec (node (decode-graph l) g))
+  shown-node g h =
+      let k : g < nodes-of l = subst (λ (n : ℕ). g < n) (decoded-size L l accepted) h in
+      let n : g < count l = omega (arith, few L l accepted, k) in
+      part-one l g n ∙ ap six (sym (node-at g k) ∙ ap node-rec (sym (decoded-node L l accepted g k)))

@@ -127,7 +127,7 @@ module _ (L : Limits) (l : List ℕ) (accepted : refusal L graph l ≡ none) whe
   unfolding decode-graph
   decoded-edge j h = getD-table edgeAt (nodes-of l) (count l - nodes-of l) j no-edge h
 
-  edge-e : (e : Edge) → List·Memᴰ e ((decode-graph l) .edges) → (i : ℕ) × (nodes-of l ≤ i) × (i < count l) × (to-edge (record-at l i) ≡ e)
+  pub edge-e : (e : Edge) → List·Memᴰ e ((decode-graph l) .edges) → (i : ℕ) × (nodes-of l ≤ i) × (i < count l) × (to-edge (record-at l i) ≡ e)
   unfolding decode-graph
   edge-e e m = let r = table-e edgeAt (nodes-of l) (count l - nodes-of l) e m in (r .0, r .1, omega (arith, few, r .1, r .2), r .3)
 

@@ -10,7 +10,7 @@ use native.Mathlib.Omega.{arith}
 use lib.ListN.{length}
 use Rattle.files.specs.Basics.First.{whole, pick, Finds, whole-finds, finds-unique, Found}
 use Rattle.files.specs.Basics.Says.{Says, says-lt, says-not, says-and, says-or, says-le}
-use Rattle.files.specs.Outcome.{Said, Outcome, refuses, says, Check, check, numbered, file-checks, whole-check, or-next, first-refusal, unless, answered, Lines, end, line, file-lines, whole-line, FirstOf, NoneOf, Matches, refusal-at, out-check, out-line, Graph, no-start, TooLarge, too-large, size}
+use Rattle.files.specs.Outcome.{Said, Outcome, refuses, says, Check, check, numbered, file-checks, whole-check, or-next, first-refusal, unless, answered, Lines, no-lines, line, file-lines, whole-line, FirstOf, NoneOf, Matches, refusal-at, out-check, out-line, Graph, no-start, TooLarge, too-large, size, NoStart}
 use Rattle.files.specs.Refusal.{Kind, findings, refusal}
 use Rattle.files.specs.Refusal.Laws.{accepted-iff, found, eight, refusal-is}
 use Rattle.files.specs.Table.{Applies}
@@ -20,9 +20,9 @@ use Rattle.files.specs.Basics.Tests.{at-most}
 
 -- ---- no line applies, line by line
 
-pub none-end : NoneOf end
+pub none-no-lines : NoneOf no-lines
 unfolding NoneOf
-none-end = tt
+none-no-lines = tt
 
 pub none-i : (n f : ℕ) (A : ℕ → Type 0) (ls : Lines) → ((j : ℕ) → A j → ⊥) → NoneOf ls → NoneOf (line n f A ls)
 unfolding NoneOf
@@ -60,16 +60,16 @@ files-match L f k l cs ls m = go (findings L k l) (eight L k l) (found L k l)
     go (m1 ∷ m2 ∷ m3 ∷ m4 ∷ m5 ∷ m6 ∷ m7 ∷ m8 ∷ []) e (a1, (a2, (a3, (a4, (a5, (a6, (a7, (a8, t)))))))) =
         (refl, (refl, (a1, (refl, (refl, (a2, (refl, (refl, (a3, (refl, (refl, (a4, (refl, (refl, (a5, (refl, (refl, (a6, (refl, (refl, (a7, (refl, (refl, (a8, m))))))))))))))))))))))))
 
-pub no-more : Matches [] end
+pub match-end : Matches [] no-lines
 unfolding Matches
-no-more = tt
+match-end = tt
 
 pub whole-match : (n : ℕ) (b : Bool) (P : Type 0) → Says b P → (cs : List Check) (ls : Lines) → Matches cs ls → Matches (whole-check n b cs) (whole-line n P ls)
 unfolding Matches
 whole-match n b P s cs ls m = (refl, (refl, (whole-finds b P s, m)))
 
 pub out-match : (out : ℕ) (s : Said) → Matches (out-check out s) (out-line out s)
-out-match out s = whole-match 12 _ _ (says-lt out (length (s .written))) [] end no-more
+out-match out s = whole-match 12 _ _ (says-lt out (length (s .written))) [] no-lines match-end
 
 -- a number of file f, at the first record that the test finds
 pub scan-match : (n f : ℕ) (m : Option ℕ) (A : ℕ → Type 0) → Finds m A → (cs : List Check) (ls : Lines) → Matches cs ls → Matches (check n f m ∷ cs) (line n f A ls)
@@ -85,9 +85,9 @@ Told ls (some r) = FirstOf ls (r .number) (r .file) (r .«record»)
 
 told : (cs : List Check) (ls : Lines) → Matches cs ls → Told ls (first-refusal cs)
 unfolding Matches NoneOf
-told [] end m = tt
+told [] no-lines m = tt
 told [] (line k g A ls) m = absurd m
-told (c ∷ cs) end m = absurd m
+told (c ∷ cs) no-lines m = absurd m
 told (c ∷ cs) (line k g A ls) m = go (c .found) (m .1 .1 .0) (first-refusal cs) (told cs ls (m .1 .1 .1))
   where
     go : (o : Option ℕ) → Finds o A → (rest : Option Refusal) → Told ls rest → Told (line k g A ls) (or-next (c .number) (c .file) o rest)
@@ -97,7 +97,7 @@ told (c ∷ cs) (line k g A ls) m = go (c .found) (m .1 .1 .0) (first-refusal cs
 
 -- one line comes first
 first-one : (ls : Lines) (n f i n′ f′ i′ : ℕ) → FirstOf ls n f i → FirstOf ls n′ f′ i′ → refusal-at n f i ≡ refusal-at n′ f′ i′
-first-one end n f i n′ f′ i′ a b = absurd a
+first-one no-lines n f i n′ f′ i′ a b = absurd a
 first-one (line k g A ls) n f i n′ f′ i′ (inl a) (inl b) = same (sym (a .0) ∙ b .0) (sym (a .1 .0) ∙ b .1 .0) (go (decLt i i′) (decLt i′ i))
   where
     go : Dec (i < i′) → Dec (i′ < i) → i ≡ i′
@@ -113,7 +113,7 @@ first-one (line k g A ls) n f i n′ f′ i′ (inr a) (inr b) = first-one ls n 
 
 none-first : (ls : Lines) (n f i : ℕ) → NoneOf ls → FirstOf ls n f i → ⊥
 unfolding NoneOf
-none-first end n f i a b = b
+none-first no-lines n f i a b = b
 none-first (line k g A ls) n f i a (inl b) = a .0 i (b .1 .1 .0)
 none-first (line k g A ls) n f i a (inr b) = none-first ls n f i (a .1) (b .1)
 
@@ -214,10 +214,6 @@ says-too-large L G = says-or (says-lt _ _) (says-lt _ _)
 -- a graph that is not too large is within the limits
 pub small-enough : (L : Limits) (G : Graph) → (TooLarge L G → ⊥) → (size G ≤ L .nodes) × (length (G .edges) ≤ L .edges)
 small-enough L G f = (at-most _ _ (λ h. f (inl h)), at-most _ _ (λ h. f (inr h)))
-
--- a start method that is not refused is one of 1 to 8
-abbrev pub NoStart : ℕ → Type 0
-NoStart m = ((1 ≤ m) × (m ≤ 8)) → ⊥
 
 pub says-no-start : (m : ℕ) → Says (no-start m) (NoStart m)
 says-no-start m = says-not (says-and (says-le 1 m) (says-le m 8))

@@ -48,7 +48,12 @@ pub five-limit : (refusal desk property (times 32 (rec6 3 1 0 0 0 0)) ∷ refusa
 unfolding refusal findings
 five-limit = refl
 
-pub five-nodes : (refusal desk graph (times 256 (nd 1)) ∷ refusal desk graph (times 257 (nd 1)) ∷ []) ≡ none ∷ some (5, 0) ∷ []
+-- the same of nodes and edges, under smaller limits
+abbrev two-one : Limits
+two-one = record { nodes = 2; edges = 1; rows = 1; ors = 0 }
+
+pub five-nodes : (refusal two-one graph (times 2 (nd 1)) ∷ refusal two-one graph (times 3 (nd 1)) ∷ refusal two-one graph (nd 1 ++ ed 0 0 0)
+    ∷ refusal two-one graph (nd 1 ++ ed 0 0 0 ++ ed 0 1 0) ∷ []) ≡ none ∷ some (5, 0) ∷ none ∷ some (5, 0) ∷ []
 unfolding refusal findings
 five-nodes = refl
 

@@ -14,7 +14,7 @@ use Rattle.files.specs.Decode.Properties.{decoded-property}
 use Rattle.files.specs.Decode.Written.{decode-bytes}
 use Rattle.files.specs.Graph.{Graph, Flow, size}
 use Rattle.files.specs.Interface.{Interface, Of}
-use Rattle.files.specs.Outcome.{Said, Outcome, refuses, says, refusal-at, NoneOf, FirstOf, Matches, TooLarge}
+use Rattle.files.specs.Outcome.{Said, Outcome, refuses, says, refusal-at, NoneOf, FirstOf, Matches, TooLarge, graph-said}
 use Rattle.files.specs.Outcome.Laws.{whole-match, files-match, out-match, refused-by, accepted-by, verdict-is, file-accepted, whole-none, says-too-large, small-enough}
 use Rattle.files.specs.Property.{Row, Property}
 use Rattle.files.specs.Refusal.{graph, property, interface, refusal}
@@ -26,7 +26,7 @@ use Rattle.maximal.specs.Model.{model, state-at}
 use Rattle.maximal.specs.Model.Computed.{is-model}
 use Rattle.maximal.specs.Model.Filed.{model-is-of, model-filed}
 use Rattle.maximal.specs.Model.Maximal.{maximal}
-use Rattle.maximal.specs.Modelling.{model-room, graph-said, model-graph, model-checks, model-lines, modelled, Models}
+use Rattle.maximal.specs.Modelling.{model-room, model-graph, model-checks, model-lines, modelled, Models}
 
 module _ (L : Limits) (i p : List ℕ) (out work : ℕ) where
   abbrev said : Said

@@ -8,11 +8,9 @@ use Rattle.files.specs.Graph.{Graph, Edge, node}
 use Rattle.files.specs.Rules.{calls, returns-to, Monitor}
 use Rattle.runs.specs.Runs.{Config, plain, meth, EntryOf, Runs, Step, internal, call, return, Run, start, then, Bad}
 use Rattle.runs.specs.Summary.{Inside, enter, inner, over, Trail, starts, steps, enters, passes}
+use Rattle.runs.specs.Runs.{cfg}
 
 module _ (G : Graph) (mon : Monitor) (k : ℕ) where
-  abbrev cfg : ℕ → List ℕ → ℕ → Config
-  cfg g s q = record { at = g; stack = s; state = q }
-
   -- ---- sound: what is inside a method happens on top of any stack on which the method was entered
 
   inside-run : (m p g q : ℕ) → Inside G mon m p g q → (s : List ℕ) → ((n : ℕ) → EntryOf G m n → Run G (plain G) mon k (cfg n s p)) → Run G (plain G) mon k (cfg g s q)

@@ -14,6 +14,7 @@ use Rattle.files.specs.Rules.{Event, calls, returns-to, Monitor}
 use Rattle.runs.specs.Runs.{plain, meth, EntryOf, Runs, Run, Config, Bad, Clean}
 use Rattle.runs.specs.Summary.{Inside, enter, inner, over, Yields, Trail, starts, steps, enters, passes, Spot, Place, is-entry-of, callee, moves, leads-from, along, spot-rule, all-spots, spots, yields, moved-from, called-from, reaches, place-rule, all-places, places, clean}
 use Rattle.runs.specs.Summary.Exact.{exact}
+use Rattle.files.specs.Basics.Tests.{not-not}
 
 module _ (G : Graph) (mon : Monitor) (flow : Flow G) (labels-small : (e : Edge) → List·Memᴰ e (G .edges) → e .label < 9)
     (mon-small : (q : ℕ) (v : Event) → q < 8 → mon q v < 8) where
@@ -393,16 +394,18 @@ module _ (G : Graph) (mon : Monitor) (flow : Flow G) (labels-small : (e : Edge) 
         (moved (place g′ q′) (places-complete g′ q′ t) refl (sym (x .leaves))
         (call-moves (spots G mon) e q′ (spot (e .label) (mon q′ (calls (meth G g′) (e .label))) r s) (no-ret g′ e x) z refl (into-is g′ q′ e x) b c))
 
-    -- T5, of the computed verdict: it is "clean" exactly where no run with an unbounded stack is bad
-    pub clean-exact : T (clean G mon k) ↔ Clean G mon k
+    -- where the computed verdict is not "clean", some run with an unbounded stack is bad
+    pub not-clean-bad : T (not (clean G mon k)) → Bad G mon k
     unfolding clean
-    clean-exact = (
-      λ t b.
-          let c = exact G mon k ((b .end) .at) ((b .end) .state) .1 ((b .end) .stack, b .run) in
-          T-not (any (λ (x : Place). eqb (x .now) 7) (places G mon k)) t
-          (any-i (λ (x : Place). eqb (x .now) 7) (places G mon k) (place ((b .end) .at) ((b .end) .state)) (places-complete _ _ c) (eq-eqb ((b .end) .state) 7 (b .is-bad))),
-      λ c. not-T (any (λ (x : Place). eqb (x .now) 7) (places G mon k)) (λ t.
-          let a = any-e (λ (x : Place). eqb (x .now) 7) (places G mon k) t in
-          let r = exact G mon k ((a .0) .at) ((a .0) .now) .0 (places-sound (a .0) (a .1)) in
-          c (record { end = record { at = (a .0) .at; stack = r .0; state = (a .0) .now }; run = r .1; is-bad = eqb→eq _ _ (a .2) })),
-    )
+    not-clean-bad t =
+        let a = any-e (λ (x : Place). eqb (x .now) 7) (places G mon k) (not-not (any (λ (x : Place). eqb (x .now) 7) (places G mon k)) t) in
+        let r = exact G mon k ((a .0) .at) ((a .0) .now) .0 (places-sound (a .0) (a .1)) in
+        record { end = record { at = (a .0) .at; stack = r .0; state = (a .0) .now }; run = r .1; is-bad = eqb→eq _ _ (a .2) }
+
+    -- and where it is, none is
+    pub clean-no-bad : T (clean G mon k) → Clean G mon k
+    unfolding clean
+    clean-no-bad t b =
+        let c = exact G mon k ((b .end) .at) ((b .end) .state) .1 ((b .end) .stack, b .run) in
+        T-not (any (λ (x : Place). eqb (x .now) 7) (places G mon k)) t
+        (any-i (λ (x : Place). eqb (x .now) 7) (places G mon k) (place ((b .end) .at) ((b .end) .state)) (places-complete _ _ c) (eq-eqb ((b .end) .state) 7 (b .is-bad)))

@@ -13,6 +13,7 @@ use Rattle.files.specs.Rules.{calls, Monitor}
 use Rattle.runs.specs.Runs.{meth}
 use Rattle.runs.specs.Summary.{Place, is-entry-of, callee, spots, all-places}
 pub mod Laws
+pub mod Behind
 pub mod OneRun
 pub mod Examples
 

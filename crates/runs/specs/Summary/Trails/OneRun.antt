@@ -6,99 +6,61 @@ use Prim.Native.Nat.{ℕ, zero, suc, _<_}
 use native.Mathlib.Omega.{arith}
 use lib.Dec.{T, eqb, eqb→eq}
 use Rattle.files.specs.Basics.Shortest.{To, there, by}
+use Rattle.files.specs.Basics.Tests.{eq-eqb}
 use Rattle.files.specs.Graph.{Graph, Edge, size, node, Flow}
 use Rattle.files.specs.Rules.{Event, calls, returns-to, Monitor}
-use Rattle.runs.specs.Runs.{Config, plain, meth, EntryOf, Runs, Step, internal, call, return, Run, start, then}
+use Rattle.runs.specs.Runs.{Config, plain, meth, EntryOf, Runs, Step, internal, call, return, Run, start, then, cfg, On, Above, stay, next-step, Bad}
+use Rattle.runs.specs.Summary.Trails.Behind.{TrailShows}
 use Rattle.runs.specs.Summary.{Inside, enter, inner, over, Place, callee, spots}
 use Rattle.runs.specs.Summary.Table.{Moves, by-step, by-call, passes-e, into-is, into, spots-sound}
 use Rattle.runs.specs.Summary.Trails.{Rec, trail-rec-bytes, Where, before, here, end, is-bad, started, leaving, trail}
-use Rattle.runs.specs.Summary.Trails.Laws.{Leaves, steps-on, goes-in, goes-by, leaves-e, start-e, Path, place, trail-to}
+use Rattle.runs.specs.Summary.Trails.Behind.{Meets, Part, internal-step, call-step, whole-call, Chain, no-more, and-then, Valid, ends, goes, Stands, OneRun}
+use Rattle.runs.specs.Summary.Trails.Laws.{Leaves, steps-on, goes-in, goes-by, leaves-e, start-e, Path, place, trail-to, path-iff-bad, trail-fewest, trail-first}
 use lib.ListN.{length}
 
-abbrev pub cfg : ℕ → List ℕ → ℕ → Config
-cfg g s q = record { at = g; stack = s; state = q }
-
--- the stack t is s with something on it, or s
-abbrev pub On : List ℕ → List ℕ → Type 0
-On s t = (u : List ℕ) × (t ≡ u ++ s)
-
 module _ (G : Graph) (mon : Monitor) where
-  -- Steps from c to d with the stack s, unchanged, below every configuration on the way.
-  pub data Above (s : List ℕ) (c : Config) : Config → Type 0 where
-    stay : On s (c .stack) → Above s c c
-    next : (d e : Config) → Above s c d → Step G (plain G) mon d e → On s (e .stack) → Above s c e
-
-  above-join : (s : List ℕ) (c d e : Config) → Above s c d → Above s d e → Above s c e
+  above-join : (s : List ℕ) (c d e : Config) → Above G (plain G) mon s c d → Above G (plain G) mon s d e → Above G (plain G) mon s c e
   above-join s c d e a (stay h) = a
-  above-join s c d e a (next d′ e′ b t h) = next d′ e′ (above-join s c d d′ a b) t h
+  above-join s c d e a (next-step d′ e′ b t h) = next-step d′ e′ (above-join s c d d′ a b) t h
 
   on-less : (t : ℕ) (s v : List ℕ) → On (t ∷ s) v → On s v
   on-less t s v h = (h .0 ++ t ∷ [], h .1 ∙ sym (append-assoc (h .0) (t ∷ []) s))
 
-  above-less : (t : ℕ) (s : List ℕ) (c d : Config) → Above (t ∷ s) c d → Above s c d
+  above-less : (t : ℕ) (s : List ℕ) (c d : Config) → Above G (plain G) mon (t ∷ s) c d → Above G (plain G) mon s c d
   above-less t s c d (stay h) = stay (on-less t s (c .stack) h)
-  above-less t s c d (next d′ e′ a x h) = next d′ e′ (above-less t s c d′ a) x (on-less t s (e′ .stack) h)
+  above-less t s c d (next-step d′ e′ a x h) = next-step d′ e′ (above-less t s c d′ a) x (on-less t s (e′ .stack) h)
 
   -- a run inside a method, from one of its entries, on any stack
-  inside-above : (m p g q : ℕ) → Inside G mon m p g q → (n : ℕ) × EntryOf G m n × ((s : List ℕ) → Above s (cfg n s p) (cfg g s q))
+  inside-above : (m p g q : ℕ) → Inside G mon m p g q → (n : ℕ) × EntryOf G m n × ((s : List ℕ) → Above G (plain G) mon s (cfg n s p) (cfg g s q))
   inside-above m p g q (enter m′ p′ n e) = (n, e, λ s. stay ([], refl))
   inside-above m p g q (inner m′ p′ g′ q′ e i r z) =
-      let a = inside-above m′ p′ g′ q′ i in (a .0, a .1, λ s. next (cfg g′ s q′) _ (a .2 s) (internal e r z) ([], refl))
+      let a = inside-above m′ p′ g′ q′ i in (a .0, a .1, λ s. next-step (cfg g′ s q′) _ (a .2 s) (internal e r z) ([], refl))
   inside-above m p g q (over m′ p′ g′ q′ e r t i x z j b) =
       let a = inside-above m′ p′ g′ q′ i in
       let c = inside-above (e .label) _ r t j in (
         a .0,
         a .1,
-        λ s. next (cfg r (e .to ∷ s) t) _
-            (above-join s _ _ _ (next (cfg g′ s q′) _ (a .2 s) (call e (c .0) x z (c .1)) (e .to ∷ [], refl)) (above-less (e .to) s _ _ (c .2 (e .to ∷ s))))
+        λ s. next-step (cfg r (e .to ∷ s) t) _
+            (above-join s _ _ _ (next-step (cfg g′ s q′) _ (a .2 s) (call e (c .0) x z (c .1)) (e .to ∷ [], refl)) (above-less (e .to) s _ _ (c .2 (e .to ∷ s))))
             (return (e .to) s b refl) ([], refl),
       )
 
-  -- r's pair is c's, and the pair reached is d's
-  pub record Meets (r : Rec) (c d : Config) : Type 0 where
-    pub at-is : c .at ≡ r .at
-    pub state-is : c .state ≡ r .state
-    pub to-is : d .at ≡ r .to
-    pub now-is : d .state ≡ r .now
-
-  -- The part of a run from c to d that record r stands for. Step 1: one step that leaves the stack, so an internal one. Step 2: one step that stacks, so a call.
-  -- Step 3: a call, a balanced run of the callee, from an entry of the method called, with the stack below unchanged, and its return.
-  pub data Part (r : Rec) (c d : Config) : Type 0 where
-    internal-step : r .step ≡ 1 → Meets r c d → Step G (plain G) mon c d → d .stack ≡ c .stack → Part r c d
-    call-step : (t : ℕ) → r .step ≡ 2 → Meets r c d → Step G (plain G) mon c d → d .stack ≡ t ∷ c .stack → EntryOf G (r .label) (d .at) → Part r c d
-    whole-call : (t : ℕ) (a b : Config) → r .step ≡ 3 → Meets r c d → Step G (plain G) mon c a → a .stack ≡ t ∷ c .stack → EntryOf G (r .label) (a .at)
-        → Above (t ∷ c .stack) a b → b .stack ≡ t ∷ c .stack → Step G (plain G) mon b d → d .stack ≡ c .stack → Part r c d
-
-  -- one sequence of steps to e, the parts of the records one after another
-  pub data Chain (e : Config) : Config → List Rec → Type 0 where
-    no-more : Chain e e []
-    and-then : (c : Config) (r : Rec) (d : Config) (rs : List Rec) → Part r c d → Chain e d rs → Chain e c (r ∷ rs)
-
   -- it prolongs any run to c
-  above-run : (m : ℕ) (s : List ℕ) (c d : Config) → Run G (plain G) mon m c → Above s c d → Run G (plain G) mon m d
+  above-run : (m : ℕ) (s : List ℕ) (c d : Config) → Run G (plain G) mon m c → Above G (plain G) mon s c d → Run G (plain G) mon m d
   above-run m s c d r (stay h) = r
-  above-run m s c d r (next d′ e′ a x h) = then (above-run m s c d′ r a) x
+  above-run m s c d r (next-step d′ e′ a x h) = then (above-run m s c d′ r a) x
 
-  part-run : (m : ℕ) (r : Rec) (c d : Config) → Run G (plain G) mon m c → Part r c d → Run G (plain G) mon m d
+  part-run : (m : ℕ) (r : Rec) (c d : Config) → Run G (plain G) mon m c → Part G mon r c d → Run G (plain G) mon m d
   part-run m r c d x (internal-step i j s k) = then x s
   part-run m r c d x (call-step t i j s k l) = then x s
   part-run m r c d x (whole-call t a b i j s k l v o u w) = then (above-run m (t ∷ c .stack) a b (then x s) v) u
 
-  pub chain-run : (m : ℕ) (c : Config) (rs : List Rec) (d : Config) → Run G (plain G) mon m c → Chain d c rs → Run G (plain G) mon m d
+  pub chain-run : (m : ℕ) (c : Config) (rs : List Rec) (d : Config) → Run G (plain G) mon m c → Chain G mon d c rs → Run G (plain G) mon m d
   chain-run m c rs d x no-more = x
   chain-run m c rs d x (and-then c′ r b ss p q) = chain-run m b ss d (part-run m r c′ b x p) q
 
 module _ (G : Graph) (mon : Monitor) (flow : Flow G) (labels-small : (e : Edge) → List·Memᴰ e (G .edges) → e .label < 9)
     (mon-small : (q : ℕ) (v : Event) → q < 8 → mon q v < 8) (m : ℕ) where
-  -- a valid trail from one point to another: each record leaves where the one before it ends
-  pub data Valid (v : Where) : Where → List Rec → Type 0 where
-    ends : Valid v v []
-    goes : (w : Where) (r : Rec) (rs : List Rec) → List·Memᴰ r (leaving G mon m w) → Valid v (end r) rs → Valid v w (r ∷ rs)
-
-  abbrev pub Stands : Where → Config → Type 0
-  Stands before c = ⊥
-  Stands (here x) c = (c .at ≡ x .at) × (c .state ≡ x .now)
-
   -- a call passed over
   over-part : (c : Config) (e : Edge) (q : ℕ) (r : Rec) → Runs G (c .at) e → 0 < e .label → r .at ≡ c .at → r .state ≡ c .state → r .step ≡ 3 → r .label ≡ e .label → r .to ≡ e .to → r .now ≡ q
       → Moves G mon flow labels-small mon-small e (c .state) q → Part G mon r c (cfg (e .to) (c .stack) q)
@@ -133,35 +95,24 @@ module _ (G : Graph) (mon : Monitor) (flow : Flow G) (labels-small : (e : Edge) 
     refl,
   )
 
-  leaving-part : (w : Where) (r : Rec) → List·Memᴰ r (leaving G mon m w) → (c : Config) → Stands w c → (d : Config) × Part G mon r c d × Stands (end r) d
+  leaving-part : (w : Where) (r : Rec) → List·Memᴰ r (leaving G mon m w) → (c : Config) → Stands G mon m w c → (d : Config) × Part G mon r c d × Stands G mon m (end r) d
   leaving-part before r k c a = absurd a
   leaving-part (here x) r k c a =
       let b = leaves-part c r (subst₂ (λ (g q : ℕ). Leaves G mon flow labels-small mon-small m (record { at = g; now = q }) r) (sym (a .0)) (sym (a .1))
       (leaves-e G mon flow labels-small mon-small m x r k)) in
       (b .0, b .1, (b .2, b .3))
 
-  chain-of : (v w : Where) (rs : List Rec) → Valid v w rs → (c : Config) → Stands w c → (d : Config) × Chain G mon d c rs × Stands v d
+  chain-of : (v w : Where) (rs : List Rec) → Valid G mon m v w rs → (c : Config) → Stands G mon m w c → (d : Config) × Chain G mon d c rs × Stands G mon m v d
   chain-of v w rs ends c a = (c, no-more, a)
   chain-of v w rs (goes w′ r ss k p) c a =
       let b = leaving-part w′ r k c a in
       let f = chain-of v (end r) ss p (b .0) (b .2) in
       (f .0, and-then c r (b .0) ss (b .1) (f .1), f .2)
 
-  -- One run for the trail: it starts where the first record does, passes each further record by its part, and ends where the last does.
-  pub record OneRun (v : Where) (rs : List Rec) : Type 0 where
-    pub entry : ℕ
-    pub is-entry : EntryOf G m entry
-    pub rest : List Rec
-    pub first : rs ≡ started G mon entry ∷ rest
-    pub last : Config
-    pub chain : Chain G mon last (cfg entry [] 0) rest
-    pub run : Run G (plain G) mon m last
-    pub stands : Stands v last
-
-  one-from : (v : Where) (r : Rec) (rs : List Rec) → List·Memᴰ r (leaving G mon m before) → Valid v (end r) rs → OneRun v (r ∷ rs)
+  one-from : (v : Where) (r : Rec) (rs : List Rec) → List·Memᴰ r (leaving G mon m before) → Valid G mon m v (end r) rs → OneRun G mon m v (r ∷ rs)
   one-from v r rs k p =
       let a = start-e G mon flow labels-small mon-small m r k in
-      let b = chain-of v (end (started G mon (a .0))) rs (subst (λ (s : Rec). Valid v (end s) rs) (sym (a .2)) p) (cfg (a .0) [] 0) (refl, refl) in
+      let b = chain-of v (end (started G mon (a .0))) rs (subst (λ (s : Rec). Valid G mon m v (end s) rs) (sym (a .2)) p) (cfg (a .0) [] 0) (refl, refl) in
       record {
         entry = a .0;
         is-entry = a .1;
@@ -174,31 +125,43 @@ module _ (G : Graph) (mon : Monitor) (flow : Flow G) (labels-small : (e : Edge) 
       }
 
   -- a valid trail that has a record
-  one-at : (v w : Where) (rs : List Rec) → Valid v w rs → w ≡ before → (x : Place) → v ≡ here x → OneRun v rs
+  one-at : (v w : Where) (rs : List Rec) → Valid G mon m v w rs → w ≡ before → (x : Place) → v ≡ here x → OneRun G mon m v rs
   one-at v w rs ends e x f = absurd (apart (sym e ∙ f))
     where
       apart : before ≡ here x → ⊥
       apart p = let z : _≡_ {A = ℕ} 0 1 = cc in omega arith
   one-at v w rs (goes w′ r ss k p) e x f = one-from v r ss (subst (λ (u : Where). List·Memᴰ r (leaving G mon m u)) e k) p
 
-  pub one-run : (x : Place) (rs : List Rec) → Valid (here x) before rs → OneRun (here x) rs
+  pub one-run : (x : Place) (rs : List Rec) → Valid G mon m (here x) before rs → OneRun G mon m (here x) rs
   one-run x rs p = one-at (here x) before rs p refl x refl
 
   -- and so for a trail to a bad state: its run ends in state 7
-  path-valid : (w : Where) (rs : List Rec) → To (leaving G mon m) end trail-rec-bytes is-bad w rs → (v : Where) × Valid v w rs × T (is-bad v)
+  path-valid : (w : Where) (rs : List Rec) → To (leaving G mon m) end trail-rec-bytes is-bad w rs → (v : Where) × Valid G mon m v w rs × T (is-bad v)
   path-valid w rs (there w′ t) = (w′, ends, t)
   path-valid w rs (by w′ r ss k p) = let a = path-valid (end r) ss p in (a .0, goes w′ r ss k (a .1), a .2)
 
-  bad-run : (v : Where) (rs : List Rec) → Valid v before rs → T (is-bad v) → (x : Place) × (x .now ≡ 7) × OneRun (here x) rs
-  bad-run before rs p t = absurd t
-  bad-run (here x) rs p t = (x, eqb→eq (x .now) 7 t, one-run x rs p)
+  -- a valid trail to a bad point is a path
+  valid-path : (v w : Where) (rs : List Rec) → Valid G mon m v w rs → T (is-bad v) → To (leaving G mon m) end trail-rec-bytes is-bad w rs
+  valid-path v w rs ends t = there v t
+  valid-path v w rs (goes w′ r ss k p) t = by w′ r ss k (valid-path v (end r) ss p t)
 
-  pub one-bad-run : (rs : List Rec) → Path G mon flow labels-small mon-small m before rs → (x : Place) × (x .now ≡ 7) × OneRun (here x) rs
-  one-bad-run rs p = let a = path-valid before rs p in bad-run (a .0) rs (a .1) (a .2)
-
-  -- the trail written has one, wherever some path is bad
-  pub trail-one-run : (rs : List Rec) → Path G mon flow labels-small mon-small m before rs → (x : Place) × (x .now ≡ 7) × OneRun (here x) (trail G mon m)
-  trail-one-run rs p = one-bad-run (trail G mon m) (trail-to G mon flow labels-small mon-small m rs p)
+  -- wherever some run is bad, the trail shows it
+  pub trail-shows : Bad G mon m → TrailShows G mon m (trail G mon m)
+  trail-shows b =
+      let p = path-iff-bad G mon flow labels-small mon-small m .1 b in
+      let a = path-valid before (trail G mon m) (trail-to G mon flow labels-small mon-small m (p .0) (p .1)) in
+      at-place (a .0) (a .1) (a .2)
+    where
+      at-place : (v : Where) → Valid G mon m v before (trail G mon m) → T (is-bad v) → TrailShows G mon m (trail G mon m)
+      at-place before k t = absurd t
+      at-place (here x) k t = record {
+        last = x;
+        last-bad = eqb→eq (x .now) 7 t;
+        valid = k;
+        one-run = one-run x (trail G mon m) k;
+        fewest = λ y ss e c. trail-fewest G mon flow labels-small mon-small m ss (valid-path (here y) before ss c (eq-eqb (y .now) 7 e));
+        smallest = λ y ss e c q. trail-first G mon flow labels-small mon-small m ss (valid-path (here y) before ss c (eq-eqb (y .now) 7 e)) q;
+      }
 
 -- ---- what kind of step it is shows in the stack
 

@@ -1,0 +1,45 @@
+-- Refusals 9 and 10, which look at interfaces: tests, and the table's words beside them.
+use mathlib.Core.Logic.{_⊎_}
+use mathlib.Core.Path.{_≡_}
+use mathlib.Core.Bool.{Bool, not, _&&_, _||_}
+use mathlib.Core.List.{List}
+use mathlib.Core.Option.{Option}
+use Prim.Native.Nat.{ℕ, _<_}
+use lib.Dec.{T, ltb}
+use Rattle.files.specs.Basics.Tests.{any}
+use Rattle.files.specs.Basics.Lists.{span}
+use Rattle.files.specs.Basics.First.{first-where}
+use Rattle.files.specs.Record.{record-at, kind-at, count}
+use Rattle.files.specs.Interface.{Interface, provides, requires-method}
+use Rattle.files.specs.Refusal.{of-kind}
+pub mod Laws
+
+-- 9: "graph not of its interface": record i is a node whose method is not provided, or an edge that calls a method that is not required
+abbrev pub foreign : Interface → List ℕ → ℕ → Bool
+foreign I l i = (of-kind l 1 i && not (provides I ((record-at l i) .first)))
+    || (of-kind l 2 i && (ltb 0 ((record-at l i) .second) && not (requires-method I ((record-at l i) .second))))
+
+abbrev pub Foreign : Interface → List ℕ → ℕ → Type 0
+Foreign I l i = ((kind-at l i ≡ 1) × (T (provides I ((record-at l i) .first)) → ⊥))
+    ⊎ ((kind-at l i ≡ 2) × ((0 < (record-at l i) .second) × (T (requires-method I ((record-at l i) .second)) → ⊥)))
+
+-- the first record that is not of the interface
+pub first-foreign : Interface → List ℕ → Option ℕ
+first-foreign I l = first-where (foreign I l) (count l)
+
+abbrev pub ForeignAt : Interface → List ℕ → ℕ → Type 0
+ForeignAt I l i = (i < count l) × Foreign I l i
+
+-- 9: "two sides provide one method"
+pub shares : Interface → Interface → Bool
+shares I J = any (λ (m : ℕ). provides I m && provides J m) (span 1 8)
+
+abbrev pub Shares : Interface → Interface → Type 0
+Shares I J = (m : ℕ) × T (provides I m) × T (provides J m)
+
+-- 10: "a required method, or the start method, is provided by nobody"
+pub unprovided : Interface → ℕ → Bool
+unprovided I m = not (provides I m) || any (λ (k : ℕ). requires-method I k && not (provides I k)) (span 1 8)
+
+abbrev pub Unprovided : Interface → ℕ → Type 0
+Unprovided I m = (T (provides I m) → ⊥) ⊎ ((k : ℕ) × T (requires-method I k) × (T (provides I k) → ⊥))

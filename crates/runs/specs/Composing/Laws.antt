@@ -1,0 +1,107 @@
+-- The composed verdict is refused by the first line of its published order that applies; where it is not, the model conforms, and the verdict is that of watching
+-- the known graph joined with the model.
+use mathlib.Core.Path.{_≡_, refl, sym, ap, subst, _∙_}
+use mathlib.Core.Logic.{_⊎_, inl, inr, _↔_, Iff·trans}
+use mathlib.Core.List.{List, [], _∷_, List·Memᴰ}
+use mathlib.Core.Option.{Option, none, some}
+use Prim.Native.Nat.{ℕ, _≤_, _<_}
+use native.Mathlib.Omega.{arith}
+use lib.Dec.{T}
+use Rattle.files.specs.Basics.Says.{says-lt, says-or}
+use Rattle.files.specs.Decode.{Filed, FiledRules, decode-graph, decode-property, decode-interface, decode-rules}
+use Rattle.files.specs.Decode.Graphs.{decoded-filed}
+use Rattle.files.specs.Decode.Properties.{decoded-property}
+use Rattle.files.specs.Decode.RuleFiles.{decoded-rules}
+use Rattle.files.specs.Graph.{Graph, Edge, Flow}
+use Rattle.files.specs.Interface.{Interface, Of, Labelled}
+use Rattle.files.specs.Interface.Laws.{labelled-small}
+use Rattle.files.specs.Outcome.{Said, Outcome, refuses, says, refusal-at, NoneOf, FirstOf, Matches, NoStart, TooLarge}
+use Rattle.files.specs.Outcome.Laws.{whole-match, scan-match, files-match, out-match, refused-by, accepted-by, verdict-is, file-accepted, whole-none, says-no-start, says-too-large}
+use Rattle.files.specs.Property.{Row, Property}
+use Rattle.files.specs.Refusal.{graph, property, rules, interface, refusal}
+use Rattle.files.specs.Rules.{Event, Monitor, watch}
+use Rattle.files.specs.Sides.{ForeignAt, Shares, Unprovided}
+use Rattle.files.specs.Sides.Laws.{foreign-finds, says-shares, says-unprovided}
+use Rattle.files.specs.declared.record.Limits.{Limits}
+use Rattle.judging.specs.Levels.{Satisfies}
+use Rattle.judging.specs.Simulation.{Simulates}
+use Rattle.judging.specs.Simulation.Laws.{simulates-refl}
+use Rattle.maximal.specs.Model.{model}
+use Rattle.maximal.specs.Model.Filed.{model-is-flow, model-is-of}
+use Rattle.maximal.specs.Modelling.Laws.{model-simulates-iff}
+use Rattle.runs.specs.Composing.{Conforms, compose-store, compose-work, compose-model, compose-graph, compose-sides, compose-verdict, compose-checks, compose-lines, composed}
+use Rattle.runs.specs.Join.{join}
+use Rattle.runs.specs.Join.Laws.{join-flow, join-labels, join-simulates}
+use Rattle.runs.specs.Runs.{Bad, Clean}
+use Rattle.runs.specs.Runs.Laws.{simulates-bad}
+use Rattle.runs.specs.Watching.{Watches, watch-said}
+use Rattle.runs.specs.Watching.Laws.{watch-cases, filed-labels, filed-monitor}
+
+-- ---- the two directions
+
+-- the model is one of the graphs that conform
+pub model-conforms : (I : Interface) (P : List Row) → Property P → Conforms I P (model I P)
+model-conforms I P wf = record {
+  is-flow = model-is-flow I P wf;
+  is-of = model-is-of I P wf;
+  is-satisfying = model-simulates-iff I P wf (model I P) (model-is-flow I P wf) (model-is-of I P wf) .0 (simulates-refl (model I P) (model-is-flow I P wf));
+}
+
+-- K joined with the model is clean exactly where K joined with any graph that conforms is
+pub clean-for-all : (K : Graph) → Flow K → (I : Interface) (P : List Row) → Property P → (mon : Monitor) (m : ℕ)
+    → Clean (join K (model I P)) mon m ↔ ((G : Graph) → Conforms I P G → Clean (join K G) mon m)
+clean-for-all K fk I P wf mon m = (
+  λ clean G c bad. clean (simulates-bad (join K G) (join K (model I P)) mon
+      (join-simulates K K G (model I P) fk (simulates-refl K fk) (model-simulates-iff I P wf G (c .is-flow) (c .is-of) .1 (c .is-satisfying))) m bad),
+  λ all. all (model I P) (model-conforms I P wf),
+)
+
+-- ---- the call
+
+module _ (L : Limits) (ki kg oi p r : List ℕ) (m out store work : ℕ) where
+  abbrev said : Said
+  said = compose-verdict L ki kg oi p r m out store work
+
+  compose-match : Matches (compose-checks L ki kg oi p r m out store work) (compose-lines L ki kg oi p r m out store work)
+  compose-match =
+      whole-match 13 _ ((store < compose-store) ⊎ (work < compose-work)) (says-or (says-lt store compose-store) (says-lt work compose-work)) _ _
+      (files-match L 1 interface ki _ _ (files-match L 2 graph kg _ _ (files-match L 3 interface oi _ _ (files-match L 4 property p _ _ (files-match L 5 rules r _ _
+      (whole-match 3 _ _ (says-no-start m) _ _
+      (scan-match 9 2 _ _ (foreign-finds (decode-interface ki) kg) _ _
+      (whole-match 9 _ _ (says-shares (decode-interface ki) (decode-interface oi)) _ _
+      (whole-match 10 _ _ (says-unprovided (compose-sides L ki kg oi p r m out store work) m) _ _
+      (whole-match 11 _ _ (says-or (says-too-large L (compose-model L ki kg oi p r m out store work)) (says-too-large L (compose-graph L ki kg oi p r m out store work))) _ _
+      (out-match out said)))))))))))
+
+  -- refused, by number, file and record, exactly where that comes first in the published order
+  pub compose-refused : (n f k : ℕ) → (composed L ki kg oi p r m out store work ≡ refuses (refusal-at n f k)) ↔ FirstOf (compose-lines L ki kg oi p r m out store work) n f k
+  unfolding composed
+  compose-refused = refused-by _ _ compose-match said
+
+  -- accepted exactly where nothing applies
+  pub compose-accepted : (composed L ki kg oi p r m out store work ≡ says said) ↔ NoneOf (compose-lines L ki kg oi p r m out store work)
+  unfolding composed
+  compose-accepted = accepted-by _ _ compose-match said
+
+  -- what acceptance gives: a flow graph, a property, small labels and states, and the verdict of watching the known graph joined with the model
+  pub compose-says : (s : Said) → composed L ki kg oi p r m out store work ≡ says s
+      → Flow (decode-graph kg) × Property (decode-property p) × Watches (join (decode-graph kg) (model (decode-interface oi) (decode-property p))) (watch (decode-rules r)) m s
+  unfolding composed
+  compose-says s e =
+      let a = verdict-is _ _ compose-match said s e in
+      let b1 = file-accepted L 1 interface ki _ ((whole-none 13 _ _ (a .1)) .1) in
+      let b2 = file-accepted L 2 graph kg _ (b1 .1) in
+      let b3 = file-accepted L 3 interface oi _ (b2 .1) in
+      let b4 = file-accepted L 4 property p _ (b3 .1) in
+      let b5 = file-accepted L 5 rules r _ (b4 .1) in
+      let K = decode-graph kg in
+      let I = decode-interface oi in
+      let P = decode-property p in
+      let f = decoded-filed L kg (b2 .0) in
+      let wf = decoded-property L p (b4 .0) .rows-named in (
+        f .flow,
+        wf,
+        watch-cases (join K (model I P)) (watch (decode-rules r)) m (join-flow K (model I P) (f .flow) (model-is-flow I P wf))
+            (join-labels K (model I P) 9 (filed-labels L K f) (λ x k. labelled-small I (x .label) (model-is-of I P wf .calls x k)))
+            (filed-monitor (decode-rules r) (decoded-rules L r (b5 .0))) s (a .0),
+      )

@@ -1,0 +1,70 @@
+-- Joining is refused by the first line of its published order that applies, and otherwise says what `Joins` says.
+use mathlib.Core.Path.{_≡_, refl, sym, ap, subst, _∙_}
+use mathlib.Core.Logic.{_⊎_, inl, inr, _↔_}
+use mathlib.Core.List.{List, [], _∷_}
+use mathlib.Core.Option.{Option, none, some}
+use Prim.Native.Nat.{ℕ, _≤_, _<_}
+use lib.ListN.{length}
+use Rattle.files.specs.Decode.{decode-graph, decode-interface, graph-bytes, Filed}
+use Rattle.files.specs.Decode.Accepted.{accepted-bytes}
+use Rattle.files.specs.Decode.Graphs.{decoded-filed}
+use Rattle.files.specs.Decode.Written.{decode-bytes}
+use Rattle.files.specs.Graph.{Graph, size}
+use Rattle.files.specs.Interface.{Interface, Of, united}
+use Rattle.files.specs.Outcome.{Said, Outcome, refuses, says, refusal-at, NoneOf, FirstOf, Matches, TooLarge}
+use Rattle.files.specs.Outcome.Laws.{whole-match, scan-match, files-match, out-match, refused-by, accepted-by, verdict-is, file-accepted, whole-none, none-e, says-too-large, small-enough}
+use Rattle.files.specs.Refusal.{graph, interface, refusal}
+use Rattle.files.specs.Sides.{first-foreign, ForeignAt, shares, Shares}
+use Rattle.files.specs.Sides.Laws.{foreign-finds, says-shares, none-foreign}
+use Rattle.files.specs.declared.record.Limits.{Limits}
+use Rattle.runs.specs.Join.{join}
+use Rattle.runs.specs.Join.Laws.{join-filed, join-of}
+use Rattle.runs.specs.Joining.{join-graph, join-sides, join-said, join-checks, join-lines, joined, Joins}
+
+module _ (L : Limits) (i1 g1 i2 g2 : List ℕ) (out : ℕ) where
+  abbrev said : Said
+  said = join-said L i1 g1 i2 g2 out
+
+  join-match : Matches (join-checks L i1 g1 i2 g2 out) (join-lines L i1 g1 i2 g2 out)
+  join-match =
+      files-match L 1 interface i1 _ _ (files-match L 2 graph g1 _ _ (files-match L 3 interface i2 _ _ (files-match L 4 graph g2 _ _
+      (scan-match 9 2 _ _ (foreign-finds (decode-interface i1) g1) _ _ (scan-match 9 4 _ _ (foreign-finds (decode-interface i2) g2) _ _
+      (whole-match 9 _ _ (says-shares (decode-interface i1) (decode-interface i2)) _ _
+      (whole-match 11 _ _ (says-too-large L (join-graph L i1 g1 i2 g2 out)) _ _ (out-match out said))))))))
+
+  -- refused, by number, file and record, exactly where that comes first in the published order
+  pub join-refused : (n f r : ℕ) → (joined L i1 g1 i2 g2 out ≡ refuses (refusal-at n f r)) ↔ FirstOf (join-lines L i1 g1 i2 g2 out) n f r
+  unfolding joined
+  join-refused = refused-by _ _ join-match said
+
+  -- accepted exactly where nothing applies
+  pub join-accepted : (joined L i1 g1 i2 g2 out ≡ says said) ↔ NoneOf (join-lines L i1 g1 i2 g2 out)
+  unfolding joined
+  join-accepted = accepted-by _ _ join-match said
+
+  -- Whatever the bytes and the length: what joining says where it is not refused.
+  pub join-says : (s : Said) → joined L i1 g1 i2 g2 out ≡ says s → Joins L (decode-interface i1) (decode-interface i2) (decode-graph g1) (decode-graph g2) s
+  unfolding joined
+  join-says s e =
+      let a = verdict-is _ _ join-match said s e in
+      let b1 = file-accepted L 1 interface i1 _ (a .1) in
+      let b2 = file-accepted L 2 graph g1 _ (b1 .1) in
+      let b3 = file-accepted L 3 interface i2 _ (b2 .1) in
+      let b4 = file-accepted L 4 graph g2 _ (b3 .1) in
+      let c1 = none-e 9 2 (ForeignAt (decode-interface i1) g1) _ (b4 .1) in
+      let c2 = none-e 9 4 (ForeignAt (decode-interface i2) g2) _ (c1 .1) in
+      let c3 = whole-none 9 _ _ (c2 .1) in
+      let c4 = whole-none 11 _ _ (c3 .1) in
+      let h = small-enough L (join-graph L i1 g1 i2 g2 out) (c4 .0) in
+      let w : s .written ≡ graph-bytes (join-graph L i1 g1 i2 g2 out) = ap (λ (x : Said). x .written) (a .0) in
+      let d : decode-graph (s .written) ≡ join-graph L i1 g1 i2 g2 out = ap decode-graph w ∙ decode-bytes (join-graph L i1 g1 i2 g2 out) in
+      record {
+        verdict-one = ap (λ (x : Said). x .verdict) (a .0);
+        accepted = ap (refusal L graph) w
+            ∙ accepted-bytes L (join-graph L i1 g1 i2 g2 out) (join-filed (decode-graph g1) (decode-graph g2) L (decoded-filed L g1 (b2 .0)) (decoded-filed L g2 (b4 .0)) (h .0) (h .1));
+        is-the-join = d;
+        counted = ap (λ (x : Said). x .values) (a .0);
+        of-united = subst (Of (join-sides L i1 g1 i2 g2 out)) (sym d)
+            (join-of (decode-graph g1) (decode-graph g2) (decode-interface i1) (decode-interface i2) (none-foreign L (decode-interface i1) g1 (b2 .0) (c1 .0))
+            (none-foreign L (decode-interface i2) g2 (b4 .0) (c2 .0)));
+      }

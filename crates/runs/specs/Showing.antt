@@ -1,0 +1,52 @@
+-- The call "show": "The record of a joined node is shown in the file it came from, as six bytes of that file."
+use mathlib.Core.Path.{_≡_}
+use mathlib.Core.Bool.{Bool, cond}
+use mathlib.Core.List.{List, []}
+use mathlib.Core.Option.{Option, none}
+use Prim.Native.Nat.{ℕ, _+_, _-_, _≤_, _<_}
+use lib.Dec.{leb, ltb}
+use Rattle.files.specs.Decode.{decode-graph, node-rec}
+use Rattle.files.specs.Graph.{Graph, size, node}
+use Rattle.files.specs.Outcome.{Said, Outcome, Answer, refused-answer, Check, whole-check, file-checks, answered, Lines, whole-line, file-lines, verdict-answer, no-lines}
+use Rattle.files.specs.Record.{part, record-at, six}
+use Rattle.files.specs.Refusal.{graph, refusal}
+use Rattle.files.specs.declared.record.Limits.{Limits}
+use Rattle.files.specs.declared.record.Record.{Record}
+use Rattle.runs.specs.Join.{join}
+use Rattle.runs.specs.declared.answers.Shown.the-variants.{Part, Refused}
+use Rattle.runs.specs.declared.answers.Shown.{Shown}
+pub mod Laws
+
+-- the paper's number and values for each case
+abbrev pub shown-answer : Shown → Answer
+shown-answer Part = verdict-answer 1 []
+shown-answer (Refused r) = refused-answer r
+
+-- "Showing takes two graphs and a number."
+module _ (L : Limits) (g1 g2 : List ℕ) (number : ℕ) where
+  abbrev pub show-size : ℕ
+  show-size = size (decode-graph g1) + size (decode-graph g2)
+
+  -- record `number` of the first file, or of the second, counted on from the first's nodes
+  abbrev pub show-part : List ℕ
+  show-part = cond (ltb number (size (decode-graph g1))) (part g1 number 1) (part g2 (number - size (decode-graph g1)) 1)
+
+  abbrev pub show-said : Said
+  show-said = record { verdict = 1; values = []; written = show-part }
+
+  -- "It refuses by 1 to 8, graphs in order, then by 7 with file 0 and record 0 when the number isn't below both node counts together"
+  abbrev pub show-checks : List Check
+  show-checks = file-checks L 1 graph g1 (file-checks L 2 graph g2 (whole-check 7 (leb show-size number) []))
+
+  abbrev pub show-lines : Lines
+  show-lines = file-lines L 1 graph g1 (file-lines L 2 graph g2 (whole-line 7 (show-size ≤ number) no-lines))
+
+  -- what the companion call answers
+  pub shown : Outcome
+  shown = answered show-checks show-said
+
+-- What showing says where it is not refused: the part is the record of the node of that number in the joined graph.
+pub record Shows (K G : Graph) (number : ℕ) (s : Said) : Type 0 where
+  pub verdict-one : s .verdict ≡ 1
+  pub in-range : number < size (join K G)
+  pub part-is : s .written ≡ six (node-rec (node (join K G) number))

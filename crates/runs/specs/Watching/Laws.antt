@@ -1,0 +1,102 @@
+-- Watching is refused by the first line of its published order that applies, and otherwise says what `Watches` says.
+use mathlib.Core.Path.{_≡_, refl, sym, ap, subst, _∙_}
+use mathlib.Core.Logic.{_⊎_, inl, inr, _↔_}
+use mathlib.Core.Bool.{Bool, true, false, not, cond}
+use mathlib.Core.List.{List, [], _∷_, List·Memᴰ}
+use mathlib.Core.Option.{Option, none, some}
+use Prim.Native.Nat.{ℕ, _≤_, _<_}
+use native.Mathlib.Omega.{arith}
+use lib.Dec.{T}
+use lib.ListN.{length}
+use Rattle.files.specs.Basics.Says.{says-lt}
+use Rattle.files.specs.Decode.{Filed, decode-graph, decode-interface, decode-rules, FiledRules}
+use Rattle.files.specs.Decode.Graphs.{decoded-filed}
+use Rattle.files.specs.Decode.RuleFiles.{decoded-rules}
+use Rattle.files.specs.Graph.{Graph, Edge, Flow}
+use Rattle.files.specs.Outcome.{Said, Outcome, refuses, says, refusal-at, NoneOf, FirstOf, Matches, NoStart}
+use Rattle.files.specs.Outcome.Laws.{whole-match, scan-match, files-match, out-match, refused-by, accepted-by, verdict-is, file-accepted, whole-none, none-e, says-no-start}
+use Rattle.files.specs.Refusal.{graph, rules, interface, refusal}
+use Rattle.files.specs.Rules.{Rule, Event, Monitor, watch}
+use Rattle.files.specs.Rules.Laws.{watch-small}
+use Rattle.files.specs.Sides.{ForeignAt, Unprovided}
+use Rattle.files.specs.Sides.Laws.{foreign-finds, says-unprovided}
+use Rattle.files.specs.declared.record.Limits.{Limits}
+use Rattle.runs.specs.Runs.{Bad, Clean}
+use Rattle.runs.specs.Summary.{clean}
+use Rattle.runs.specs.Summary.Table.{not-clean-bad, clean-no-bad}
+use Rattle.runs.specs.Summary.Trails.{trail, trail-bytes}
+use Rattle.runs.specs.Summary.Trails.Behind.{TrailShows}
+use Rattle.runs.specs.Summary.Trails.OneRun.{trail-shows}
+use Rattle.runs.specs.Watching.{watch-room, watch-said, watch-verdict, watch-checks, watch-lines, watched, Watches}
+
+-- ---- what the verdict says
+
+module _ (G : Graph) (mon : Monitor) (m : ℕ) (flow : Flow G) (labels-small : (e : Edge) → List·Memᴰ e (G .edges) → e .label < 9)
+    (mon-small : (q : ℕ) (v : Event) → q < 8 → mon q v < 8) where
+  pub watch-cases : (s : Said) → s ≡ watch-said G mon m → Watches G mon m s
+  unfolding watch-said
+  watch-cases s e = go (clean G mon m) refl e
+    where
+      go : (b : Bool) → clean G mon m ≡ b
+          → s ≡ cond b (record { verdict = 1; values = []; written = [] }) (record { verdict = 2; values = length (trail G mon m) ∷ []; written = trail-bytes G mon m })
+          → Watches G mon m s
+      go true c q =
+          let v : s .verdict ≡ 1 = ap (λ (x : Said). x .verdict) q in
+          let f : Clean G mon m = clean-no-bad G mon flow labels-small mon-small m (subst T (sym c) tt) in
+          record {
+            clean-iff = (λ x. f, λ x. v);
+            bad-iff = (λ x. absurd (omega arith), λ b. absurd (f b));
+            clean-writes = λ x. (ap (λ (x : Said). x .values) q, ap (λ (x : Said). x .written) q);
+            bad-writes = λ x. absurd (omega arith);
+            bad-shows = λ x. absurd (omega arith);
+          }
+      go false c q =
+          let v : s .verdict ≡ 2 = ap (λ (x : Said). x .verdict) q in
+          let b : Bad G mon m = not-clean-bad G mon flow labels-small mon-small m (subst (λ (b : Bool). T (not b)) (sym c) tt) in
+          record {
+            clean-iff = (λ x. absurd (omega arith), λ f. absurd (f b));
+            bad-iff = (λ x. b, λ x. v);
+            clean-writes = λ x. absurd (omega arith);
+            bad-writes = λ x. (ap (λ (x : Said). x .values) q, ap (λ (x : Said). x .written) q);
+            bad-shows = λ x. trail-shows G mon flow labels-small mon-small m b;
+          }
+
+-- labels and states of accepted files are small
+pub filed-labels : (L : Limits) (G : Graph) → Filed L G → (e : Edge) → List·Memᴰ e (G .edges) → e .label < 9
+filed-labels L G f e m = let a = f .labels e m in omega arith
+
+pub filed-monitor : (us : List Rule) → FiledRules us → (q : ℕ) (v : Event) → q < 8 → watch us q v < 8
+filed-monitor us f = watch-small us (λ u m. let a = f .rules-in u m .next-in in omega arith)
+
+-- ---- the call
+
+module _ (L : Limits) (i g r : List ℕ) (m out work : ℕ) where
+  abbrev said : Said
+  said = watch-verdict L i g r m out work
+
+  watch-match : Matches (watch-checks L i g r m out work) (watch-lines L i g r m out work)
+  watch-match =
+      whole-match 13 _ (work < watch-room) (says-lt work watch-room) _ _ (files-match L 1 interface i _ _ (files-match L 2 graph g _ _ (files-match L 3 rules r _ _
+      (whole-match 3 _ _ (says-no-start m) _ _ (scan-match 9 2 _ _ (foreign-finds (decode-interface i) g) _ _
+      (whole-match 10 _ _ (says-unprovided (decode-interface i) m) _ _ (out-match out said)))))))
+
+  -- refused, by number, file and record, exactly where that comes first in the published order
+  pub watch-refused : (n f k : ℕ) → (watched L i g r m out work ≡ refuses (refusal-at n f k)) ↔ FirstOf (watch-lines L i g r m out work) n f k
+  unfolding watched
+  watch-refused = refused-by _ _ watch-match said
+
+  -- accepted exactly where nothing applies
+  pub watch-accepted : (watched L i g r m out work ≡ says said) ↔ NoneOf (watch-lines L i g r m out work)
+  unfolding watched
+  watch-accepted = accepted-by _ _ watch-match said
+
+  -- Whatever the bytes, the start method and the lengths: what watching says where it is not refused.
+  pub watch-says : (s : Said) → watched L i g r m out work ≡ says s → Watches (decode-graph g) (watch (decode-rules r)) m s
+  unfolding watched
+  watch-says s e =
+      let a = verdict-is _ _ watch-match said s e in
+      let b1 = file-accepted L 1 interface i _ ((whole-none 13 _ _ (a .1)) .1) in
+      let b2 = file-accepted L 2 graph g _ (b1 .1) in
+      let b3 = file-accepted L 3 rules r _ (b2 .1) in
+      let f = decoded-filed L g (b2 .0) in
+      watch-cases (decode-graph g) (watch (decode-rules r)) m (f .flow) (filed-labels L (decode-graph g) f) (filed-monitor (decode-rules r) (decoded-rules L r (b3 .0))) s (a .0)
