@@ -14,7 +14,7 @@ pub record Interface : Type 0 where
   pub required : ℕ
 
 -- method m is in the set
-pub in-set : ℕ → ℕ → Bool
+abbrev pub in-set : ℕ → ℕ → Bool
 in-set x m = ltb 0 m && (ltb m 9 && eqb (x / 2 ^ (m - 1) % 2) 1)
 
 abbrev pub provides : Interface → ℕ → Bool

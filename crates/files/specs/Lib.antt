@@ -5,6 +5,7 @@ pub mod Graph
 pub mod Property
 pub mod Interface
 pub mod Rules
+pub mod Course
 pub mod Refusal
 pub mod Table
 pub mod Decode

@@ -5,6 +5,7 @@ use mathlib.Core.Option.{Option, none, some}
 use Prim.Native.Nat.{ℕ}
 use lib.Dec.{eqb}
 pub mod Laws
+pub mod Examples
 
 -- "event (1 call, 2 return), m1, m2"
 pub record Event : Type 0 where

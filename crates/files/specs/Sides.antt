@@ -13,6 +13,7 @@ use Rattle.files.specs.Record.{record-at, kind-at, count}
 use Rattle.files.specs.Interface.{Interface, provides, requires-method}
 use Rattle.files.specs.Refusal.{of-kind}
 pub mod Laws
+pub mod Examples
 
 -- 9: "graph not of its interface": record i is a node whose method is not provided, or an edge that calls a method that is not required
 abbrev pub foreign : Interface → List ℕ → ℕ → Bool

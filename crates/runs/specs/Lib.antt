@@ -7,3 +7,4 @@ pub mod Showing
 pub mod Watching
 pub mod Composing
 pub mod Verdict
+pub mod Examples

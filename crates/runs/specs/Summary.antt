@@ -11,7 +11,9 @@ use Rattle.files.specs.Basics.Tests.{any}
 use Rattle.files.specs.Graph.{Graph, Edge, size, node}
 use Rattle.files.specs.Rules.{calls, returns-to, Monitor}
 use Rattle.runs.specs.Runs.{meth, EntryOf, Runs}
+pub mod Frames
 pub mod Exact
+pub mod Balanced
 pub mod Table
 pub mod Trails
 

@@ -20,9 +20,9 @@ use Rattle.files.specs.Basics.Tests.{at-most}
 
 -- ---- no line applies, line by line
 
-pub none-no-lines : NoneOf no-lines
+pub none-end : NoneOf no-lines
 unfolding NoneOf
-none-no-lines = tt
+none-end = tt
 
 pub none-i : (n f : ℕ) (A : ℕ → Type 0) (ls : Lines) → ((j : ℕ) → A j → ⊥) → NoneOf ls → NoneOf (line n f A ls)
 unfolding NoneOf

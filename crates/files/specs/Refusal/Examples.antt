@@ -7,6 +7,7 @@ use lib.ListN.{replicate}
 use Rattle.files.specs.Limits.{desk}
 use Rattle.files.specs.Refusal.{graph, property, rules, interface, findings, refusal}
 use Rattle.files.specs.declared.record.Limits.{Limits}
+use Rattle.files.specs.Course.{one-one-file, one-none-file, p1-file, or-file, false-file, return-file, box-file, entry-file, call-file, returning-file, cycle-file, loop-file, return-rule-file}
 
 abbrev rec6 : ℕ → ℕ → ℕ → ℕ → ℕ → ℕ → List ℕ
 rec6 a b c d e f = a ∷ b ∷ c ∷ d ∷ e ∷ f ∷ []
@@ -71,3 +72,65 @@ seven-past = refl
 pub eight-methods : refusal desk graph (nd 1 ++ nd 2 ++ ed 0 0 1) ≡ some (8, 2)
 unfolding refusal findings
 eight-methods = refl
+
+-- ---- the files of the course examples are accepted
+
+pub empty-accepted : refusal desk graph [] ≡ none
+unfolding refusal findings
+empty-accepted = refl
+
+pub entry-accepted : refusal desk graph entry-file ≡ none
+unfolding refusal findings
+entry-accepted = refl
+
+pub call-accepted : refusal desk graph call-file ≡ none
+unfolding refusal findings
+call-accepted = refl
+
+pub returning-accepted : refusal desk graph returning-file ≡ none
+unfolding refusal findings
+returning-accepted = refl
+
+pub cycle-accepted : refusal desk graph cycle-file ≡ none
+unfolding refusal findings
+cycle-accepted = refl
+
+pub loop-accepted : refusal desk graph loop-file ≡ none
+unfolding refusal findings
+loop-accepted = refl
+
+pub p1-accepted : refusal desk property p1-file ≡ none
+unfolding refusal findings
+p1-accepted = refl
+
+pub or-accepted : refusal desk property or-file ≡ none
+unfolding refusal findings
+or-accepted = refl
+
+pub false-accepted : refusal desk property false-file ≡ none
+unfolding refusal findings
+false-accepted = refl
+
+pub return-accepted : refusal desk property return-file ≡ none
+unfolding refusal findings
+return-accepted = refl
+
+pub box-zero-accepted : refusal desk property (box-file 0) ≡ none
+unfolding refusal findings
+box-zero-accepted = refl
+
+pub box-one-accepted : refusal desk property (box-file 1) ≡ none
+unfolding refusal findings
+box-one-accepted = refl
+
+pub one-one-accepted : refusal desk interface one-one-file ≡ none
+unfolding refusal findings
+one-one-accepted = refl
+
+pub one-none-accepted : refusal desk interface one-none-file ≡ none
+unfolding refusal findings
+one-none-accepted = refl
+
+pub rules-accepted : refusal desk rules return-rule-file ≡ none
+unfolding refusal findings
+rules-accepted = refl

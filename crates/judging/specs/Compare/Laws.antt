@@ -1,10 +1,10 @@
 -- Comparing is refused by the first line of its published order that applies, and otherwise says what `Compares` says.
-use mathlib.Core.Path.{_≡_, refl, sym, ap, subst, _∙_}
+use mathlib.Core.Path.{_≡_, refl, sym, ap, ap₂, subst, _∙_}
 use mathlib.Core.Logic.{_⊎_, inl, inr, _↔_}
 use mathlib.Core.Bool.{Bool, true, false, not, cond}
 use mathlib.Core.List.{List, [], _∷_}
 use mathlib.Core.Option.{Option, none, some}
-use Prim.Native.Nat.{ℕ, _<_}
+use Prim.Native.Nat.{ℕ, _≤_, _<_}
 use native.Mathlib.Omega.{arith}
 use lib.Dec.{T, T-not}
 use lib.ListN.{length}
@@ -13,7 +13,7 @@ use Rattle.files.specs.Decode.{decode-graph}
 use Rattle.files.specs.Decode.Graphs.{decoded-flow}
 use Rattle.files.specs.Graph.{Graph, Flow, node, size}
 use Rattle.files.specs.Outcome.{Said, Outcome, refuses, says, refusal-at, NoneOf, FirstOf, Matches, out-check, out-line, file-lines}
-use Rattle.files.specs.Outcome.Laws.{whole-match, files-match, out-match, refused-by, accepted-by, verdict-is, file-accepted, whole-none}
+use Rattle.files.specs.Outcome.Laws.{whole-match, files-match, out-match, refused-by, accepted-by, verdict-is, file-accepted, whole-none, whole-none-i, file-none, none-end}
 use Rattle.files.specs.Refusal.{graph, refusal}
 use Rattle.files.specs.declared.record.Limits.{Limits}
 use Rattle.judging.specs.Compare.{compare-room, compare-said, compare-verdict, compare-checks, compare-lines, compared, Compares}
@@ -88,3 +88,24 @@ pub compare-says : (L : Limits) (g h : List ℕ) (out work : ℕ) (s : Said) →
 compare-says L g h out work s e =
     let a = compare-files L g h out work s e in
     compare-cases (decode-graph g) (decode-graph h) s (decoded-flow L g (a .1)) (decoded-flow L h (a .2)) (a .0)
+
+-- ---- of accepted files
+
+-- whatever files are accepted, with room enough, get the verdict of what they hold
+pub compare-on : (L : Limits) (g h : List ℕ) (out work : ℕ) (G H : Graph) (s : Said) → refusal L graph g ≡ none → refusal L graph h ≡ none
+    → decode-graph g ≡ G → decode-graph h ≡ H → compare-said G H ≡ s → length (s .written) ≤ out → compare-room ≤ work → compared L g h out work ≡ says s
+compare-on L g h out work G H s a b c d e o w =
+    compare-accepted L g h out work .1 (whole-none-i 13 _ _ (λ x. absurd (omega arith)) (file-none L 1 graph g _ a (file-none L 2 graph h _ b
+    (whole-none-i 12 _ _ (λ x. absurd (omega (arith, ap (λ (x : Said). length (x .written)) said))) none-end))))
+    ∙ ap says said
+  where
+    said : compare-said (decode-graph g) (decode-graph h) ≡ s
+    said = ap₂ compare-said c d ∙ e
+
+pub yes-said : (G H : Graph) → simulates G H ≡ true → compare-said G H ≡ record { verdict = 1; values = []; written = relation-bytes G H }
+unfolding compare-said
+yes-said G H e = ap (λ (b : Bool). cond b (record { verdict = 1; values = []; written = relation-bytes G H }) (record { verdict = 2; values = uncovered G H ∷ []; written = relation-bytes G H })) e
+
+pub no-said : (G H : Graph) → simulates G H ≡ false → compare-said G H ≡ record { verdict = 2; values = uncovered G H ∷ []; written = relation-bytes G H }
+unfolding compare-said
+no-said G H e = ap (λ (b : Bool). cond b (record { verdict = 1; values = []; written = relation-bytes G H }) (record { verdict = 2; values = uncovered G H ∷ []; written = relation-bytes G H })) e

@@ -1,10 +1,10 @@
 -- Judging is refused by the first line of its published order that applies, and otherwise says what `Judges` says.
-use mathlib.Core.Path.{_≡_, refl, sym, ap, subst, _∙_}
+use mathlib.Core.Path.{_≡_, refl, sym, ap, ap₂, subst, _∙_}
 use mathlib.Core.Logic.{_⊎_, inl, inr, _↔_}
 use mathlib.Core.Bool.{Bool, true, false, cond}
 use mathlib.Core.List.{List, [], _∷_}
 use mathlib.Core.Option.{Option, none, some}
-use Prim.Native.Nat.{ℕ, _<_}
+use Prim.Native.Nat.{ℕ, _≤_, _<_}
 use native.Mathlib.Omega.{arith}
 use lib.Dec.{T}
 use lib.ListN.{length}
@@ -14,7 +14,7 @@ use Rattle.files.specs.Decode.Graphs.{decoded-flow}
 use Rattle.files.specs.Decode.Properties.{decoded-property}
 use Rattle.files.specs.Graph.{Graph, Flow}
 use Rattle.files.specs.Outcome.{Said, Outcome, refuses, says, refusal-at, NoneOf, FirstOf, Matches, out-check, out-line, file-lines}
-use Rattle.files.specs.Outcome.Laws.{whole-match, files-match, out-match, refused-by, accepted-by, verdict-is, file-accepted, whole-none}
+use Rattle.files.specs.Outcome.Laws.{whole-match, files-match, out-match, refused-by, accepted-by, verdict-is, file-accepted, whole-none, whole-none-i, file-none, none-end}
 use Rattle.files.specs.Property.{Row, Property}
 use Rattle.files.specs.Refusal.{graph, property, refusal}
 use Rattle.files.specs.declared.record.Limits.{Limits}
@@ -82,3 +82,24 @@ pub judge-says : (L : Limits) (g p : List ℕ) (out work : ℕ) (s : Said) → j
 judge-says L g p out work s e =
     let a = judge-files L g p out work s e in
     judge-cases (decode-graph g) (decode-property p) s (decoded-flow L g (a .1)) ((decoded-property L p (a .2)) .rows-named) (a .0)
+
+-- ---- of accepted files
+
+-- whatever files are accepted, with room enough, get the verdict of what they hold
+pub judge-on : (L : Limits) (g p : List ℕ) (out work : ℕ) (G : Graph) (P : List Row) (s : Said) → refusal L graph g ≡ none → refusal L property p ≡ none
+    → decode-graph g ≡ G → decode-property p ≡ P → judge-said G P ≡ s → length (s .written) ≤ out → judge-room ≤ work → judged L g p out work ≡ says s
+judge-on L g p out work G P s a b c d e o w =
+    judge-accepted L g p out work .1 (whole-none-i 13 _ _ (λ h. absurd (omega arith)) (file-none L 1 graph g _ a (file-none L 2 property p _ b
+    (whole-none-i 12 _ _ (λ h. absurd (omega (arith, ap (λ (x : Said). length (x .written)) said))) none-end))))
+    ∙ ap says said
+  where
+    said : judge-said (decode-graph g) (decode-property p) ≡ s
+    said = ap₂ judge-said c d ∙ e
+
+pub holds-said : (G : Graph) (P : List Row) → satisfies G P ≡ true → judge-said G P ≡ record { verdict = 1; values = []; written = [] }
+unfolding judge-said
+holds-said G P e = ap (λ (b : Bool). cond b (record { verdict = 1; values = []; written = [] }) (record { verdict = 2; values = length (sheet G P) ∷ []; written = sheet-bytes G P })) e
+
+pub fails-said : (G : Graph) (P : List Row) → satisfies G P ≡ false → judge-said G P ≡ record { verdict = 2; values = length (sheet G P) ∷ []; written = sheet-bytes G P }
+unfolding judge-said
+fails-said G P e = ap (λ (b : Bool). cond b (record { verdict = 1; values = []; written = [] }) (record { verdict = 2; values = length (sheet G P) ∷ []; written = sheet-bytes G P })) e

@@ -1,5 +1,5 @@
 -- Modelling is refused by the first line of its published order that applies, and otherwise says what `Models` says.
-use mathlib.Core.Path.{_≡_, refl, sym, ap, subst, _∙_}
+use mathlib.Core.Path.{_≡_, refl, sym, ap, ap₂, subst, _∙_}
 use mathlib.Core.Logic.{_⊎_, inl, inr, _↔_, Iff·trans}
 use mathlib.Core.List.{List, [], _∷_}
 use mathlib.Core.Option.{Option, none, some}
@@ -15,7 +15,7 @@ use Rattle.files.specs.Decode.Written.{decode-bytes}
 use Rattle.files.specs.Graph.{Graph, Flow, size}
 use Rattle.files.specs.Interface.{Interface, Of}
 use Rattle.files.specs.Outcome.{Said, Outcome, refuses, says, refusal-at, NoneOf, FirstOf, Matches, TooLarge, graph-said}
-use Rattle.files.specs.Outcome.Laws.{whole-match, files-match, out-match, refused-by, accepted-by, verdict-is, file-accepted, whole-none, says-too-large, small-enough}
+use Rattle.files.specs.Outcome.Laws.{whole-match, files-match, out-match, refused-by, accepted-by, verdict-is, file-accepted, whole-none, says-too-large, small-enough, whole-none-i, file-none, none-end}
 use Rattle.files.specs.Property.{Row, Property}
 use Rattle.files.specs.Refusal.{graph, property, interface, refusal}
 use Rattle.files.specs.declared.record.Limits.{Limits}
@@ -88,3 +88,17 @@ pub model-says : (L : Limits) (i p : List ℕ) (out work : ℕ) (s : Said) → m
 model-says L i p out work s e =
     let a = model-files L i p out work s e in
     model-cases L (decode-interface i) (decode-property p) s ((decoded-property L p (a .2)) .rows-named) (a .3) (a .0)
+
+-- ---- of accepted files
+
+-- whatever files are accepted, where the model is within the limits and there is room enough, get the model of what they hold
+pub model-on : (L : Limits) (i p : List ℕ) (out work : ℕ) (I : Interface) (P : List Row) (G : Graph) → refusal L interface i ≡ none → refusal L property p ≡ none
+    → decode-interface i ≡ I → decode-property p ≡ P → model I P ≡ G → (TooLarge L G → ⊥) → length (graph-bytes G) ≤ out → model-room ≤ work
+    → modelled L i p out work ≡ says (graph-said G [])
+model-on L i p out work I P G a b c d e small o w =
+    model-accepted L i p out work .1 (whole-none-i 13 _ _ (λ h. absurd (omega arith)) (file-none L 1 interface i _ a (file-none L 2 property p _ b
+    (whole-none-i 11 _ _ (λ h. small (subst (TooLarge L) same h)) (whole-none-i 12 _ _ (λ h. absurd (omega (arith, ap (λ (x : Graph). length (graph-bytes x)) same))) none-end)))))
+    ∙ ap (λ (x : Graph). says (graph-said x [])) same
+  where
+    same : model (decode-interface i) (decode-property p) ≡ G
+    same = ap₂ model c d ∙ e

@@ -184,8 +184,8 @@ module _ (K G : Graph) where
       meths i h = go (join-node i h)
         where
           go : ((i < size K) × (node (join K G) i ≡ node K i)) ⊎ ((j : ℕ) × (j < size G) × (node (join K G) i ≡ node G j)) → T (provides (united I J) ((node (join K G) i) .method))
-          go (inl a) = subst (λ (v : Node). T (provides (united I J) (v .method))) (sym (a .1)) (provided-in _ (inl (ok .methods i (a .0))))
-          go (inr a) = subst (λ (v : Node). T (provides (united I J) (v .method))) (sym (a .2)) (provided-in _ (inr (og .methods (a .0) (a .1))))
+          go (inl a) = subst (λ (v : Node). T (provides (united I J) (v .method))) (sym (a .1)) (provided-in ((node K i) .method) (inl (ok .methods i (a .0))))
+          go (inr a) = subst (λ (v : Node). T (provides (united I J) (v .method))) (sym (a .2)) (provided-in ((node G (a .0)) .method) (inr (og .methods (a .0) (a .1))))
 
       labelled-in : (l : ℕ) → Labelled I l ⊎ Labelled J l → Labelled (united I J) l
       labelled-in l (inl (inl e)) = inl e

@@ -1,5 +1,5 @@
 -- Watching is refused by the first line of its published order that applies, and otherwise says what `Watches` says.
-use mathlib.Core.Path.{_≡_, refl, sym, ap, subst, _∙_}
+use mathlib.Core.Path.{_≡_, refl, sym, ap, ap₂, subst, _∙_}
 use mathlib.Core.Logic.{_⊎_, inl, inr, _↔_}
 use mathlib.Core.Bool.{Bool, true, false, not, cond}
 use mathlib.Core.List.{List, [], _∷_, List·Memᴰ}
@@ -14,11 +14,11 @@ use Rattle.files.specs.Decode.Graphs.{decoded-filed}
 use Rattle.files.specs.Decode.RuleFiles.{decoded-rules}
 use Rattle.files.specs.Graph.{Graph, Edge, Flow}
 use Rattle.files.specs.Outcome.{Said, Outcome, refuses, says, refusal-at, NoneOf, FirstOf, Matches, NoStart}
-use Rattle.files.specs.Outcome.Laws.{whole-match, scan-match, files-match, out-match, refused-by, accepted-by, verdict-is, file-accepted, whole-none, none-e, says-no-start}
+use Rattle.files.specs.Outcome.Laws.{whole-match, scan-match, files-match, out-match, refused-by, accepted-by, verdict-is, file-accepted, whole-none, none-e, says-no-start, whole-none-i, file-none, none-i, none-end}
 use Rattle.files.specs.Refusal.{graph, rules, interface, refusal}
 use Rattle.files.specs.Rules.{Rule, Event, Monitor, watch}
 use Rattle.files.specs.Rules.Laws.{watch-small}
-use Rattle.files.specs.Sides.{ForeignAt, Unprovided}
+use Rattle.files.specs.Sides.{ForeignAt, Unprovided, first-foreign, unprovided}
 use Rattle.files.specs.Sides.Laws.{foreign-finds, says-unprovided}
 use Rattle.files.specs.declared.record.Limits.{Limits}
 use Rattle.runs.specs.Runs.{Bad, Clean}
@@ -28,6 +28,9 @@ use Rattle.runs.specs.Summary.Trails.{trail, trail-bytes}
 use Rattle.runs.specs.Summary.Trails.Behind.{TrailShows}
 use Rattle.runs.specs.Summary.Trails.OneRun.{trail-shows}
 use Rattle.runs.specs.Watching.{watch-room, watch-said, watch-verdict, watch-checks, watch-lines, watched, Watches}
+use Rattle.files.specs.Interface.{Interface}
+use Rattle.files.specs.Basics.First.{Finds}
+use Rattle.files.specs.Basics.Says.{Says}
 
 -- ---- what the verdict says
 
@@ -100,3 +103,36 @@ module _ (L : Limits) (i g r : List ℕ) (m out work : ℕ) where
       let b3 = file-accepted L 3 rules r _ (b2 .1) in
       let f = decoded-filed L g (b2 .0) in
       watch-cases (decode-graph g) (watch (decode-rules r)) m (f .flow) (filed-labels L (decode-graph g) f) (filed-monitor (decode-rules r) (decoded-rules L r (b3 .0))) s (a .0)
+
+-- ---- of accepted files
+
+pub clean-said : (G : Graph) (mon : Monitor) (m : ℕ) → clean G mon m ≡ true → watch-said G mon m ≡ record { verdict = 1; values = []; written = [] }
+unfolding watch-said
+clean-said G mon m e =
+    ap (λ (b : Bool). cond b (record { verdict = 1; values = []; written = [] }) (record { verdict = 2; values = length (trail G mon m) ∷ []; written = trail-bytes G mon m })) e
+
+pub bad-said : (G : Graph) (mon : Monitor) (m : ℕ) → clean G mon m ≡ false → watch-said G mon m ≡ record { verdict = 2; values = length (trail G mon m) ∷ []; written = trail-bytes G mon m }
+unfolding watch-said
+bad-said G mon m e =
+    ap (λ (b : Bool). cond b (record { verdict = 1; values = []; written = [] }) (record { verdict = 2; values = length (trail G mon m) ∷ []; written = trail-bytes G mon m })) e
+
+-- whatever files are accepted, of one interface that provides what is required, with room enough, get the verdict of what they hold
+pub watch-on : (L : Limits) (i g r : List ℕ) (m out work : ℕ) (I : Interface) (G : Graph) (mon : Monitor) (s : Said)
+    → refusal L interface i ≡ none → refusal L graph g ≡ none → refusal L rules r ≡ none → (NoStart m → ⊥)
+    → decode-interface i ≡ I → decode-graph g ≡ G → _≡_ {A = Monitor} (watch (decode-rules r)) mon → first-foreign I g ≡ none → unprovided I m ≡ false
+    → watch-said G mon m ≡ s → length (s .written) ≤ out → watch-room ≤ work → watched L i g r m out work ≡ says s
+watch-on L i g r m out work I G mon s a b c st d e f fo un q o w =
+    watch-accepted L i g r m out work .1
+    (whole-none-i 13 _ _ (λ x. absurd (omega arith)) (file-none L 1 interface i _ a (file-none L 2 graph g _ b (file-none L 3 rules r _ c
+    (whole-none-i 3 _ _ st (none-i 9 2 _ _ not-foreign (whole-none-i 10 _ _ provided
+    (whole-none-i 12 _ _ (λ x. absurd (omega (arith, ap (λ (y : Said). length (y .written)) same))) none-end))))))))
+    ∙ ap says same
+  where
+    same : watch-said (decode-graph g) (watch (decode-rules r)) m ≡ s
+    same = ap₂ (λ (x : Graph) (y : Monitor). watch-said x y m) e f ∙ q
+
+    not-foreign : (k : ℕ) → ForeignAt (decode-interface i) g k → ⊥
+    not-foreign = subst (λ (x : Option ℕ). Finds x (ForeignAt (decode-interface i) g)) (ap (λ (x : Interface). first-foreign x g) d ∙ fo) (foreign-finds (decode-interface i) g)
+
+    provided : Unprovided (decode-interface i) m → ⊥
+    provided x = subst T (ap (λ (y : Interface). unprovided y m) d ∙ un) (says-unprovided (decode-interface i) m .hear x)

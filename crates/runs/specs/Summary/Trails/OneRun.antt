@@ -1,7 +1,7 @@
 -- For every valid trail there is one run that passes its pairs of a node and a state in order.
 use mathlib.Core.Path.{_≡_, refl, sym, ap, subst, subst₂, _∙_}
 use mathlib.Core.Logic.{_⊎_, inl, inr}
-use mathlib.Core.List.{List, [], _∷_, _++_, List·Memᴰ, append-assoc, head-eq-of-cons-eq}
+use mathlib.Core.List.{List, [], _∷_, List·Memᴰ, head-eq-of-cons-eq}
 use Prim.Native.Nat.{ℕ, zero, suc, _<_}
 use native.Mathlib.Omega.{arith}
 use lib.Dec.{T, eqb, eqb→eq}
@@ -9,9 +9,10 @@ use Rattle.files.specs.Basics.Shortest.{To, there, by}
 use Rattle.files.specs.Basics.Tests.{eq-eqb}
 use Rattle.files.specs.Graph.{Graph, Edge, size, node, Flow}
 use Rattle.files.specs.Rules.{Event, calls, returns-to, Monitor}
-use Rattle.runs.specs.Runs.{Config, plain, meth, EntryOf, Runs, Step, internal, call, return, Run, start, then, cfg, On, Above, stay, next-step, Bad}
+use Rattle.runs.specs.Runs.{Config, plain, meth, EntryOf, Runs, Step, internal, call, return, Run, start, then, cfg, Above, stay, next-step, Bad}
 use Rattle.runs.specs.Summary.Trails.Behind.{TrailShows}
-use Rattle.runs.specs.Summary.{Inside, enter, inner, over, Place, callee, spots}
+use Rattle.runs.specs.Summary.{Inside, Place, callee, spots}
+use Rattle.runs.specs.Summary.Balanced.{inside-above}
 use Rattle.runs.specs.Summary.Table.{Moves, by-step, by-call, passes-e, into-is, into, spots-sound}
 use Rattle.runs.specs.Summary.Trails.{Rec, trail-rec-bytes, Where, before, here, end, is-bad, started, leaving, trail}
 use Rattle.runs.specs.Summary.Trails.Behind.{Meets, Part, internal-step, call-step, whole-call, Chain, no-more, and-then, Valid, ends, goes, Stands, OneRun}
@@ -19,33 +20,7 @@ use Rattle.runs.specs.Summary.Trails.Laws.{Leaves, steps-on, goes-in, go
 use lib.ListN.{length}
 
 module _ (G : Graph) (mon : Monitor) where
-  above-join : (s : List ℕ) (c d e : Config) → Above G (plain G) mon s c d → Above G (plain G) mon s d e → Above G (plain G) mon s c e
-  above-join s c d e a (stay h) = a
-  above-join s c d e a (next-step d′ e′ b t h) = next-step d′ e′ (above-join s c d d′ a b) t h
-
-  on-less : (t : ℕ) (s v : List ℕ) → On (t ∷ s) v → On s v
-  on-less t s v h = (h .0 ++ t ∷ [], h .1 ∙ sym (append-assoc (h .0) (t ∷ []) s))
-
-  above-less : (t : ℕ) (s : List ℕ) (c d : Config) → Above G (plain G) mon (t ∷ s) c d → Above G (plain G) mon s c d
-  above-less t s c d (stay h) = stay (on-less t s (c .stack) h)
-  above-less t s c d (next-step d′ e′ a x h) = next-step d′ e′ (above-less t s c d′ a) x (on-less t s (e′ .stack) h)
-
-  -- a run inside a method, from one of its entries, on any stack
-  inside-above : (m p g q : ℕ) → Inside G mon m p g q → (n : ℕ) × EntryOf G m n × ((s : List ℕ) → Above G (plain G) mon s (cfg n s p) (cfg g s q))
-  inside-above m p g q (enter m′ p′ n e) = (n, e, λ s. stay ([], refl))
-  inside-above m p g q (inner m′ p′ g′ q′ e i r z) =
-      let a = inside-above m′ p′ g′ q′ i in (a .0, a .1, λ s. next-step (cfg g′ s q′) _ (a .2 s) (internal e r z) ([], refl))
-  inside-above m p g q (over m′ p′ g′ q′ e r t i x z j b) =
-      let a = inside-above m′ p′ g′ q′ i in
-      let c = inside-above (e .label) _ r t j in (
-        a .0,
-        a .1,
-        λ s. next-step (cfg r (e .to ∷ s) t) _
-            (above-join s _ _ _ (next-step (cfg g′ s q′) _ (a .2 s) (call e (c .0) x z (c .1)) (e .to ∷ [], refl)) (above-less (e .to) s _ _ (c .2 (e .to ∷ s))))
-            (return (e .to) s b refl) ([], refl),
-      )
-
-  -- it prolongs any run to c
+  -- a run above some stack prolongs any run to where it starts
   above-run : (m : ℕ) (s : List ℕ) (c d : Config) → Run G (plain G) mon m c → Above G (plain G) mon s c d → Run G (plain G) mon m d
   above-run m s c d r (stay h) = r
   above-run m s c d r (next-step d′ e′ a x h) = then (above-run m s c d′ r a) x
