@@ -80,7 +80,7 @@ wrong r = (eqb (r .kind) 1 && node-wrong r) || ((eqb (r .kind) 2 && edge-wrong r
 
 -- ---- the record parsed
 
-unfoldable pub parsed : Record → Parsed
+pub parsed : Record → Parsed
 parsed r =
     cond (wrong r) Wrong
     (cond (eqb (r .kind) 1) (Node (r .first) (eqb (r .second) 1) (eqb (r .third) 1))

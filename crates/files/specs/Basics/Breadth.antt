@@ -106,14 +106,12 @@ module _ {X : Type 0} (same : X → X → Bool) (same-e : (x y : X) → T (same 
       close-on y z (inr m) (inr i) e w = let b = (new y m) .1 e w in (suc d, omega arith, (new z i) .0)
 
   walk-ordered : (k : ℕ) (seen queue : List X) → Ordered seen queue k → Ascends (Nearer next s) (walk same next k seen queue)
-  unfolding walk
   walk-ordered zero seen queue o = o .seen-order
   walk-ordered (suc k) seen [] o = o .seen-order
   walk-ordered (suc k) seen (x ∷ queue) o = walk-ordered k (seen ++ fresh same seen (next x)) (queue ++ fresh same seen (next x)) (one-ordered seen x queue k o)
 
   -- No element is farther from the start than one that stands after it.
   pub in-order : Ascends (Nearer next s) (breadth-first same next (length ps) s)
-  unfolding breadth-first
   in-order = walk-ordered (length ps) (s ∷ []) (s ∷ []) (record {
     sound = at-first same same-e same-refl next s ps met-in;
     has-start = List·Memᴰ·head refl;

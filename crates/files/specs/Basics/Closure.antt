@@ -49,7 +49,7 @@ module _ {X : Type 0} where
 
 module _ {X : Type 0} (xs : List X) (rule : List X → X → Bool) where
   -- Rounds from ys on, each the points that the rule gives from those before, until one adds nothing or k are done. (The rest waits in a `let`.)
-  unfoldable pub from : ℕ → List X → List X
+  abbrev pub from : ℕ → List X → List X
   from zero ys = ys
   from (suc k) ys =
       let zs = keep (rule ys) xs in
@@ -57,14 +57,13 @@ module _ {X : Type 0} (xs : List X) (rule : List X → X → Bool) where
       cond (eqb (length zs) (length ys)) ys rest
 
   -- as many rounds as there are points
-  unfoldable pub closed : List X
+  abbrev pub closed : List X
   closed = from (length xs) []
 
   -- ---- what holds of each point that the rule gives from points of which it holds, holds of every point of the closed set
 
   module _ (Q : X → Type 0) (step : (ys : List X) → ((y : X) → List·Memᴰ y ys → Q y) → (x : X) → List·Memᴰ x xs → T (rule ys x) → Q x) where
     from-ind : (k : ℕ) (ys : List X) → ((y : X) → List·Memᴰ y ys → Q y) → (x : X) → List·Memᴰ x (from k ys) → Q x
-    unfolding from
     from-ind zero ys f x m = f x m
     from-ind (suc k) ys f x m =
         go (eqb (length (keep (rule ys) xs)) (length ys)) (λ n. from-ind k (keep (rule ys) xs) (λ y j. let a = keep-e (rule ys) xs y j in step ys f y (a .0) (a .1)) x n) m
@@ -74,7 +73,6 @@ module _ {X : Type 0} (xs : List X) (rule : List X → X → Bool) where
         go false g n = g n
 
     pub closed-ind : (x : X) → List·Memᴰ x closed → Q x
-    unfolding closed
     closed-ind x m = from-ind (length xs) [] (λ y n. absurd (List·Memᴰ·not-nil n)) x m
 
   -- ---- it is closed under the rule
@@ -122,7 +120,7 @@ module _ {X : Type 0} (xs : List X) (rule : List X → X → Bool) where
     given-grows (suc k) x m t = given-mono k (suc k) (given-grows k) x m t
 
     from-rounds : (k j : ℕ) → from k (rounds j) ≡ rounds (k + j)
-    unfolding from rounds given
+    unfolding rounds given
     from-rounds zero j = ap rounds (sym (zero-add j))
     from-rounds (suc k) j = go (eqb (length (rounds (suc j))) (length (rounds j))) refl (from-rounds k (suc j))
       where
@@ -136,7 +134,7 @@ module _ {X : Type 0} (xs : List X) (rule : List X → X → Bool) where
         go false e ih = let n : k + suc j ≡ suc k + j = omega arith in ih ∙ ap rounds n
 
     closed-rounds : closed ≡ rounds (length xs)
-    unfolding closed rounds
+    unfolding rounds
     closed-rounds = from-rounds (length xs) zero ∙ ap rounds (add-zero (length xs))
 
     pub closed-in : (x : X) → List·Memᴰ x closed → List·Memᴰ x xs

@@ -48,7 +48,6 @@ module _ {X : Type 0} (lt : X → X → Type 0) where
 
   -- the least closed set stands in the order of the points
   from-ascends : (xs : List X) (rule : List X → X → Bool) → Ascends xs → (k : ℕ) (ys : List X) → Ascends ys → Ascends (from xs rule k ys)
-  unfolding from
   from-ascends xs rule a zero ys b = b
   from-ascends xs rule a (suc k) ys b =
       go (eqb (length (keep (rule ys) xs)) (length ys)) (from-ascends xs rule a k (keep (rule ys) xs) (ascends-keep (rule ys) xs a))
@@ -58,7 +57,6 @@ module _ {X : Type 0} (lt : X → X → Type 0) where
       go false r = r
 
   pub closed-ascends : (xs : List X) (rule : List X → X → Bool) → Ascends xs → Ascends (closed xs rule)
-  unfolding closed
   closed-ascends xs rule a = from-ascends xs rule a (length xs) [] tt
 
 module _ {A X : Type 0} (below : A → A → Type 0) (lt : X → X → Type 0) where

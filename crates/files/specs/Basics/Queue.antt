@@ -59,18 +59,18 @@ module _ {X : Type 0} where
 
 module _ {X : Type 0} (same : X → X → Bool) where
   -- the elements of ys that are not seen yet, in order, each once
-  unfoldable pub fresh : List X → List X → List X
+  abbrev pub fresh : List X → List X → List X
   fresh seen [] = []
   fresh seen (y ∷ ys) = cond (any (same y) seen) (fresh seen ys) (y ∷ fresh (y ∷ seen) ys)
 
   module _ (next : X → List X) where
     -- the elements of the queue in turn, at most k of them: what an element names and is not seen yet goes to the end of both
-    unfoldable pub walk : ℕ → List X → List X → List X
+    abbrev pub walk : ℕ → List X → List X → List X
     walk zero seen queue = seen
     walk (suc k) seen [] = seen
     walk (suc k) seen (x ∷ queue) = let ys = fresh seen (next x) in walk k (seen ++ ys) (queue ++ ys)
 
-    unfoldable pub breadth-first : ℕ → X → List X
+    abbrev pub breadth-first : ℕ → X → List X
     breadth-first k s = walk k (s ∷ []) (s ∷ [])
 
     -- reached from s
@@ -88,7 +88,6 @@ module _ {X : Type 0} (same : X → X → Bool) where
     seen-i y seen m = any-i (same y) seen y m (same-refl y)
 
     pub fresh-e : (seen ys : List X) (x : X) → List·Memᴰ x (fresh seen ys) → List·Memᴰ x ys × (¬ List·Memᴰ x seen)
-    unfolding fresh
     fresh-e seen [] x m = absurd (List·Memᴰ·not-nil m)
     fresh-e seen (y ∷ ys) x m = go (any (same y) seen) refl (fresh-e seen ys x) (fresh-e (y ∷ seen) ys x) m
       where
@@ -103,7 +102,6 @@ module _ {X : Type 0} (same : X → X → Bool) where
             on (inr j) = let a = g j in (List·Memᴰ·tail (a .0), λ n. a .1 (List·Memᴰ·tail n))
 
     pub fresh-i : (seen ys : List X) (x : X) → List·Memᴰ x ys → List·Memᴰ x seen ⊎ List·Memᴰ x (fresh seen ys)
-    unfolding fresh
     fresh-i seen [] x m = absurd (List·Memᴰ·not-nil m)
     fresh-i seen (y ∷ ys) x m = go (any (same y) seen) refl (fresh-i seen ys x) (fresh-i (y ∷ seen) ys x) (List·Memᴰ·cases-cons m)
       where
@@ -124,7 +122,6 @@ module _ {X : Type 0} (same : X → X → Bool) where
             on (inr j) = inr (List·Memᴰ·tail j)
 
     pub fresh-once : (seen ys : List X) → Once (fresh seen ys)
-    unfolding fresh
     fresh-once seen [] = tt
     fresh-once seen (y ∷ ys) = go (any (same y) seen) (fresh-once seen ys) (fresh-once (y ∷ seen) ys)
       where
@@ -195,7 +192,6 @@ module _ {X : Type 0} (same : X → X → Bool) where
           waiting-on y (inr m) = into y (inr m)
 
       walk-listed : (k : ℕ) (seen queue : List X) → Sound seen queue k → Listed (walk next k seen queue)
-      unfolding walk
       walk-listed zero seen [] i = done seen zero i
       walk-listed zero seen (x ∷ queue) i =
           let h : length seen ≤ length ps = room seen ps (i .once) (λ y m. met-in y (i .met y m)) in absurd (omega (arith, i .steps))
@@ -217,17 +213,14 @@ module _ {X : Type 0} (same : X → X → Bool) where
 
       -- As many steps as there are points list what is reached from s, each once, and nothing else.
       pub listed : Listed (breadth-first next (length ps) s)
-      unfolding breadth-first
       listed = walk-listed (length ps) (s ∷ []) (s ∷ []) at-first
 
   -- the start comes first
   walk-first : (next : X → List X) (k : ℕ) (s : X) (seen queue : List X) → (zs : List X) × (walk next k (s ∷ seen) queue ≡ s ∷ zs)
-  unfolding walk
   walk-first next zero s seen queue = (seen, refl)
   walk-first next (suc k) s seen [] = (seen, refl)
   walk-first next (suc k) s seen (x ∷ queue) =
       walk-first next k s (seen ++ fresh (s ∷ seen) (next x)) (queue ++ fresh (s ∷ seen) (next x))
 
   pub starts-with : (next : X → List X) (k : ℕ) (s : X) → (zs : List X) × (breadth-first next k s ≡ s ∷ zs)
-  unfolding breadth-first
   starts-with next k s = walk-first next k s [] (s ∷ [])

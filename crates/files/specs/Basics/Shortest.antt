@@ -28,12 +28,12 @@ module _ {X R : Type 0} (leaving : X → List R) (end : R → X) (key : R → Li
     equal : (r s : R) (rs ss : List R) → key r ≡ key s → UpTo rs ss → UpTo (r ∷ rs) (s ∷ ss)
 
   -- a path of k records leads from x to a bad point
-  unfoldable pub ways : ℕ → X → Bool
+  abbrev pub ways : ℕ → X → Bool
   ways zero x = bad x
   ways (suc k) x = any (λ r. ways k (end r)) (leaving x)
 
   -- the record of least key of r ∷ rs, ties to the earliest
-  unfoldable pub lowest : R → List R → R
+  abbrev pub lowest : R → List R → R
   lowest r [] = r
   lowest r (s ∷ ss) = lowest (cond (before (key s) (key r)) s r) ss
 
@@ -42,14 +42,13 @@ module _ {X R : Type 0} (leaving : X → List R) (end : R → X) (key : R → Li
   taking f (r ∷ rs) = let b = lowest r rs in b ∷ f b
 
   -- the path of k records: at each point the record of least key from whose end the rest can be done
-  unfoldable pub walk : ℕ → X → List R
+  abbrev pub walk : ℕ → X → List R
   walk zero x = []
   walk (suc k) x = taking (λ r. walk k (end r)) (keep (λ r. ways k (end r)) (leaving x))
 
   -- ---- the lowest
 
   lowest-in : (r : R) (rs : List R) → List·Memᴰ (lowest r rs) (r ∷ rs)
-  unfolding lowest
   lowest-in r [] = List·Memᴰ·head refl
   lowest-in r (s ∷ ss) = go (before (key s) (key r)) (λ q. lowest-in q ss)
     where
@@ -71,7 +70,6 @@ module _ {X R : Type 0} (leaving : X → List R) (end : R → X) (key : R → Li
     low-trans q r x f g = not-before-trans (key q) (key r) (key x) (one-size r q) f g
 
     lowest-low : (r : R) (rs : List R) (x : R) → List·Memᴰ x (r ∷ rs) → Low (lowest r rs) x
-    unfolding lowest
     lowest-low r [] x m = go (List·Memᴰ·cases-cons m)
       where
         go : (x ≡ r) ⊎ List·Memᴰ x [] → Low r x
@@ -111,12 +109,10 @@ module _ {X R : Type 0} (leaving : X → List R) (end : R → X) (key : R → Li
   -- ---- paths and ways
 
   pub to-ways : (x : X) (rs : List R) → To x rs → T (ways (length rs) x)
-  unfolding ways
   to-ways x rs (there x′ t) = t
   to-ways x rs (by x′ r ss m p) = any-i (λ r. ways (length ss) (end r)) (leaving x′) r m (to-ways (end r) ss p)
 
   pub walk-to : (k : ℕ) (x : X) → T (ways k x) → To x (walk k x) × (length (walk k x) ≡ k)
-  unfolding ways walk
   walk-to zero x t = (there x t, refl)
   walk-to (suc k) x t =
       let a = any-e (λ r. ways k (end r)) (leaving x) t in
@@ -138,7 +134,6 @@ module _ {X R : Type 0} (leaving : X → List R) (end : R → X) (key : R → Li
       (one-end : (x : X) → met x → (r s : R) → List·Memᴰ r (leaving x) → List·Memᴰ s (leaving x) → key r ≡ key s → end r ≡ end s) where
     -- of the paths of its length the walk is the first
     pub walk-first : (k : ℕ) (x : X) → met x → (rs : List R) → To x rs → length rs ≡ k → UpTo (walk k x) rs
-    unfolding walk
     walk-first zero x a rs (there x′ t) e = same-end
     walk-first zero x a rs (by x′ r ss m p) e = absurd (suc-ne-zero (length ss) e)
     walk-first (suc k) x a rs (there x′ t) e = absurd (suc-ne-zero k (sym e))
@@ -165,7 +160,7 @@ module _ {X R : Type 0} (leaving : X → List R) (end : R → X) (key : R → Li
   soon (suc k) x = bad x || any (λ r. soon k (end r)) (leaving x)
 
   soon-ways : (k : ℕ) (x : X) → T (soon k x) → (j : ℕ) × (j < k) × T (ways j x)
-  unfolding soon ways
+  unfolding soon
   soon-ways zero x t = absurd t
   soon-ways (suc k) x t = go (or-e (bad x) _ t) (λ r s. soon-ways k (end r) s)
     where
@@ -178,7 +173,7 @@ module _ {X R : Type 0} (leaving : X → List R) (end : R → X) (key : R → Li
           (suc (i .0), omega arith, any-i (λ r. ways (i .0) (end r)) (leaving x) (a .0) (a .1) (i .2))
 
   ways-soon : (k : ℕ) (x : X) → T (ways k x) → T (soon (suc k) x)
-  unfolding soon ways
+  unfolding soon
   ways-soon zero x t = or-l (bad x) _ t
   ways-soon (suc k) x t =
       let a = any-e (λ r. ways k (end r)) (leaving x) t in
@@ -200,16 +195,14 @@ module _ {X R : Type 0} (leaving : X → List R) (end : R → X) (key : R → Li
 
   -- ---- the best path, where there is one of at most n records
 
-  unfoldable pub best : ℕ → X → List R
+  abbrev pub best : ℕ → X → List R
   best n x = walk (least (λ k. ways k x) (suc n)) x
 
   module _ (n : ℕ) (x : X) (k : ℕ) (short : k ≤ n) (way : T (ways k x)) where
     pub best-to : To x (best n x)
-    unfolding best
     best-to = (walk-to (least (λ k. ways k x) (suc n)) x (least-passes (λ k. ways k x) (suc n) k (omega arith) way)) .0
 
     best-length : length (best n x) ≡ least (λ k. ways k x) (suc n)
-    unfolding best
     best-length = (walk-to (least (λ k. ways k x) (suc n)) x (least-passes (λ k. ways k x) (suc n) k (omega arith) way)) .1
 
     -- no path to a bad point has fewer records
@@ -225,6 +218,5 @@ module _ {X R : Type 0} (leaving : X → List R) (end : R → X) (key : R → Li
     pub best-first : ((r s : R) → length (key r) ≡ length (key s)) → (met : X → Type 0) → ((x : X) → met x → (r : R) → List·Memᴰ r (leaving x) → met (end r))
         → ((x : X) → met x → (r s : R) → List·Memᴰ r (leaving x) → List·Memᴰ s (leaving x) → key r ≡ key s → end r ≡ end s)
         → met x → (rs : List R) → To x rs → length rs ≡ length (best n x) → Before (each key rs) (each key (best n x)) → ⊥
-    unfolding best
     best-first one-size met met-on one-end a rs p e =
         up-to-string one-size (best n x) rs (walk-first one-size met met-on one-end (least (λ k. ways k x) (suc n)) x a rs p (e ∙ best-length))

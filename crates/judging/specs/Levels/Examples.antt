@@ -38,5 +38,5 @@ unfolding satisfies holds level next after
 p7-holds = refl
 
 pub p6-ranks : rank call-graph (box-rows 1) 0 0 ∷ rank call-graph (box-rows 1) 1 1 ∷ [] ≡ 2 ∷ 1 ∷ []
-unfolding rank least level next after
+unfolding rank level next after
 p6-ranks = refl

@@ -21,7 +21,7 @@ unfolding simulates covered related refined keeps alike matching
 p9-no = refl
 
 pub p9-entry : uncovered loop-graph entry-graph ≡ 0
-unfolding uncovered least covered related refined keeps alike matching
+unfolding uncovered covered related refined keeps alike matching
 p9-entry = refl
 
 -- both nodes of the cycle with the loop's node; the loop's node with both; nothing

@@ -14,19 +14,19 @@ use Rattle.runs.specs.Summary.{callee, moves, leads-from, along, spot-ru
 use Rattle.runs.specs.Summary.Trails.{recs, leaving, trail, trail-bytes}
 
 pub p10-clean : clean call-graph return-monitor 1 ≡ true
-unfolding clean places closed from all-places place-rule reaches moved-from called-from spots all-spots spot-rule along leads-from moves callee
+unfolding clean places all-places place-rule reaches moved-from called-from spots all-spots spot-rule along leads-from moves callee
 p10-clean = refl
 
 pub p11-bad : clean returning-graph return-monitor 1 ≡ false
-unfolding clean places closed from all-places place-rule reaches moved-from called-from spots all-spots spot-rule along leads-from moves callee
+unfolding clean places all-places place-rule reaches moved-from called-from spots all-spots spot-rule along leads-from moves callee
 p11-bad = refl
 
 pub p11-trail : trail-bytes returning-graph return-monitor 1 ≡ bytes 0 0 0 0 0 0 ++ bytes 0 0 3 1 1 7
-unfolding trail-bytes trail all-places best least walk ways lowest leaving recs closed from spots all-spots spot-rule along leads-from moves callee
+unfolding trail-bytes trail all-places leaving recs spots all-spots spot-rule along leads-from moves callee
 p11-trail = refl
 
 pub p11-length : length (trail returning-graph return-monitor 1) ≡ 2
-unfolding trail all-places best least walk ways lowest leaving recs closed from spots all-spots spot-rule along leads-from moves callee
+unfolding trail all-places leaving recs spots all-spots spot-rule along leads-from moves callee
 p11-length = refl
 
 -- every call is bad
@@ -35,10 +35,10 @@ call-monitor q v = cond (eqb (v .kind) 1) 7 q
 
 -- "a call event without an entry": method 2 has no entry node, so its call makes no event
 pub no-entry-clean : clean (gr (nd false true ∷ nd true false ∷ []) (ed 0 2 1 ∷ [])) call-monitor 1 ≡ true
-unfolding clean places closed from all-places place-rule reaches moved-from called-from spots all-spots spot-rule along leads-from moves callee
+unfolding clean places all-places place-rule reaches moved-from called-from spots all-spots spot-rule along leads-from moves callee
 no-entry-clean = refl
 
 -- "a return node runs no edge": the call leaves a return node
 pub return-runs-nothing : clean (gr (nd true true ∷ nd true false ∷ []) (ed 0 1 1 ∷ [])) call-monitor 1 ≡ true
-unfolding clean places closed from all-places place-rule reaches moved-from called-from spots all-spots spot-rule along leads-from moves callee
+unfolding clean places all-places place-rule reaches moved-from called-from spots all-spots spot-rule along leads-from moves callee
 return-runs-nothing = refl
