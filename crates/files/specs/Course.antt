@@ -6,7 +6,7 @@ use lib.Dec.{eqb}
 use Rattle.files.specs.Graph.{Node, Edge, Graph}
 use Rattle.files.specs.Property.{Row, always, never, returns, not-returns, both, either, box, in-method, not-in-method}
 use Rattle.files.specs.Interface.{Interface}
-use Rattle.files.specs.Rules.{Event, Rule, returns-to, same-event, Monitor}
+use Rattle.files.specs.Rules.{Rule, returns-to, same-event, Monitor}
 
 abbrev pub bytes : ℕ → ℕ → ℕ → ℕ → ℕ → ℕ → List ℕ
 bytes a b c d e f = a ∷ b ∷ c ∷ d ∷ e ∷ f ∷ []

@@ -1,5 +1,4 @@
 -- The value of an accepted file, the bytes of a value, and what a value is that a file within the limits can hold.
-use mathlib.Core.Bool.{Bool}
 use mathlib.Core.List.{List, [], _∷_, _++_, map, List·Memᴰ}
 use Prim.Native.Nat.{ℕ, zero, suc, _-_, _≤_, _<_}
 use lib.Dec.{eqb}
@@ -12,7 +11,7 @@ use Rattle.files.specs.declared.record.Limits.{Limits}
 use Rattle.files.specs.Record.{record-at, count, node-record, edge-record, row-record, rule-record, interface-record, write}
 use Rattle.files.specs.Graph.{Node, Edge, Graph, no-edge, Flow}
 use Rattle.files.specs.Property.{Row, always, never, returns, not-returns, in-method, not-in-method, both, either, box, row, Property, is-either}
-use Rattle.files.specs.Rules.{Event, Rule, no-rule}
+use Rattle.files.specs.Rules.{Rule, no-rule}
 use Rattle.files.specs.Interface.{Interface}
 use Rattle.files.specs.Refusal.{nodes-of}
 pub mod Graphs

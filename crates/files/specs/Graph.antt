@@ -1,6 +1,6 @@
 -- Flow graphs of any finite size. Nodes are numbered from 0 in list order.
 use mathlib.Core.Path.{_≡_}
-use mathlib.Core.Bool.{Bool, true, false}
+use mathlib.Core.Bool.{Bool, false}
 use mathlib.Core.List.{List, List·Memᴰ}
 use Prim.Native.Nat.{ℕ, _<_}
 use lib.ListN.{length, getD}

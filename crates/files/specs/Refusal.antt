@@ -1,5 +1,5 @@
 -- Refusals 1 to 8 of one file, computed: a test for each number, what it finds first, and the lowest number. Any list of numbers is a file.
-use mathlib.Core.Bool.{Bool, true, false, not, _&&_, _||_}
+use mathlib.Core.Bool.{Bool, false, not, _&&_, _||_}
 use mathlib.Core.List.{List, [], _∷_}
 use mathlib.Core.Option.{Option}
 use Prim.Native.Nat.{ℕ, zero, suc, _%_}

@@ -1,8 +1,8 @@
 -- The refusal table, numbers 1 to 8, as predicates on the bytes of a file, apart from the tests that compute it: `Applies L k l n i` says that number n applies at record i.
 use mathlib.Core.Path.{_≡_}
 use mathlib.Core.Logic.{_⊎_}
-use mathlib.Core.List.{List, [], _∷_}
-use Prim.Native.Nat.{ℕ, zero, suc, _+_, _*_, _≤_, _<_}
+use mathlib.Core.List.{List}
+use Prim.Native.Nat.{ℕ, zero, suc, _*_, _≤_, _<_}
 use lib.ListN.{length}
 use Rattle.files.specs.Basics.Lexical.{Before}
 use Rattle.files.specs.declared.record.Record.{Record}

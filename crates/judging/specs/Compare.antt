@@ -1,7 +1,7 @@
 -- The call "compare": what it answers and writes, from the bytes of its files and the lengths of its buffers.
 use mathlib.Core.Path.{_≡_}
 use mathlib.Core.Logic.{_↔_}
-use mathlib.Core.Bool.{Bool, cond}
+use mathlib.Core.Bool.{cond}
 use mathlib.Core.List.{List, [], _∷_}
 use Prim.Native.Nat.{ℕ, _<_}
 use lib.Dec.{T}
@@ -12,7 +12,7 @@ use Rattle.files.specs.Decode.{decode-graph}
 use Rattle.files.specs.Outcome.{Said, Outcome, Answer, refused-answer, verdict-answer, Check, whole-check, file-checks, out-check, answered, Lines, whole-line, file-lines, out-line, short}
 use Rattle.judging.specs.declared.answers.Compared.{Compared}
 use Rattle.judging.specs.declared.answers.Compared.the-variants.{Yes, No, Refused}
-use Rattle.judging.specs.Simulation.{Simulation, Simulates, related, covered, simulates, uncovered, relation-bytes}
+use Rattle.judging.specs.Simulation.{Simulation, Simulates, covered, simulates, uncovered, relation-bytes}
 pub mod Laws
 pub mod Examples
 

@@ -11,7 +11,7 @@ use lib.ListN.{length, getD}
 use Rattle.files.specs.Basics.Tests.{imp, all, any, upto}
 use Rattle.files.specs.Basics.Lists.{keep, each, span}
 use Rattle.files.specs.Basics.Closure.{closed}
-use Rattle.files.specs.Graph.{Node, Edge, Graph, size, node}
+use Rattle.files.specs.Graph.{Edge, Graph, size, node}
 use Rattle.files.specs.Property.{Row, always, never, returns, not-returns, in-method, not-in-method, both, either, box, row, obliged}
 use Rattle.files.specs.Interface.{Interface, provides, requires-method, Labelled}
 pub mod Supports

@@ -1,13 +1,13 @@
 -- The call "model": what it answers and writes, from the bytes of its files and the lengths of its buffers.
 use mathlib.Core.Path.{_≡_}
 use mathlib.Core.Logic.{_↔_}
-use mathlib.Core.Option.{Option, none}
+use mathlib.Core.Option.{none}
 use mathlib.Core.List.{List, [], _∷_}
 use Prim.Native.Nat.{ℕ, _<_}
 use lib.ListN.{length}
 use Rattle.files.specs.declared.record.Limits.{Limits}
 use Rattle.files.specs.Graph.{Graph, size, Flow}
-use Rattle.files.specs.Property.{Row, Property}
+use Rattle.files.specs.Property.{Row}
 use Rattle.files.specs.Interface.{Interface, Of}
 use Rattle.files.specs.Refusal.{graph, property, interface, refusal}
 use Rattle.files.specs.Decode.{decode-graph, decode-property, decode-interface}

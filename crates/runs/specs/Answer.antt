@@ -1,5 +1,5 @@
 -- The paper's number and values for each case of a verdict on runs.
-use mathlib.Core.List.{List, [], _∷_}
+use mathlib.Core.List.{[], _∷_}
 use Rattle.files.specs.Outcome.{Answer, refused-answer, verdict-answer}
 use Rattle.runs.specs.declared.answers.Verdict.{Verdict}
 use Rattle.runs.specs.declared.answers.Verdict.the-variants.{Clean, Bad, Refused}

@@ -1,8 +1,7 @@
 -- The composed verdict: what it answers and writes, from the bytes of its files, the start method and the lengths of its buffers.
-use mathlib.Core.Path.{_≡_}
 use mathlib.Core.Logic.{_⊎_}
 use mathlib.Core.Bool.{_||_}
-use mathlib.Core.List.{List, []}
+use mathlib.Core.List.{List}
 use Prim.Native.Nat.{ℕ, _<_}
 use Rattle.files.specs.Decode.{decode-graph, decode-property, decode-interface, decode-rules}
 use Rattle.files.specs.Graph.{Graph, Flow}
@@ -10,7 +9,7 @@ use Rattle.files.specs.Interface.{Interface, Of, united}
 use Rattle.files.specs.Outcome.{Said, Outcome, Check, whole-check, scan-check, file-checks, out-check, answered, Lines, line, whole-line, file-lines, out-line, short, no-start, NoStart, too-large, TooLarge}
 use Rattle.files.specs.Property.{Row}
 use Rattle.files.specs.Refusal.{graph, property, rules, interface}
-use Rattle.files.specs.Rules.{Monitor, watch}
+use Rattle.files.specs.Rules.{watch}
 use Rattle.files.specs.Sides.{first-foreign, ForeignAt, shares, Shares, unprovided, Unprovided}
 use Rattle.files.specs.declared.record.Limits.{Limits}
 use Rattle.judging.specs.Levels.{Satisfies}

@@ -1,6 +1,5 @@
 -- The course examples marked P, of the definitions, on the paper's bytes: one table and one theorem. Each layer's Examples give the equations.
-use mathlib.Core.Path.{_≡_, refl, sym, ap, ap₂, _∙_}
-use mathlib.Core.Bool.{Bool}
+use mathlib.Core.Path.{_≡_, ap, ap₂, _∙_}
 use mathlib.Core.List.{List, [], _∷_, _++_, map}
 use Prim.Native.Nat.{ℕ}
 use native.Mathlib.Omega.{arith}
@@ -9,20 +8,19 @@ use Rattle.files.specs.Course.{bytes, one-one-file, one-one, one-none-file, p1-
 use Rattle.files.specs.Decode.{decode-property}
 use Rattle.files.specs.Decode.Examples.{one-one-is, call-is, returning-is, rules-is}
 use Rattle.files.specs.Limits.{desk}
-use Rattle.files.specs.Outcome.{Said, Outcome, says}
+use Rattle.files.specs.Outcome.{Said, says}
 use Rattle.files.specs.Refusal.Examples.{one-one-accepted, call-accepted, returning-accepted, rules-accepted}
 use Rattle.files.specs.Rules.{watch}
 use Rattle.files.specs.Rules.Examples.{return-watch}
 use Rattle.files.specs.Sides.Examples.{call-of, returning-of, one-one-provided}
 use Rattle.judging.specs.Compare.{compare-room, compared}
 use Rattle.judging.specs.Judge.{judge-room, judged}
-use Rattle.judging.specs.Judge.Examples.{operators-hold}
+use Rattle.judging.specs.Judge.Examples.{operators-hold, p4, p5, p6, p7}
 use Rattle.judging.specs.Levels.Examples.{at-three}
 use Rattle.maximal.specs.Modelling.{model-room, modelled}
 use Rattle.runs.specs.Summary.Trails.Examples.{p10-clean, p11-bad, p11-trail, p11-length}
 use Rattle.runs.specs.Watching.{watch-room, watched}
 use Rattle.runs.specs.Watching.Laws.{watch-on, clean-said, bad-said}
-use Rattle.judging.specs.Judge.Examples.{p4, p5, p6, p7}
 use Rattle.judging.specs.Compare.Examples.{p8, p8-other, p9}
 use Rattle.maximal.specs.Modelling.Examples.{p1, p2, p3}
 

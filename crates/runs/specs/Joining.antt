@@ -1,7 +1,7 @@
 -- The call "join": what it answers and writes, from the bytes of its files and the length of its output.
 use mathlib.Core.Path.{_≡_}
 use mathlib.Core.List.{List, [], _∷_}
-use mathlib.Core.Option.{Option, none}
+use mathlib.Core.Option.{none}
 use Prim.Native.Nat.{ℕ}
 use lib.ListN.{length}
 use Rattle.files.specs.Decode.{decode-graph, decode-interface}

@@ -1,17 +1,15 @@
 -- The call "show": "The record of a joined node is shown in the file it came from, as six bytes of that file."
 use mathlib.Core.Path.{_≡_}
-use mathlib.Core.Bool.{Bool, cond}
+use mathlib.Core.Bool.{cond}
 use mathlib.Core.List.{List, []}
-use mathlib.Core.Option.{Option, none}
 use Prim.Native.Nat.{ℕ, _+_, _-_, _≤_, _<_}
 use lib.Dec.{leb, ltb}
 use Rattle.files.specs.Decode.{decode-graph, node-rec}
 use Rattle.files.specs.Graph.{Graph, size, node}
 use Rattle.files.specs.Outcome.{Said, Outcome, Answer, refused-answer, Check, whole-check, file-checks, answered, Lines, whole-line, file-lines, verdict-answer, no-lines}
-use Rattle.files.specs.Record.{part, record-at, six}
-use Rattle.files.specs.Refusal.{graph, refusal}
+use Rattle.files.specs.Record.{part, six}
+use Rattle.files.specs.Refusal.{graph}
 use Rattle.files.specs.declared.record.Limits.{Limits}
-use Rattle.files.specs.declared.record.Record.{Record}
 use Rattle.runs.specs.Join.{join}
 use Rattle.runs.specs.declared.answers.Shown.the-variants.{Part, Refused}
 use Rattle.runs.specs.declared.answers.Shown.{Shown}

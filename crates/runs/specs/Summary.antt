@@ -1,9 +1,9 @@
 -- Summaries: "For each method and monitor state at its entry, the reachable states at its return nodes fix what a whole call can yield."
 -- First as relations, for an unbounded stack; then computed, with the verdict. (Exact and Table say that they agree.)
 use mathlib.Core.Path.{_≡_}
-use mathlib.Core.Bool.{Bool, true, false, not, _&&_, _||_}
-use mathlib.Core.List.{List, [], _∷_, map}
-use Prim.Native.Nat.{ℕ, zero, suc, _<_}
+use mathlib.Core.Bool.{Bool, not, _&&_, _||_}
+use mathlib.Core.List.{List, map}
+use Prim.Native.Nat.{ℕ, _<_}
 use lib.Dec.{T, eqb, ltb}
 use Rattle.files.specs.Basics.Closure.{closed}
 use Rattle.files.specs.Basics.Lists.{each, span}

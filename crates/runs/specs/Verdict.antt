@@ -15,7 +15,6 @@ use Rattle.runs.specs.Join.{join}
 use Rattle.runs.specs.Runs.{Bad, Clean}
 use Rattle.runs.specs.Summary.Trails.{trail, trail-bytes}
 use Rattle.runs.specs.Summary.Trails.Behind.{TrailShows}
-use Rattle.runs.specs.Watching.{Watches}
 
 -- '"clean" of a composed verdict is said exactly when, whatever conforming graph of any size is joined, no run turns the monitor bad'
 pub clean-is-clean : (L : Limits) (ki kg oi p r : List ℕ) (m out store work : ℕ) (s : Said) → composed L ki kg oi p r m out store work ≡ says s

@@ -1,9 +1,9 @@
 -- The call "watch": what it answers and writes, from the bytes of its files, the start method and the lengths of its buffers.
 use mathlib.Core.Path.{_≡_}
 use mathlib.Core.Logic.{_↔_}
-use mathlib.Core.Bool.{Bool, cond}
+use mathlib.Core.Bool.{cond}
 use mathlib.Core.List.{List, [], _∷_}
-use Prim.Native.Nat.{ℕ, _≤_, _<_}
+use Prim.Native.Nat.{ℕ, _<_}
 use lib.ListN.{length}
 use Rattle.files.specs.Decode.{decode-graph, decode-interface, decode-rules}
 use Rattle.files.specs.Graph.{Graph}

@@ -1,7 +1,7 @@
 -- What a Bool test says, as a type: `Says b P`. One combinator for each connective, so that a test and its wording are compared part by part. Assumes nothing.
-use mathlib.Core.Path.{_≡_, refl}
+use mathlib.Core.Path.{_≡_}
 use mathlib.Core.Logic.{_⊎_, inl, inr}
-use mathlib.Core.Bool.{Bool, true, false, not, _&&_, _||_}
+use mathlib.Core.Bool.{Bool, false, not, _&&_, _||_}
 use Prim.Native.Nat.{ℕ, _≤_, _<_}
 use lib.Dec.{T, T-not, not-T, ltb, leb, eqb, leb→le, le→leb, eqb→eq, ltb→lt, lt→ltb}
 use Rattle.files.specs.Basics.Tests.{and-l, and-r, and-i, or-e, or-l, or-r, eq-eqb}

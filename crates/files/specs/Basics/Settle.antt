@@ -1,16 +1,16 @@
 -- A falling sequence of tests on finitely many points comes to rest within as many steps as there are points.
 -- Levels of rows, refinement of a relation and (negated) the growth of a table are all such sequences. Assumes nothing.
-use mathlib.Core.Path.{_≡_, refl, sym, subst}
+use mathlib.Core.Path.{_≡_, refl, subst}
 use mathlib.Core.Logic.{_⊎_, inl, inr}
 use mathlib.Core.Bool.{Bool, true, false, not}
 use mathlib.Core.List.{List, [], _∷_, List·Memᴰ, List·Memᴰ·head, List·Memᴰ·tail, List·Memᴰ·cases-cons, List·Memᴰ·not-nil}
 use Prim.Native.Nat.{ℕ, zero, suc, _+_, _-_, _≤_, _<_}
-use native.Mathlib.Nat.{not-suc-le-zero, zero-add, suc-add}
+use native.Mathlib.Nat.{zero-add, suc-add}
 use native.Mathlib.Decide.{decLe}
 use native.Mathlib.Omega.{arith}
 use lib.Dec.{T, T-not, not-T}
 use lib.ListN.{length}
-use Rattle.files.specs.Basics.Tests.{one, one-le, imp, imp-e, imp-i, all, all-e, all-i, decide}
+use Rattle.files.specs.Basics.Tests.{one, one-le, imp, imp-e, all, decide}
 
 one-mono : (a b : Bool) → (T a → T b) → one a ≤ one b
 one-mono true true f = omega arith

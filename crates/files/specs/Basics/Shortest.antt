@@ -1,9 +1,9 @@
 -- Of all paths from x to a bad point: one with the fewest records and, of those, the smallest by key, a list of numbers. States: the best path is one, none is shorter, and none as short comes before it.
 use mathlib.Core.Path.{_≡_, refl, sym, ap, subst, _∙_}
 use mathlib.Core.Logic.{_⊎_, inl, inr}
-use mathlib.Core.Bool.{Bool, true, false, not, cond, _&&_, _||_}
+use mathlib.Core.Bool.{Bool, true, false, not, cond, _||_}
 use mathlib.Core.List.{List, [], _∷_, List·Memᴰ, List·Memᴰ·head, List·Memᴰ·tail, List·Memᴰ·cases-cons, List·Memᴰ·not-nil}
-use Prim.Native.Nat.{ℕ, zero, suc, _+_, _≤_, _<_}
+use Prim.Native.Nat.{ℕ, zero, suc, _≤_, _<_}
 use native.Mathlib.Nat.{suc-inj, suc-ne-zero}
 use native.Mathlib.Omega.{arith}
 use lib.Dec.{T, leb, leb→le, nleb→lt, T-not}
@@ -13,7 +13,6 @@ use Rattle.files.specs.Basics.Settle.{Below, grown}
 use Rattle.files.specs.Basics.Lists.{keep, keep-i, keep-e, each}
 use Rattle.files.specs.Basics.Least.{least, least-passes, least-before}
 use Rattle.files.specs.Basics.Lexical.{before, Before, says-before, before-irrefl, before-trans, before-total, not-before-trans, before-parts}
-use Rattle.files.specs.Basics.Says.{Says}
 
 module _ {X R : Type 0} (leaving : X → List R) (end : R → X) (key : R → List ℕ) (bad : X → Bool) where
   -- the records of a path from x that ends at a bad point

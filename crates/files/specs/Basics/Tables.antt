@@ -7,7 +7,7 @@ use Prim.Native.Nat.{ℕ, zero, suc, _+_, _≤_, _<_, suc-le-suc}
 use native.Mathlib.Nat.{not-suc-le-zero, le-of-suc-le-suc, eq-or-lt-of-le, add-zero}
 use native.Mathlib.Decide.{decLe}
 use native.Mathlib.Omega.{arith}
-use lib.Dec.{T, T-not}
+use lib.Dec.{T}
 use lib.ListN.{length, getD, length-map}
 use Rattle.files.specs.Basics.Lists.{span, span-e}
 use Rattle.files.specs.Basics.Tests.{one, one-le, one-true, one-false}

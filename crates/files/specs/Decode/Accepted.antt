@@ -1,21 +1,21 @@
 -- The bytes written of a well-formed graph within the limits are an accepted file. Assumes nothing.
-use mathlib.Core.Path.{_≡_, refl, sym, ap, ap₂, subst, subst₂, _∙_}
-use mathlib.Core.Logic.{_⊎_, inl, inr}
+use mathlib.Core.Path.{_≡_, refl, sym, ap, subst, subst₂, _∙_}
+use mathlib.Core.Logic.{inl, inr}
 use mathlib.Core.Bool.{Bool, true, false}
-use mathlib.Core.List.{List, [], _∷_, List·Memᴰ}
-use mathlib.Core.Option.{Option, none, some}
-use Prim.Native.Nat.{ℕ, zero, suc, _+_, _-_, _*_, _≤_, _<_}
+use mathlib.Core.List.{List·Memᴰ}
+use mathlib.Core.Option.{none}
+use Prim.Native.Nat.{ℕ, zero, suc, _+_, _*_, _≤_, _<_}
 use native.Mathlib.Decide.{decLt}
 use native.Mathlib.Omega.{arith}
 use lib.ListN.{length, getD}
 use Rattle.files.specs.Basics.Lexical.{Before}
 use Rattle.files.specs.Basics.Lists.{index-e}
 use Rattle.files.specs.Basics.Tests.{one}
-use Rattle.files.specs.Decode.{key, Filed, node-rec, edge-rec, graph-recs, graph-bytes}
-use Rattle.files.specs.Decode.Written.{length-write, count-bytes, at-node, nodes-bytes, edges-bytes, kind-node, kind-edge, past-nodes}
+use Rattle.files.specs.Decode.{Filed, node-rec, edge-rec, graph-recs, graph-bytes}
+use Rattle.files.specs.Decode.Written.{length-write, at-node, nodes-bytes, edges-bytes, kind-node, kind-edge, past-nodes}
 use Rattle.files.specs.Graph.{Node, Edge, Graph, Flow, node, no-node, size, no-edge}
 use Rattle.files.specs.Record.{record-at, kind-at, count}
-use Rattle.files.specs.Refusal.{graph, nodes-of, edges-of, edge-key, method-at, refusal}
+use Rattle.files.specs.Refusal.{graph, edge-key, method-at, refusal}
 use Rattle.files.specs.Refusal.Laws.{accepted-iff}
 use Rattle.files.specs.Table.{Applies, Wrong, Misplaced, Disordered}
 use Rattle.files.specs.declared.record.Limits.{Limits}

@@ -1,21 +1,20 @@
 -- What is written of a graph of at most 256 nodes is bytes; and number 1 ends a file's checks. Assumes nothing.
-use mathlib.Core.Path.{_≡_, refl, sym, ap, subst, _∙_}
+use mathlib.Core.Path.{_≡_, refl, subst}
 use mathlib.Core.Logic.{_⊎_, inl, inr}
 use mathlib.Core.Bool.{Bool, true, false}
-use mathlib.Core.List.{List, [], _∷_, _++_, map, List·Memᴰ, List·Memᴰ·cases-cons, List·Memᴰ·not-nil, List·Memᴰ·append-cases, Memᴰ·of-map}
-use mathlib.Core.Option.{Option, none, some}
-use Prim.Native.Nat.{ℕ, zero, suc, _≤_, _<_}
+use mathlib.Core.List.{List, [], _∷_, map, List·Memᴰ, List·Memᴰ·cases-cons, List·Memᴰ·not-nil, List·Memᴰ·append-cases, Memᴰ·of-map}
+use mathlib.Core.Option.{some}
+use Prim.Native.Nat.{ℕ, _≤_, _<_}
 use native.Mathlib.Nat.{not-suc-le-zero}
 use native.Mathlib.Omega.{arith}
-use Rattle.files.specs.Basics.First.{First}
 use Rattle.files.specs.Basics.Lists.{each-e}
 use Rattle.files.specs.Basics.Tests.{one}
 use Rattle.files.specs.Decode.{Filed, node-rec, edge-rec, graph-recs, graph-bytes}
-use Rattle.files.specs.Graph.{Node, Edge, Graph, Flow, size}
-use Rattle.files.specs.Record.{six, write}
+use Rattle.files.specs.Graph.{Node, Edge, Graph, size}
+use Rattle.files.specs.Record.{six}
 use Rattle.files.specs.Refusal.{Kind, refusal}
 use Rattle.files.specs.Refusal.Laws.{refused-iff}
-use Rattle.files.specs.Table.{Applies, Ragged}
+use Rattle.files.specs.Table.{Ragged}
 use Rattle.files.specs.declared.record.Limits.{Limits}
 use Rattle.files.specs.declared.record.Record.{Record}
 

@@ -1,32 +1,27 @@
 -- An accepted graph file is the bytes of its graph: no two accepted files hold one graph. Assumes nothing.
 use mathlib.Core.Path.{_≡_, refl, sym, ap, ap₂, subst, _∙_}
-use mathlib.Core.Logic.{_⊎_, inl, inr}
-use mathlib.Core.Bool.{Bool, true, false}
+use mathlib.Core.Logic.{inl, inr}
 use mathlib.Core.List.{List, [], _∷_, _++_, map, append-nil}
-use mathlib.Core.Option.{Option, none, some}
-use Prim.Native.Nat.{ℕ, zero, suc, _+_, _-_, _*_, _/_, _%_, _≤_, _<_}
+use mathlib.Core.Option.{none}
+use Prim.Native.Nat.{ℕ, zero, suc, _+_, _-_, _*_, _≤_, _<_}
 use native.Mathlib.Nat.{zero-add, add-zero}
 use native.Mathlib.Decide.{ℕ-discrete}
 use native.Mathlib.Omega.{arith}
 use lib.Dec.{eqb}
-use lib.ListN.{length, getD}
-use Rattle.files.specs.Basics.Lists.{span}
+use lib.ListN.{length}
 use Rattle.files.specs.Basics.Tables.{table}
 use Rattle.files.specs.Basics.Tests.{one, at-most}
 use Rattle.files.specs.Decode.{to-node, to-edge, decode-graph, node-rec, edge-rec, graph-recs, graph-bytes}
-use Rattle.files.specs.Decode.Graphs.{is-node, is-edge, few}
+use Rattle.files.specs.Decode.Graphs.{is-node, is-edge, few, decoded-size, decoded-node}
 use Rattle.files.specs.Decode.Written.{skip-rec}
-use Rattle.files.specs.Graph.{Node, Edge, Graph}
-use Rattle.files.specs.Record.{record-from, record-at, kind-at, count, six, write}
+use Rattle.files.specs.Record.{record-from, record-at, count, six, write, part}
 use Rattle.files.specs.Refusal.{graph, nodes-of, refusal}
 use Rattle.files.specs.Refusal.Laws.{accepted-iff}
 use Rattle.files.specs.Table.{Applies}
 use Rattle.files.specs.declared.record.Limits.{Limits}
 use Rattle.files.specs.declared.record.Record.{Record}
-use Rattle.files.specs.Record.{part, six}
 use Rattle.files.specs.Record.Laws.{part-length, part-record}
 use Rattle.files.specs.Graph.{size, node}
-use Rattle.files.specs.Decode.Graphs.{decoded-size, decoded-node}
 
 module _ {A : Type 0} where
   pub table-same : (f g : ℕ → A) (a n : ℕ) → ((i : ℕ) → a ≤ i → i < a + n → f i ≡ g i) → table f a n ≡ table g a n

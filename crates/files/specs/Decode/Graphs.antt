@@ -1,27 +1,26 @@
 -- An accepted graph file holds a graph: edges between its own nodes, each inside one method, fields in range, within the limits, edges ascending. Assumes nothing.
-use mathlib.Core.Path.{_≡_, refl, sym, ap, ap₂, subst, subst₂, _∙_}
+use mathlib.Core.Path.{_≡_, refl, sym, ap, subst, subst₂, _∙_}
 use mathlib.Core.Logic.{_⊎_, inl, inr}
-use mathlib.Core.Bool.{Bool, true, false, not}
-use mathlib.Core.List.{List, [], _∷_, List·Memᴰ}
-use mathlib.Core.Option.{Option, none, some}
-use Prim.Native.Nat.{ℕ, zero, suc, _+_, _-_, _*_, _≤_, _<_}
+use mathlib.Core.Bool.{Bool, true, false}
+use mathlib.Core.List.{List, List·Memᴰ}
+use mathlib.Core.Option.{none}
+use Prim.Native.Nat.{ℕ, suc, _+_, _-_, _≤_, _<_}
 use native.Mathlib.Nat.{zero-add}
-use native.Mathlib.Decide.{ℕ-discrete, decLt, decLe}
+use native.Mathlib.Decide.{ℕ-discrete}
 use native.Mathlib.Omega.{arith}
 use lib.Dec.{T, eqb, eqb→eq}
 use lib.ListN.{length, getD}
 use Rattle.files.specs.Basics.Lexical.{Before, says-before}
 use Rattle.files.specs.Basics.Says.{Says}
-use Rattle.files.specs.Basics.Tables.{tally, table, length-table, getD-table, table-e, tally-le, tally-down, tally-both}
-use Rattle.files.specs.Basics.Tests.{eq-eqb, T-eq, one, below}
+use Rattle.files.specs.Basics.Tables.{table, length-table, getD-table, table-e, tally-le, tally-down, tally-both}
+use Rattle.files.specs.Basics.Tests.{eq-eqb, one, below}
 use Rattle.files.specs.Decode.{to-node, to-edge, decode-graph, key, Filed}
-use Rattle.files.specs.Graph.{Node, Edge, Graph, Flow, node, size, no-edge}
+use Rattle.files.specs.Graph.{Node, Edge, Flow, node, size, no-edge}
 use Rattle.files.specs.Record.{record-at, kind-at, count}
 use Rattle.files.specs.Refusal.{graph, of-kind, nodes-of, edges-of, edge-key, method-at, refusal}
 use Rattle.files.specs.Refusal.Laws.{accepted-iff}
 use Rattle.files.specs.Table.{Applies}
 use Rattle.files.specs.declared.record.Limits.{Limits}
-use Rattle.files.specs.declared.record.Record.{Record}
 
 -- one of two kinds
 pub one-kind : (x : ℕ) → (x ≡ 1) ⊎ (x ≡ 2) → one (eqb x 1) + one (eqb x 2) ≡ 1

@@ -1,10 +1,7 @@
 -- Neighbours that ascend strictly make all ascend, so that no key stands twice: one rule an event, no edge twice. Assumes nothing.
-use mathlib.Core.Path.{_≡_, refl, sym, subst, _∙_}
-use mathlib.Core.Logic.{_⊎_, inl, inr}
-use mathlib.Core.List.{List, [], _∷_}
-use Prim.Native.Nat.{ℕ, zero, suc, _≤_, _<_}
-use native.Mathlib.Nat.{not-suc-le-zero, le-of-suc-le-suc, eq-or-lt-of-le}
-use native.Mathlib.Omega.{arith}
+use mathlib.Core.Path.{_≡_, subst}
+use mathlib.Core.List.{List}
+use Prim.Native.Nat.{ℕ, _<_}
 use lib.ListN.{length, getD}
 use Rattle.files.specs.Basics.Lexical.{Before, before-irrefl, all-ascend}
 use Rattle.files.specs.Decode.{Filed, key, FiledRules, rule-order}

@@ -1,28 +1,24 @@
 -- Accepted property, rule and interface files hold well-formed values within the limits. Assumes nothing.
-use mathlib.Core.Path.{_≡_, refl, sym, ap, ap₂, subst, subst₂, _∙_}
+use mathlib.Core.Path.{_≡_, refl, sym, ap, subst, subst₂, _∙_}
 use mathlib.Core.Logic.{_⊎_, inl, inr}
-use mathlib.Core.Bool.{Bool, true, false, _&&_}
-use mathlib.Core.List.{List, [], _∷_, List·Memᴰ}
-use mathlib.Core.Option.{Option, none, some}
-use Prim.Native.Nat.{ℕ, zero, suc, _+_, _-_, _*_, _≤_, _<_}
+use mathlib.Core.Bool.{Bool}
+use mathlib.Core.List.{List}
+use mathlib.Core.Option.{none}
+use Prim.Native.Nat.{ℕ, zero, suc, _≤_, _<_}
 use native.Mathlib.Nat.{zero-add}
-use native.Mathlib.Decide.{ℕ-discrete, decLe}
+use native.Mathlib.Decide.{ℕ-discrete}
 use native.Mathlib.Omega.{arith}
-use lib.Dec.{T, eqb, ltb, eqb→eq, lt→ltb}
-use lib.ListN.{length, getD}
-use Rattle.files.specs.Basics.Lexical.{Before, says-before}
-use Rattle.files.specs.Basics.Says.{Says}
-use Rattle.files.specs.Basics.Tables.{tally, table, length-table, getD-table, table-e}
+use lib.Dec.{T, eqb, ltb, lt→ltb}
+use lib.ListN.{length}
+use Rattle.files.specs.Basics.Tables.{tally, length-table, getD-table}
 use Rattle.files.specs.Basics.Tests.{and-i, one, below, at-most}
-use Rattle.files.specs.Decode.{row-of, decode-property, to-rule, decode-rules, FiledRows, RowIn}
-use Rattle.files.specs.Property.{Row, Property, row, names, always, never, returns, not-returns, in-method, not-in-method, both, either, box, is-either}
+use Rattle.files.specs.Decode.{row-of, decode-property, FiledRows, RowIn}
+use Rattle.files.specs.Property.{Row, row, names, never, is-either}
 use Rattle.files.specs.Record.{record-at, kind-at, count}
-use Rattle.files.specs.Refusal.{property, rules, interface, ors-of, is-or, rule-key, refusal}
+use Rattle.files.specs.Refusal.{property, interface, ors-of, is-or, refusal}
 use Rattle.files.specs.Refusal.Laws.{accepted-iff}
-use Rattle.files.specs.Rules.{Rule}
-use Rattle.files.specs.Table.{Applies, TakesRows, RowWrong, RuleWrong, InterfaceWrong, Out}
+use Rattle.files.specs.Table.{Applies, TakesRows, RowWrong}
 use Rattle.files.specs.declared.record.Limits.{Limits}
-use Rattle.files.specs.declared.record.Record.{Record}
 
 row-names : (op a b n : ℕ) → op ≤ 9 → ((TakesRows op × ((n ≤ a) ⊎ (n ≤ b))) ⊎ ((op ≡ 9) × (n ≤ b)) → ⊥) → T (names n (row-of op a b))
 row-names zero a b n h f = tt

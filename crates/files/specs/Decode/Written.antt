@@ -1,28 +1,23 @@
 -- The bytes written of a graph are an accepted file, and it decodes to the graph. Assumes nothing.
-use mathlib.Core.Path.{_≡_, refl, sym, ap, ap₂, subst, subst₂, _∙_}
+use mathlib.Core.Path.{_≡_, refl, sym, ap, ap₂, _∙_}
 use mathlib.Core.Logic.{_⊎_, inl, inr}
-use mathlib.Core.Bool.{Bool, true, false, not}
-use mathlib.Core.List.{List, [], _∷_, _++_, map, List·Memᴰ}
-use mathlib.Core.Option.{Option, none, some}
-use Prim.Native.Nat.{ℕ, zero, suc, _+_, _-_, _*_, _/_, _≤_, _<_}
+use mathlib.Core.Bool.{Bool, true, false}
+use mathlib.Core.List.{List, [], _∷_, _++_, map}
+use Prim.Native.Nat.{ℕ, zero, suc, _+_, _-_, _*_, _≤_, _<_}
 use native.Mathlib.Nat.{not-suc-le-zero, le-of-suc-le-suc, zero-add}
 use native.Mathlib.Decide.{decLt}
 use native.Mathlib.Omega.{arith}
-use lib.Dec.{T, eqb, not-T, eqb→eq}
+use lib.Dec.{eqb, not-T, eqb→eq}
 use lib.ListN.{length, getD, length-append, length-map, List·getD-append}
 use lib.Seq.{getD-append-add}
-use Rattle.files.specs.Basics.Lexical.{Before}
-use Rattle.files.specs.Basics.Lists.{getD-map, index-e}
-use Rattle.files.specs.Basics.Tables.{tally, table, table-is, tally-is, tally-both}
+use Rattle.files.specs.Basics.Lists.{getD-map}
+use Rattle.files.specs.Basics.Tables.{table, table-is, tally-is, tally-both}
 use Rattle.files.specs.Basics.Tests.{eq-eqb, one}
-use Rattle.files.specs.Decode.{to-node, to-edge, decode-graph, key, Filed, node-rec, edge-rec, graph-recs, graph-bytes}
+use Rattle.files.specs.Decode.{to-node, to-edge, decode-graph, node-rec, edge-rec, graph-recs, graph-bytes}
 use Rattle.files.specs.Decode.Graphs.{one-kind}
-use Rattle.files.specs.Graph.{Node, Edge, Graph, Flow, node, no-node, size, no-edge}
+use Rattle.files.specs.Graph.{Node, Graph, node, no-node, size, no-edge}
 use Rattle.files.specs.Record.{record-from, record-at, kind-at, count, six, write}
-use Rattle.files.specs.Refusal.{graph, of-kind, nodes-of, edges-of, edge-key, method-at, refusal}
-use Rattle.files.specs.Refusal.Laws.{accepted-iff}
-use Rattle.files.specs.Table.{Applies, Wrong, Misplaced, Disordered}
-use Rattle.files.specs.declared.record.Limits.{Limits}
+use Rattle.files.specs.Refusal.{graph, of-kind, nodes-of, edges-of}
 use Rattle.files.specs.declared.record.Record.{Record}
 
 -- ---- records as bytes

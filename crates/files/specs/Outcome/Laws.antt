@@ -1,6 +1,6 @@
 -- A call is refused exactly where some line of its published order applies, by the first that does; otherwise it is accepted. One law for all calls.
-use mathlib.Core.Path.{_≡_, refl, sym, ap, ap₂, subst, _∙_}
-use mathlib.Core.Logic.{_⊎_, inl, inr, _↔_}
+use mathlib.Core.Path.{_≡_, refl, sym, ap, subst, _∙_}
+use mathlib.Core.Logic.{inl, inr, _↔_}
 use mathlib.Core.Bool.{Bool, true, false}
 use mathlib.Core.List.{List, [], _∷_}
 use mathlib.Core.Option.{Option, none, some}
@@ -8,7 +8,7 @@ use Prim.Native.Nat.{ℕ, zero, suc, _≤_, _<_}
 use native.Mathlib.Decide.{decLt}
 use native.Mathlib.Omega.{arith}
 use lib.ListN.{length}
-use Rattle.files.specs.Basics.First.{whole, pick, Finds, whole-finds, finds-unique, Found}
+use Rattle.files.specs.Basics.First.{pick, Finds, whole-finds, Found}
 use Rattle.files.specs.Basics.Says.{Says, says-lt, says-not, says-and, says-or, says-le}
 use Rattle.files.specs.Outcome.{Said, Outcome, refuses, says, Check, check, numbered, file-checks, whole-check, or-next, first-refusal, unless, answered, Lines, no-lines, line, file-lines, whole-line, FirstOf, NoneOf, Matches, refusal-at, out-check, out-line, Graph, no-start, TooLarge, too-large, size, NoStart}
 use Rattle.files.specs.Refusal.{Kind, findings, refusal}

@@ -1,9 +1,8 @@
 -- Examples of the refusal table, computed. Assumes nothing.
 use mathlib.Core.Path.{_≡_, refl}
 use mathlib.Core.List.{List, [], _∷_, _++_}
-use mathlib.Core.Option.{Option, none, some}
+use mathlib.Core.Option.{none, some}
 use Prim.Native.Nat.{ℕ, zero, suc}
-use lib.ListN.{replicate}
 use Rattle.files.specs.Limits.{desk}
 use Rattle.files.specs.Refusal.{graph, property, rules, interface, findings, refusal}
 use Rattle.files.specs.declared.record.Limits.{Limits}

@@ -1,21 +1,21 @@
 -- The tests say what the refusal table says; a file is accepted exactly when nothing applies, and refused by the lowest number that applies, at its first record.
-use mathlib.Core.Path.{_≡_, refl, sym, ap, ap₂, subst, _∙_}
+use mathlib.Core.Path.{_≡_, refl, ap₂, subst}
 use mathlib.Core.Logic.{_⊎_, inl, inr, _↔_}
-use mathlib.Core.Bool.{Bool, true, false, not, _&&_, _||_}
-use mathlib.Core.List.{List, [], _∷_}
-use mathlib.Core.Option.{Option, none, some, Option·none-ne-some, Option·some-injective}
-use Prim.Native.Nat.{ℕ, zero, suc, _+_, _*_, _/_, _%_, _≤_, _<_}
+use mathlib.Core.Bool.{Bool, not, _||_}
+use mathlib.Core.List.{List}
+use mathlib.Core.Option.{Option, none, some}
+use Prim.Native.Nat.{ℕ, zero, suc, _*_, _/_, _%_, _≤_, _<_}
 use native.Mathlib.Nat.{not-suc-le-zero, le-of-suc-le-suc, eq-or-lt-of-le}
 use native.Mathlib.Decide.{ℕ-discrete}
 use native.Mathlib.Omega.{arith}
-use lib.Dec.{T, ltb, leb, eqb, eqb→eq, T-not, not-T}
+use lib.Dec.{T, eqb, eqb→eq, T-not, not-T}
 use lib.ListN.{length}
-use Rattle.files.specs.Basics.First.{first-where, whole, pick, Finds, first-finds, finds-as, scan-finds, whole-finds, First, Found, Picked, picked, first-unique}
-use Rattle.files.specs.Basics.Lexical.{before, Before, says-before}
+use Rattle.files.specs.Basics.First.{first-where, whole, pick, Finds, finds-as, scan-finds, whole-finds, First, Found, Picked, picked, first-unique}
+use Rattle.files.specs.Basics.Lexical.{says-before}
 use Rattle.files.specs.Basics.Says.{Says, says-lt, says-le, says-eq, says-not, says-and, says-or, says-never}
-use Rattle.files.specs.Basics.Tests.{decide, eq-eqb}
+use Rattle.files.specs.Basics.Tests.{eq-eqb}
 use Rattle.files.specs.Record.{record-at, kind-at, count, wrong, used, out-of}
-use Rattle.files.specs.Refusal.{Kind, graph, property, rules, interface, of-kind, nodes-of, edges-of, ors-of, method-at, edge-key, rule-key, edge-before, misplaced, disordered, passed, missing, past, crossing, findings, refusal}
+use Rattle.files.specs.Refusal.{Kind, graph, property, rules, interface, of-kind, edge-key, rule-key, edge-before, misplaced, disordered, passed, missing, past, crossing, findings, refusal}
 use Rattle.files.specs.Table.{Ragged, Misplaced, Out, Used, Wrong, Disordered, Passed, Missing, Past, Crossing, Applies}
 use Rattle.files.specs.declared.record.Limits.{Limits}
 use Rattle.files.specs.declared.record.Record.{Record}

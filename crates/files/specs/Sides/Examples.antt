@@ -1,8 +1,7 @@
 -- The sides of P10 and P11: their graphs are of their interface, and what is required is provided.
 use mathlib.Core.Path.{_≡_, refl}
-use mathlib.Core.Bool.{Bool, false}
-use mathlib.Core.Option.{Option, none}
-use Prim.Native.Nat.{ℕ}
+use mathlib.Core.Bool.{false}
+use mathlib.Core.Option.{none}
 use Rattle.files.specs.Course.{one-one, call-file, returning-file}
 use Rattle.files.specs.Sides.{first-foreign, unprovided}
 

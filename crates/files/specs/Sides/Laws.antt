@@ -1,23 +1,23 @@
 -- The tests of 9 and 10 say what the table says; a graph file with no foreign record is of its interface.
-use mathlib.Core.Path.{_≡_, refl, sym, ap, subst, _∙_}
+use mathlib.Core.Path.{_≡_, sym, subst}
 use mathlib.Core.Logic.{_⊎_, inl, inr}
-use mathlib.Core.Bool.{Bool, true, false, not, _&&_, _||_}
+use mathlib.Core.Bool.{Bool, not, _&&_}
 use mathlib.Core.List.{List, List·Memᴰ}
-use mathlib.Core.Option.{Option, none, some}
-use Prim.Native.Nat.{ℕ, zero, suc, _+_, _≤_, _<_}
+use mathlib.Core.Option.{none}
+use Prim.Native.Nat.{ℕ, _≤_, _<_}
 use native.Mathlib.Decide.{decLt}
 use native.Mathlib.Omega.{arith}
-use lib.Dec.{T, ltb, T-not, not-T}
-use Rattle.files.specs.Basics.First.{first-where, Finds, scan-finds}
-use Rattle.files.specs.Basics.Lists.{span, span-i, span-e}
+use lib.Dec.{T, T-not, not-T}
+use Rattle.files.specs.Basics.First.{Finds, scan-finds}
+use Rattle.files.specs.Basics.Lists.{span, span-i}
 use Rattle.files.specs.Basics.Says.{Says, says-eq, says-lt, says-not, says-and, says-or}
 use Rattle.files.specs.Basics.Tests.{any, any-e, any-i, and-l, and-r, and-i, decide}
-use Rattle.files.specs.Decode.{decode-graph, to-edge}
+use Rattle.files.specs.Decode.{decode-graph}
 use Rattle.files.specs.Decode.Graphs.{decoded-size, decoded-node, is-node, is-edge, edge-e, few}
-use Rattle.files.specs.Graph.{Graph, Node, Edge, size, node}
-use Rattle.files.specs.Interface.{Interface, provides, requires-method, Labelled, Of, in-set}
+use Rattle.files.specs.Graph.{Node, Edge, size, node}
+use Rattle.files.specs.Interface.{Interface, provides, requires-method, Labelled, Of}
 use Rattle.files.specs.Interface.Laws.{in-set-small}
-use Rattle.files.specs.Record.{record-at, kind-at, count}
+use Rattle.files.specs.Record.{record-at, count}
 use Rattle.files.specs.Refusal.{graph, refusal, nodes-of}
 use Rattle.files.specs.Sides.{foreign, Foreign, first-foreign, ForeignAt, shares, Shares, unprovided, Unprovided}
 use Rattle.files.specs.declared.record.Limits.{Limits}

@@ -1,17 +1,16 @@
 -- P8 and P9 on bytes.
-use mathlib.Core.Path.{_≡_, refl, sym, ap, ap₂, _∙_}
+use mathlib.Core.Path.{_≡_, ap, ap₂, _∙_}
 use mathlib.Core.List.{List, [], _∷_, _++_}
 use Prim.Native.Nat.{ℕ}
 use native.Mathlib.Omega.{arith}
-use lib.ListN.{length, replicate}
+use lib.ListN.{replicate}
 use Rattle.files.specs.Course.{entry-file, entry-graph, cycle-file, cycle-graph, loop-file, loop-graph}
 use Rattle.files.specs.Decode.Examples.{entry-is, cycle-is, loop-is}
 use Rattle.files.specs.Limits.{desk}
-use Rattle.files.specs.Outcome.{Said, Outcome, says}
+use Rattle.files.specs.Outcome.{Said, says}
 use Rattle.files.specs.Refusal.Examples.{entry-accepted, cycle-accepted, loop-accepted}
-use Rattle.judging.specs.Compare.{compare-room, compare-said, compared}
+use Rattle.judging.specs.Compare.{compare-room, compared}
 use Rattle.judging.specs.Compare.Laws.{compare-on, yes-said, no-said}
-use Rattle.judging.specs.Simulation.{uncovered, relation-bytes}
 use Rattle.judging.specs.Simulation.Examples.{p8-yes, p8-back, p9-no, p9-entry, p8-bytes, p8-back-bytes, p9-bytes}
 
 abbrev said : ℕ → List ℕ → List ℕ → Said

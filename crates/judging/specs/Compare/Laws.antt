@@ -1,9 +1,9 @@
 -- Comparing is refused by the first line of its published order that applies, and otherwise says what `Compares` says.
 use mathlib.Core.Path.{_≡_, refl, sym, ap, ap₂, subst, _∙_}
-use mathlib.Core.Logic.{_⊎_, inl, inr, _↔_}
+use mathlib.Core.Logic.{_↔_}
 use mathlib.Core.Bool.{Bool, true, false, not, cond}
 use mathlib.Core.List.{List, [], _∷_}
-use mathlib.Core.Option.{Option, none, some}
+use mathlib.Core.Option.{none}
 use Prim.Native.Nat.{ℕ, _≤_, _<_}
 use native.Mathlib.Omega.{arith}
 use lib.Dec.{T, T-not}
@@ -12,12 +12,12 @@ use Rattle.files.specs.Basics.Says.{says-lt}
 use Rattle.files.specs.Decode.{decode-graph}
 use Rattle.files.specs.Decode.Graphs.{decoded-flow}
 use Rattle.files.specs.Graph.{Graph, Flow, node, size}
-use Rattle.files.specs.Outcome.{Said, Outcome, refuses, says, refusal-at, NoneOf, FirstOf, Matches, out-check, out-line, file-lines}
+use Rattle.files.specs.Outcome.{Said, refuses, says, refusal-at, NoneOf, FirstOf, Matches}
 use Rattle.files.specs.Outcome.Laws.{whole-match, files-match, out-match, refused-by, accepted-by, verdict-is, file-accepted, whole-none, whole-none-i, file-none, none-end}
 use Rattle.files.specs.Refusal.{graph, refusal}
 use Rattle.files.specs.declared.record.Limits.{Limits}
 use Rattle.judging.specs.Compare.{compare-room, compare-said, compare-verdict, compare-checks, compare-lines, compared, Compares}
-use Rattle.judging.specs.Simulation.{Simulation, Simulates, related, covered, simulates, uncovered, relation-bytes}
+use Rattle.judging.specs.Simulation.{Simulation, Simulates, covered, simulates, uncovered, relation-bytes}
 use Rattle.judging.specs.Simulation.Laws.{verdict, largest, covered-i, uncovered-is, uncovered-lowest}
 
 module _ (L : Limits) (g h : List ℕ) (out work : ℕ) where

@@ -1,16 +1,15 @@
 -- P4 to P7 on bytes, and one example for each operator.
-use mathlib.Core.Path.{_≡_, refl, sym, ap, ap₂, _∙_}
-use mathlib.Core.Bool.{Bool, true, false}
+use mathlib.Core.Path.{_≡_, ap, ap₂, _∙_}
 use mathlib.Core.List.{List, [], _∷_, _++_, map, head-eq-of-cons-eq, tail-eq-of-cons-eq}
 use Prim.Native.Nat.{ℕ}
 use native.Mathlib.Omega.{arith}
 use lib.ListN.{length}
-use Rattle.files.specs.Course.{bytes, gr, entry-file, entry-graph, call-file, call-graph, false-file, false-rows, return-file, return-rows, box-file, box-rows, operator-files, operator-rows, operator-values}
+use Rattle.files.specs.Course.{bytes, gr, entry-file, entry-graph, call-file, call-graph, false-file, false-rows, return-file, return-rows, box-file, box-rows, operator-files, operator-values}
 use Rattle.files.specs.Decode.{decode-property}
 use Rattle.files.specs.Decode.Examples.{empty-is, entry-is, call-is, false-is, return-is, box-is, operators-are}
 use Rattle.files.specs.Graph.{Graph}
 use Rattle.files.specs.Limits.{desk}
-use Rattle.files.specs.Outcome.{Said, Outcome, says}
+use Rattle.files.specs.Outcome.{Said, says}
 use Rattle.files.specs.Property.{Row}
 use Rattle.files.specs.Refusal.Examples.{empty-accepted, entry-accepted, call-accepted, false-accepted, return-accepted, box-zero-accepted, box-one-accepted}
 use Rattle.judging.specs.Judge.{judge-room, judge-said, judged}

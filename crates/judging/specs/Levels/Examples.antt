@@ -2,9 +2,7 @@
 use mathlib.Core.Path.{_≡_, refl}
 use mathlib.Core.Bool.{Bool, true, false}
 use mathlib.Core.List.{List, [], _∷_, map}
-use Prim.Native.Nat.{ℕ}
-use Rattle.files.specs.Basics.Least.{least}
-use Rattle.files.specs.Property.{Row, either, never}
+use Rattle.files.specs.Property.{Row}
 use Rattle.files.specs.Course.{gr, entry-graph, call-graph, false-rows, or-rows, return-rows, box-rows, three-graph, operator-rows, operator-values}
 use Rattle.judging.specs.Levels.{after, next, level, holds, satisfies, rank}
 

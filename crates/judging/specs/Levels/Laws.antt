@@ -1,16 +1,16 @@
 -- The laws of judging: a row that ever turns false has done so by level nodes * rows; what holds is the greatest solution of the rows' equations.
-use mathlib.Core.Path.{_≡_, refl, sym, ap, subst, _∙_}
+use mathlib.Core.Path.{_≡_, refl, subst}
 use mathlib.Core.Logic.{_⊎_, inl, inr, _↔_}
-use mathlib.Core.Bool.{Bool, true, false, not, cond, _&&_, _||_}
-use mathlib.Core.List.{List, [], _∷_, List·Memᴰ}
+use mathlib.Core.Bool.{Bool, true, false, not, cond, _||_}
+use mathlib.Core.List.{List, List·Memᴰ}
 use mathlib.Core.Option.{Option, none, some, Option·none-ne-some, Option·some-injective}
-use Prim.Native.Nat.{ℕ, zero, suc, _+_, _*_, _≤_, _<_}
+use Prim.Native.Nat.{ℕ, zero, suc, _*_, _<_}
 use native.Mathlib.Omega.{arith}
-use lib.Dec.{T, eqb, ltb, ltb→lt, eqb→eq, T-not, not-T}
+use lib.Dec.{T, eqb, ltb, ltb→lt, eqb→eq}
 use lib.ListN.{length}
-use Rattle.files.specs.Basics.Least.{least, least-passes, least-before}
+use Rattle.files.specs.Basics.Least.{least-passes, least-before}
 use Rattle.files.specs.Basics.Settle.{Below, falls, settled}
-use Rattle.files.specs.Basics.Tests.{imp, imp-i, imp-e, and-l, and-r, and-i, or-e, or-l, or-r, all, all-i, all-e, upto, upto-i, upto-e, grid, grid-i, grid-e, length-grid, eq-eqb, decide, not-not, not-imp, not-all}
+use Rattle.files.specs.Basics.Tests.{imp, imp-i, imp-e, and-l, and-r, and-i, or-e, or-l, or-r, all-i, all-e, upto, upto-i, upto-e, grid, grid-i, grid-e, length-grid, eq-eqb, not-not, not-imp, not-all}
 use Rattle.files.specs.Graph.{Graph, Edge, size, node, Flow}
 use Rattle.files.specs.Property.{Row, always, never, returns, not-returns, in-method, not-in-method, both, either, box, row, obliged, names, Property}
 use Rattle.judging.specs.Levels.{truth, granted, after, next, level, Holds, holds, Satisfies, satisfies, rank}

@@ -1,14 +1,14 @@
 -- The laws of ranks: what is false has a rank, at most nodes * rows, and its row is false of what had a lower rank.
-use mathlib.Core.Path.{_≡_, refl, sym, ap, subst, _∙_}
-use mathlib.Core.Bool.{Bool, true, false, not}
+use mathlib.Core.Path.{_≡_, refl, subst}
+use mathlib.Core.Bool.{Bool, false, not}
 use mathlib.Core.List.{List}
-use Prim.Native.Nat.{ℕ, zero, suc, _+_, _*_, _≤_, _<_}
+use Prim.Native.Nat.{ℕ, zero, suc, _*_, _≤_, _<_}
 use native.Mathlib.Decide.{decLe}
 use native.Mathlib.Omega.{arith}
 use lib.Dec.{T, T-not, not-T}
 use lib.ListN.{length}
-use Rattle.files.specs.Basics.Least.{least, least-hit}
-use Rattle.files.specs.Graph.{Graph, Edge, size, node, Flow}
+use Rattle.files.specs.Basics.Least.{least-hit}
+use Rattle.files.specs.Graph.{Graph, size, node, Flow}
 use Rattle.files.specs.Property.{Row, row, Property}
 use Rattle.judging.specs.Levels.{truth, after, level, holds, rank}
 use Rattle.judging.specs.Levels.Laws.{never-false, rank-false, rank-before, level-zero, level-next}

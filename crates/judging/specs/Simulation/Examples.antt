@@ -1,10 +1,8 @@
 -- P8 and P9, computed: verdicts, the relation's bytes, and the entry that is not covered.
 use mathlib.Core.Path.{_≡_, refl}
-use mathlib.Core.Bool.{Bool, true, false}
-use mathlib.Core.List.{List, [], _∷_, _++_}
-use Prim.Native.Nat.{ℕ}
+use mathlib.Core.Bool.{true, false}
+use mathlib.Core.List.{_∷_, _++_}
 use lib.ListN.{replicate}
-use Rattle.files.specs.Basics.Least.{least}
 use Rattle.files.specs.Course.{entry-graph, cycle-graph, loop-graph}
 use Rattle.judging.specs.Simulation.{alike, matching, keeps, refined, related, covered, simulates, uncovered, relation-bytes}
 

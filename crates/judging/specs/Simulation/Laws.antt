@@ -2,9 +2,9 @@
 -- and the bytes written hold the relation.
 use mathlib.Core.Path.{_≡_, refl, sym, ap, subst, _∙_}
 use mathlib.Core.Logic.{_⊎_, inl, inr, _↔_}
-use mathlib.Core.Bool.{Bool, true, false, not, _&&_}
-use mathlib.Core.List.{List, [], _∷_, List·Memᴰ}
-use Prim.Native.Nat.{ℕ, zero, suc, _+_, _*_, _/_, _%_, _≤_, _<_}
+use mathlib.Core.Bool.{Bool, false, not, _&&_}
+use mathlib.Core.List.{List, List·Memᴰ}
+use Prim.Native.Nat.{ℕ, zero, suc, _+_, _*_, _/_, _%_, _<_}
 use native.Mathlib.Nat.{zero-add}
 use native.Mathlib.Omega.{arith}
 use lib.Dec.{T, eqb, ltb, ltb→lt, lt→ltb, eqb→eq, T-not}
@@ -12,9 +12,9 @@ use lib.ListN.{length, getD}
 use Rattle.files.specs.Basics.Binary.{value, bit, value-bit}
 use Rattle.files.specs.Basics.Least.{least-passes, least-before, least-lt}
 use Rattle.files.specs.Basics.Lists.{each, span, length-each, getD-each}
-use Rattle.files.specs.Basics.Settle.{Below, falls, settled}
+use Rattle.files.specs.Basics.Settle.{Below, settled}
 use Rattle.files.specs.Basics.Tables.{table, length-table, getD-table, length-span, getD-span}
-use Rattle.files.specs.Basics.Tests.{imp, imp-i, imp-e, and-l, and-r, and-i, same, same→eq, same-refl, all, all-i, all-e, any, any-i, any-e, upto, upto-i, upto-e, grid, grid-i, grid-e, length-grid, eq-eqb, one, not-all, not-imp, not-and, not-not}
+use Rattle.files.specs.Basics.Tests.{imp, imp-i, imp-e, and-l, and-r, and-i, same, same→eq, same-refl, all, all-i, all-e, any-i, any-e, upto, upto-i, upto-e, grid, grid-i, length-grid, eq-eqb, one, not-all, not-imp, not-and, not-not}
 use Rattle.files.specs.Graph.{Node, Edge, Graph, size, node, Flow}
 use Rattle.judging.specs.Simulation.{Simulation, Simulates, alike, matching, keeps, refined, related, covered, simulates, uncovered, relation-line, relation-bytes}
 

@@ -1,23 +1,21 @@
 -- The computed tests say what the predicates say, and the computed graph is the model.
-use mathlib.Core.Path.{_≡_, refl, sym, ap, subst, _∙_}
+use mathlib.Core.Path.{_≡_, refl, sym, ap, subst}
 use mathlib.Core.Logic.{_⊎_, inl, inr, _↔_}
 use mathlib.Core.Bool.{Bool, true, false, not, _&&_, _||_}
-use mathlib.Core.List.{List, [], _∷_, map, List·Memᴰ, List·Memᴰ·head, List·Memᴰ·tail, List·Memᴰ·not-nil, Memᴰ·map, Memᴰ·of-map}
-use Prim.Native.Nat.{ℕ, zero, suc, _+_, _≤_, _<_}
+use mathlib.Core.List.{List, [], _∷_, map, List·Memᴰ, List·Memᴰ·head, List·Memᴰ·tail, Memᴰ·map, Memᴰ·of-map}
+use Prim.Native.Nat.{ℕ, _<_}
 use native.Mathlib.Omega.{arith}
-use lib.Dec.{T, eqb, eqb→eq, T-not, not-T, ltb→lt}
+use lib.Dec.{T, eqb, eqb→eq, T-not, not-T}
 use lib.ListN.{length, getD, length-map}
 use Rattle.files.specs.Basics.Closure.{closed, closed-ind, closed-rule}
 use Rattle.files.specs.Basics.Lists.{keep, keep-i, keep-e, each, each-i, each-e, span, span-i, span-e, index-i, index-e, getD-map}
-use Rattle.files.specs.Basics.Tests.{imp, imp-i, imp-e, and-l, and-r, and-i, or-e, or-l, or-r, all, all-i, all-e, any, any-i, any-e, upto, upto-i, upto-e, decide, eq-eqb}
-use Rattle.maximal.specs.Model.{below}
-use Rattle.files.specs.Graph.{Node, Edge, Graph, size, node}
+use Rattle.files.specs.Basics.Tests.{imp-i, imp-e, and-l, and-r, and-i, or-e, or-l, or-r, all-i, all-e, any, any-i, any-e, upto, upto-i, decide, eq-eqb}
+use Rattle.maximal.specs.Model.{below, Reached, Rows, has, Within, supported, Support, Minimal, root, asked, State, Entry, Next, at-entry, at-next, IsModel, sets, is-support, is-minimal, is-entry, is-label, is-next, all-states, arises, states, state-at, no-state, edges-between, graph-of, model}
+use Rattle.files.specs.Graph.{Edge, size, node}
 use Rattle.files.specs.Interface.{Interface, provides, requires-method, Labelled}
 use Rattle.files.specs.Interface.Laws.{in-set-small}
 use Rattle.files.specs.Property.{Row, row, Property}
 use Rattle.judging.specs.Levels.Laws.{obliged-named}
-use Rattle.maximal.specs.Model.{Reached}
-use Rattle.maximal.specs.Model.{Rows, has, Within, supported, Support, Minimal, root, asked, State, Entry, Next, at-entry, at-next, IsModel, sets, is-support, is-minimal, is-entry, is-label, is-next, all-states, arises, states, state-at, no-state, edges-between, graph-of, model}
 use Rattle.maximal.specs.Model.Maximal.{reached-provided, reached-rows}
 use Rattle.maximal.specs.Model.Supports.{asked-e, sets-i, sets-e, has-lt}
 

@@ -1,9 +1,6 @@
 -- P1 to P3, computed: the graph of the model.
 use mathlib.Core.Path.{_≡_, refl}
-use mathlib.Core.Bool.{Bool, true, false}
-use mathlib.Core.List.{List, [], _∷_}
-use Prim.Native.Nat.{ℕ}
-use Rattle.files.specs.Basics.Closure.{from, closed}
+use mathlib.Core.List.{[]}
 use Rattle.files.specs.Course.{gr, p1-graph, p2-graph, one-one, one-none, p1-rows, or-rows, false-rows}
 use Rattle.maximal.specs.Model.{supported, asked, is-support, is-minimal, is-entry, is-label, is-next, all-states, arises, states, edges-between, graph-of, model}
 

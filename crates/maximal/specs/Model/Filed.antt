@@ -1,17 +1,17 @@
 -- The model, where it is within the limits, is a graph that a file can hold.
-use mathlib.Core.Path.{_≡_, refl, sym, ap, subst, _∙_}
-use mathlib.Core.Logic.{_⊎_, inl, inr}
-use mathlib.Core.List.{List, List·Memᴰ}
-use Prim.Native.Nat.{ℕ, zero, suc, _≤_, _<_}
+use mathlib.Core.Path.{subst}
+use mathlib.Core.Logic.{inl, inr}
+use mathlib.Core.List.{List}
+use Prim.Native.Nat.{suc, _≤_}
 use native.Mathlib.Omega.{arith}
 use lib.Dec.{T}
-use lib.ListN.{length, getD}
+use lib.ListN.{length}
 use Rattle.files.specs.Basics.Lexical.{Before}
 use Rattle.files.specs.Basics.Lists.{index-i}
-use Rattle.files.specs.Basics.Order.{Ascends, ascends-at}
+use Rattle.files.specs.Basics.Order.{ascends-at}
 use Rattle.files.specs.Decode.{Filed, key}
-use Rattle.files.specs.Graph.{Node, Edge, Graph, no-node, no-edge, size, node, Flow}
-use Rattle.files.specs.Interface.{Interface, provides, Labelled, Of}
+use Rattle.files.specs.Graph.{Node, Edge, no-node, no-edge, size, Flow}
+use Rattle.files.specs.Interface.{Interface, provides, Of}
 use Rattle.files.specs.Interface.Laws.{in-set-small, labelled-small}
 use Rattle.files.specs.Property.{Row, Property}
 use Rattle.files.specs.declared.record.Limits.{Limits}

@@ -1,23 +1,20 @@
 -- The theorem of the maximal model: it simulates a flow graph of the interface, of any size, exactly where the graph satisfies the property.
 use mathlib.Core.Path.{_≡_, refl, sym, ap, subst, subst₂, _∙_}
-use mathlib.Core.Logic.{_⊎_, inl, inr, _↔_}
-use mathlib.Core.Bool.{Bool, true, false, _&&_}
-use mathlib.Core.List.{List, [], _∷_, List·Memᴰ}
-use Prim.Native.Nat.{ℕ, zero, suc, _*_, _<_}
-use native.Mathlib.Nat.{not-suc-le-zero, le-of-suc-le-suc}
-use native.Mathlib.Omega.{arith}
-use lib.Dec.{T, eqb, eqb→eq, ltb→lt, ltb}
-use lib.ListN.{length, getD}
-use Rattle.files.specs.Basics.Tests.{imp, and-l, and-r, and-map, or-map, all, eq-eqb}
+use mathlib.Core.Logic.{_↔_}
+use mathlib.Core.Bool.{Bool, true}
+use mathlib.Core.List.{List, List·Memᴰ}
+use Prim.Native.Nat.{ℕ, zero, suc, _<_}
+use lib.Dec.{T, eqb→eq, ltb→lt, ltb}
+use lib.ListN.{length}
+use Rattle.files.specs.Basics.Tests.{and-l, and-r, and-map, or-map, all, eq-eqb}
 use Rattle.files.specs.Graph.{Graph, Edge, size, node, Flow}
-use Rattle.files.specs.Interface.{Interface, provides, Labelled, Of}
-use Rattle.files.specs.Property.{Row, always, never, returns, not-returns, in-method, not-in-method, both, either, box, row, obliged, names, Property}
+use Rattle.files.specs.Interface.{Interface, provides, Of}
+use Rattle.files.specs.Property.{Row, always, never, returns, not-returns, in-method, not-in-method, both, either, box, row, names, Property}
 use Rattle.judging.specs.Levels.{truth, level, holds, satisfies, after}
 use Rattle.judging.specs.Levels.Laws.{after-i, after-e, holds-truth, holds-if, satisfies-iff, level-zero, level-next, obliged-named, obliged-truth}
-use Rattle.maximal.specs.Model.{Reached}
-use Rattle.judging.specs.Simulation.{Simulation, Simulates}
+use Rattle.maximal.specs.Model.{Reached, Rows, has, Within, fulfilled, supported, Support, root, asked, State, Entry, Next, at-entry, at-next, IsModel}
+use Rattle.judging.specs.Simulation.{Simulates}
 use Rattle.judging.specs.Simulation.Laws.{simulates-refl}
-use Rattle.maximal.specs.Model.{Rows, has, Within, fulfilled, supported, Support, Minimal, root, asked, State, Entry, Next, at-entry, at-next, IsModel}
 use Rattle.maximal.specs.Model.Supports.{has-lt, minimal-inside, tab, length-tab, has-tab, supported-e, supported-i, asked-e, asked-i}
 
 -- ---- what a row says of a node and what it asks of a set

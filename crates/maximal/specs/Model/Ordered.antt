@@ -1,22 +1,20 @@
 -- The model's states ascend by method, flag, then sum of 2 ^ row, none twice, and its edges ascend strictly.
-use mathlib.Core.Path.{_≡_, refl, sym, ap, ap₂, subst, _∙_}
+use mathlib.Core.Path.{_≡_, refl, sym, ap, subst, _∙_}
 use mathlib.Core.Logic.{_⊎_, inl, inr}
-use mathlib.Core.Bool.{Bool, true, false, not, cond}
+use mathlib.Core.Bool.{Bool, true, false}
 use mathlib.Core.List.{List, [], _∷_, map, List·Memᴰ, List·Memᴰ·head, List·Memᴰ·tail, List·Memᴰ·cases-cons, List·Memᴰ·not-nil, List·Memᴰ·eq-of-singleton, Memᴰ·of-map}
-use Prim.Native.Nat.{ℕ, zero, suc, _+_, _*_, _/_, _%_, _^_, _≤_, _<_}
-use native.Mathlib.Nat.{mul-zero, mul-one, mul-add, mul-assoc, pow-suc}
+use Prim.Native.Nat.{ℕ, zero, suc, _^_, _<_}
 use native.Mathlib.Omega.{arith}
-use lib.Dec.{T}
 use lib.ListN.{length, getD}
 use Rattle.files.specs.Basics.Binary.{value}
 use Rattle.files.specs.Basics.Lists.{keep, each, each-e, span}
 use Rattle.files.specs.Basics.Order.{Ascends, ascends-keep, ascends-once, ascends-at, closed-ascends, ascends-map, ascends-each, Less, span-ascends}
 use Rattle.files.specs.Basics.Queue.{Once}
 use Rattle.files.specs.Basics.Tests.{one, one-le}
-use Rattle.files.specs.Graph.{Edge, Graph}
+use Rattle.files.specs.Graph.{Edge}
 use Rattle.files.specs.Interface.{Interface, provides}
 use Rattle.files.specs.Property.{Row}
-use Rattle.maximal.specs.Model.{Rows, has, State, twice, sets, is-next, all-states, arises, states, state-at, no-state, edges-between, graph-of, model}
+use Rattle.maximal.specs.Model.{Rows, State, twice, sets, is-next, all-states, arises, states, state-at, no-state, edges-between, graph-of, model}
 
 abbrev pub Lower : Rows → Rows → Type 0
 Lower S U = value S < value U

@@ -4,11 +4,11 @@ use mathlib.Core.Logic.{_⊎_, inl, inr}
 use mathlib.Core.Bool.{Bool, true, false, not, _&&_}
 use mathlib.Core.Option.{Option, none, some}
 use mathlib.Core.List.{List, [], _∷_, List·Memᴰ, List·Memᴰ·head, List·Memᴰ·tail, List·Memᴰ·cases-cons, List·Memᴰ·not-nil, List·Memᴰ·eq-of-singleton}
-use Prim.Native.Nat.{ℕ, zero, suc, _+_, _≤_, _<_, suc-le-suc}
+use Prim.Native.Nat.{ℕ, zero, suc, _<_, suc-le-suc}
 use native.Mathlib.Nat.{suc-inj, suc-ne-zero, not-suc-le-zero, le-of-suc-le-suc, zero-lt-suc}
 use native.Mathlib.Omega.{arith}
-use lib.Dec.{T, eqb, eqb→eq, ltb, ltb→lt, lt→ltb, T-not}
-use lib.ListN.{length, getD}
+use lib.Dec.{T, eqb→eq, ltb, ltb→lt, lt→ltb, T-not}
+use lib.ListN.{length}
 use Rattle.files.specs.Basics.Settle.{Below, gap, count}
 use Rattle.files.specs.Basics.Tests.{imp, imp-i, imp-e, and-l, and-r, and-i, all, all-i, all-e, any, any-i, any-e, upto, upto-i, upto-e, decide, eq-eqb}
 use Rattle.files.specs.Property.{Row, row, obliged}

@@ -1,16 +1,14 @@
 -- P1 to P3 on bytes.
-use mathlib.Core.Path.{_≡_, refl, sym, ap, ap₂, subst, _∙_}
-use mathlib.Core.Logic.{_⊎_, inl, inr}
-use mathlib.Core.List.{List, [], _∷_, _++_}
+use mathlib.Core.Path.{_≡_, sym, ap, subst, _∙_}
+use mathlib.Core.Logic.{inl, inr}
+use mathlib.Core.List.{List, [], _∷_}
 use Prim.Native.Nat.{ℕ, _≤_}
 use native.Mathlib.Omega.{arith}
 use lib.ListN.{length}
 use Rattle.files.specs.Course.{bytes, gr, one-one-file, one-one, one-none-file, one-none, p1-file, p1-rows, or-file, or-rows, false-file, false-rows, p1-bytes, p2-bytes, p1-graph, p2-graph}
-use Rattle.files.specs.Decode.{graph-bytes}
 use Rattle.files.specs.Decode.Examples.{one-one-is, one-none-is, p1-is, or-is, false-is, p1-bytes-are, p2-bytes-are, p3-bytes-are}
-use Rattle.files.specs.Graph.{Graph}
 use Rattle.files.specs.Limits.{desk}
-use Rattle.files.specs.Outcome.{TooLarge, Said, Outcome, says}
+use Rattle.files.specs.Outcome.{TooLarge, says}
 use Rattle.files.specs.Refusal.Examples.{one-one-accepted, one-none-accepted, p1-accepted, or-accepted, false-accepted}
 use Rattle.maximal.specs.Model.Examples.{p1-model, p2-model, p3-model}
 use Rattle.maximal.specs.Modelling.{model-room, modelled}

@@ -1,11 +1,10 @@
 -- Modelling is refused by the first line of its published order that applies, and otherwise says what `Models` says.
-use mathlib.Core.Path.{_≡_, refl, sym, ap, ap₂, subst, _∙_}
-use mathlib.Core.Logic.{_⊎_, inl, inr, _↔_, Iff·trans}
+use mathlib.Core.Path.{_≡_, sym, ap, ap₂, subst, _∙_}
+use mathlib.Core.Logic.{_↔_}
 use mathlib.Core.List.{List, [], _∷_}
-use mathlib.Core.Option.{Option, none, some}
+use mathlib.Core.Option.{none}
 use Prim.Native.Nat.{ℕ, _≤_, _<_}
 use native.Mathlib.Omega.{arith}
-use lib.Dec.{T}
 use lib.ListN.{length}
 use Rattle.files.specs.Basics.Says.{says-lt}
 use Rattle.files.specs.Decode.{decode-graph, decode-property, decode-interface, graph-bytes}
@@ -14,12 +13,12 @@ use Rattle.files.specs.Decode.Properties.{decoded-property}
 use Rattle.files.specs.Decode.Written.{decode-bytes}
 use Rattle.files.specs.Graph.{Graph, Flow, size}
 use Rattle.files.specs.Interface.{Interface, Of}
-use Rattle.files.specs.Outcome.{Said, Outcome, refuses, says, refusal-at, NoneOf, FirstOf, Matches, TooLarge, graph-said}
+use Rattle.files.specs.Outcome.{Said, refuses, says, refusal-at, NoneOf, FirstOf, Matches, TooLarge, graph-said}
 use Rattle.files.specs.Outcome.Laws.{whole-match, files-match, out-match, refused-by, accepted-by, verdict-is, file-accepted, whole-none, says-too-large, small-enough, whole-none-i, file-none, none-end}
 use Rattle.files.specs.Property.{Row, Property}
 use Rattle.files.specs.Refusal.{graph, property, interface, refusal}
 use Rattle.files.specs.declared.record.Limits.{Limits}
-use Rattle.judging.specs.Levels.{Satisfies, satisfies}
+use Rattle.judging.specs.Levels.{Satisfies}
 use Rattle.judging.specs.Levels.Laws.{satisfies-agrees}
 use Rattle.judging.specs.Simulation.{Simulates}
 use Rattle.maximal.specs.Model.{model, state-at}

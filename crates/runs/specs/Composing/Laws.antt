@@ -1,30 +1,24 @@
 -- The composed verdict is refused by the first line of its published order that applies; where it is not, the model conforms, and the verdict is that of watching
 -- the known graph joined with the model.
-use mathlib.Core.Path.{_≡_, refl, sym, ap, subst, _∙_}
-use mathlib.Core.Logic.{_⊎_, inl, inr, _↔_, Iff·trans}
-use mathlib.Core.List.{List, [], _∷_, List·Memᴰ}
-use mathlib.Core.Option.{Option, none, some}
-use Prim.Native.Nat.{ℕ, _≤_, _<_}
-use native.Mathlib.Omega.{arith}
-use lib.Dec.{T}
+use mathlib.Core.Path.{_≡_}
+use mathlib.Core.Logic.{_⊎_, _↔_}
+use mathlib.Core.List.{List}
+use Prim.Native.Nat.{ℕ, _<_}
 use Rattle.files.specs.Basics.Says.{says-lt, says-or}
-use Rattle.files.specs.Decode.{Filed, FiledRules, decode-graph, decode-property, decode-interface, decode-rules}
+use Rattle.files.specs.Decode.{decode-graph, decode-property, decode-interface, decode-rules}
 use Rattle.files.specs.Decode.Graphs.{decoded-filed}
 use Rattle.files.specs.Decode.Properties.{decoded-property}
 use Rattle.files.specs.Decode.RuleFiles.{decoded-rules}
-use Rattle.files.specs.Graph.{Graph, Edge, Flow}
-use Rattle.files.specs.Interface.{Interface, Of, Labelled}
+use Rattle.files.specs.Graph.{Graph, Flow}
+use Rattle.files.specs.Interface.{Interface}
 use Rattle.files.specs.Interface.Laws.{labelled-small}
-use Rattle.files.specs.Outcome.{Said, Outcome, refuses, says, refusal-at, NoneOf, FirstOf, Matches, NoStart, TooLarge}
+use Rattle.files.specs.Outcome.{Said, refuses, says, refusal-at, NoneOf, FirstOf, Matches}
 use Rattle.files.specs.Outcome.Laws.{whole-match, scan-match, files-match, out-match, refused-by, accepted-by, verdict-is, file-accepted, whole-none, says-no-start, says-too-large}
 use Rattle.files.specs.Property.{Row, Property}
-use Rattle.files.specs.Refusal.{graph, property, rules, interface, refusal}
-use Rattle.files.specs.Rules.{Event, Monitor, watch}
-use Rattle.files.specs.Sides.{ForeignAt, Shares, Unprovided}
+use Rattle.files.specs.Refusal.{graph, property, rules, interface}
+use Rattle.files.specs.Rules.{Monitor, watch}
 use Rattle.files.specs.Sides.Laws.{foreign-finds, says-shares, says-unprovided}
 use Rattle.files.specs.declared.record.Limits.{Limits}
-use Rattle.judging.specs.Levels.{Satisfies}
-use Rattle.judging.specs.Simulation.{Simulates}
 use Rattle.judging.specs.Simulation.Laws.{simulates-refl}
 use Rattle.maximal.specs.Model.{model}
 use Rattle.maximal.specs.Model.Filed.{model-is-flow, model-is-of}
@@ -32,9 +26,9 @@ use Rattle.maximal.specs.Modelling.Laws.{model-simulates-iff}
 use Rattle.runs.specs.Composing.{Conforms, compose-store, compose-work, compose-model, compose-graph, compose-sides, compose-verdict, compose-checks, compose-lines, composed}
 use Rattle.runs.specs.Join.{join}
 use Rattle.runs.specs.Join.Laws.{join-flow, join-labels, join-simulates}
-use Rattle.runs.specs.Runs.{Bad, Clean}
+use Rattle.runs.specs.Runs.{Clean}
 use Rattle.runs.specs.Runs.Laws.{simulates-bad}
-use Rattle.runs.specs.Watching.{Watches, watch-said}
+use Rattle.runs.specs.Watching.{Watches}
 use Rattle.runs.specs.Watching.Laws.{watch-cases, filed-labels, filed-monitor}
 
 -- ---- the two directions

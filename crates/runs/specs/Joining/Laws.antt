@@ -1,23 +1,19 @@
 -- Joining is refused by the first line of its published order that applies, and otherwise says what `Joins` says.
-use mathlib.Core.Path.{_≡_, refl, sym, ap, subst, _∙_}
-use mathlib.Core.Logic.{_⊎_, inl, inr, _↔_}
-use mathlib.Core.List.{List, [], _∷_}
-use mathlib.Core.Option.{Option, none, some}
-use Prim.Native.Nat.{ℕ, _≤_, _<_}
-use lib.ListN.{length}
-use Rattle.files.specs.Decode.{decode-graph, decode-interface, graph-bytes, Filed}
+use mathlib.Core.Path.{_≡_, sym, ap, subst, _∙_}
+use mathlib.Core.Logic.{_↔_}
+use mathlib.Core.List.{List}
+use Prim.Native.Nat.{ℕ}
+use Rattle.files.specs.Decode.{decode-graph, decode-interface, graph-bytes}
 use Rattle.files.specs.Decode.Accepted.{accepted-bytes}
 use Rattle.files.specs.Decode.Graphs.{decoded-filed}
 use Rattle.files.specs.Decode.Written.{decode-bytes}
-use Rattle.files.specs.Graph.{Graph, size}
-use Rattle.files.specs.Interface.{Interface, Of, united}
-use Rattle.files.specs.Outcome.{Said, Outcome, refuses, says, refusal-at, NoneOf, FirstOf, Matches, TooLarge}
+use Rattle.files.specs.Interface.{Of}
+use Rattle.files.specs.Outcome.{Said, refuses, says, refusal-at, NoneOf, FirstOf, Matches}
 use Rattle.files.specs.Outcome.Laws.{whole-match, scan-match, files-match, out-match, refused-by, accepted-by, verdict-is, file-accepted, whole-none, none-e, says-too-large, small-enough}
 use Rattle.files.specs.Refusal.{graph, interface, refusal}
-use Rattle.files.specs.Sides.{first-foreign, ForeignAt, shares, Shares}
+use Rattle.files.specs.Sides.{ForeignAt}
 use Rattle.files.specs.Sides.Laws.{foreign-finds, says-shares, none-foreign}
 use Rattle.files.specs.declared.record.Limits.{Limits}
-use Rattle.runs.specs.Join.{join}
 use Rattle.runs.specs.Join.Laws.{join-filed, join-of}
 use Rattle.runs.specs.Joining.{join-graph, join-sides, join-said, join-checks, join-lines, joined, Joins}
 

@@ -1,19 +1,14 @@
 -- A graph that simulates another has its bad runs, whatever the naming, if related configurations show the same.
-use mathlib.Core.Path.{_≡_, refl, sym, ap, ap₂, subst, subst₂, _∙_}
-use mathlib.Core.Logic.{_⊎_, inl, inr, _↔_}
-use mathlib.Core.Bool.{Bool, true, false, not}
-use mathlib.Core.Option.{Option, none, some}
-use mathlib.Core.List.{List, [], _∷_, _++_, map, List·Memᴰ, List·Memᴰ·append-cases, Memᴰ·append-left, Memᴰ·append-right, Memᴰ·map, Memᴰ·of-map, nil≢cons, head-eq-of-cons-eq, tail-eq-of-cons-eq}
-use Prim.Native.Nat.{ℕ, zero, suc, _+_, _-_, _<_}
-use native.Mathlib.Decide.{decLt}
-use native.Mathlib.Omega.{arith}
+use mathlib.Core.Path.{_≡_, refl, sym, ap, ap₂, subst, _∙_}
+use mathlib.Core.Bool.{Bool, not}
+use mathlib.Core.Option.{some}
+use mathlib.Core.List.{List, [], _∷_, nil≢cons, head-eq-of-cons-eq, tail-eq-of-cons-eq}
+use Prim.Native.Nat.{ℕ, _<_}
 use lib.Dec.{T}
-use Rattle.files.specs.Graph.{Graph, Edge, size, node}
+use Rattle.files.specs.Graph.{Graph, Edge, node}
 use Rattle.files.specs.Rules.{calls, returns-to, Monitor, sees}
-use Rattle.judging.specs.Simulation.{Simulation, Simulates}
-use Rattle.runs.specs.Runs.{Config, Naming, plain, meth, EntryOf, Runs, Step, internal, call, return, Run, start, then, BadBy, Bad}
-use lib.ListN.{length, getD, length-append, List·getD-append}
-use lib.Seq.{getD-append-add}
+use Rattle.judging.specs.Simulation.{Simulates}
+use Rattle.runs.specs.Runs.{Config, Naming, plain, EntryOf, Runs, Step, internal, call, return, Run, start, then, BadBy, Bad}
 
 -- stacks related node by node
 pub data Stacks (R : ℕ → ℕ → Type 0) : List ℕ → List ℕ → Type 0 where

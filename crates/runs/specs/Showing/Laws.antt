@@ -1,24 +1,24 @@
 -- Showing is refused by the first line of its published order that applies, and otherwise says what `Shows` says.
 use mathlib.Core.Path.{_≡_, refl, sym, ap, subst, _∙_}
-use mathlib.Core.Logic.{_⊎_, inl, inr, _↔_}
+use mathlib.Core.Logic.{_↔_}
 use mathlib.Core.Bool.{Bool, true, false, not, cond}
 use mathlib.Core.List.{List, []}
-use mathlib.Core.Option.{Option, none, some}
+use mathlib.Core.Option.{none}
 use Prim.Native.Nat.{ℕ, _+_, _-_, _≤_, _<_}
 use native.Mathlib.Omega.{arith}
 use lib.Dec.{T, ltb, ltb→lt, nltb→le}
 use Rattle.files.specs.Basics.Says.{says-le}
 use Rattle.files.specs.Decode.{decode-graph, node-rec}
 use Rattle.files.specs.Decode.Canonical.{shown-node}
-use Rattle.files.specs.Graph.{Graph, size, node}
-use Rattle.files.specs.Outcome.{Said, Outcome, refuses, says, refusal-at, NoneOf, FirstOf, Matches, no-lines}
+use Rattle.files.specs.Graph.{size, node}
+use Rattle.files.specs.Outcome.{Said, refuses, says, refusal-at, NoneOf, FirstOf, Matches, no-lines}
 use Rattle.files.specs.Outcome.Laws.{whole-match, files-match, refused-by, accepted-by, verdict-is, file-accepted, whole-none, match-end}
 use Rattle.files.specs.Record.{part, six}
 use Rattle.files.specs.Refusal.{graph, refusal}
 use Rattle.files.specs.declared.record.Limits.{Limits}
 use Rattle.runs.specs.Join.{join}
 use Rattle.runs.specs.Join.Laws.{join-first, join-second, join-size}
-use Rattle.runs.specs.Showing.{show-size, show-part, show-said, show-checks, show-lines, shown, Shows}
+use Rattle.runs.specs.Showing.{show-size, show-said, show-checks, show-lines, shown, Shows}
 use Rattle.files.specs.Basics.Tests.{below}
 
 module _ (L : Limits) (g1 g2 : List ℕ) (number : ℕ) where

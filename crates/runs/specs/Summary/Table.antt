@@ -1,20 +1,19 @@
 -- The computed summaries and verdict are exact.
-use mathlib.Core.Path.{_≡_, refl, sym, ap, subst, subst₂, _∙_}
+use mathlib.Core.Path.{_≡_, refl, sym, ap, subst, subst₂}
 use mathlib.Core.Logic.{_⊎_, inl, inr, _↔_}
-use mathlib.Core.Bool.{Bool, true, false, not, cond, _&&_, _||_}
-use mathlib.Core.List.{List, [], _∷_, map, List·Memᴰ, List·Memᴰ·head, List·Memᴰ·tail, Memᴰ·map, Memᴰ·of-map}
-use Prim.Native.Nat.{ℕ, zero, suc, _+_, _≤_, _<_}
+use mathlib.Core.Bool.{Bool, not, _&&_, _||_}
+use mathlib.Core.List.{List, map, List·Memᴰ, Memᴰ·map, Memᴰ·of-map}
+use Prim.Native.Nat.{ℕ, _<_}
 use native.Mathlib.Omega.{arith}
-use lib.Dec.{T, eqb, eqb→eq, ltb, ltb→lt, lt→ltb, T-not, not-T, lit<}
-use Rattle.files.specs.Basics.Closure.{closed, closed-ind, closed-rule, closed-in}
+use lib.Dec.{T, eqb, eqb→eq, ltb, ltb→lt, lt→ltb, T-not, lit<}
+use Rattle.files.specs.Basics.Closure.{closed-ind, closed-rule}
 use Rattle.files.specs.Basics.Lists.{each, each-i, each-e, span, span-i, span-e}
-use Rattle.files.specs.Basics.Tests.{and-l, and-r, and-i, and-e, or-e, or-l, or-r, any, any-i, any-e, eq-eqb, and-map, or-map, any-map}
+use Rattle.files.specs.Basics.Tests.{and-i, and-e, or-e, or-l, or-r, any, any-i, any-e, eq-eqb, and-map, or-map, any-map, not-not}
 use Rattle.files.specs.Graph.{Graph, Edge, size, node, Flow}
 use Rattle.files.specs.Rules.{Event, calls, returns-to, Monitor}
-use Rattle.runs.specs.Runs.{plain, meth, EntryOf, Runs, Run, Config, Bad, Clean}
+use Rattle.runs.specs.Runs.{meth, EntryOf, Runs, Bad, Clean}
 use Rattle.runs.specs.Summary.{Inside, enter, inner, over, Yields, Trail, starts, steps, enters, passes, Spot, Place, is-entry-of, callee, moves, leads-from, along, spot-rule, all-spots, spots, yields, moved-from, called-from, reaches, place-rule, all-places, places, clean}
 use Rattle.runs.specs.Summary.Exact.{exact}
-use Rattle.files.specs.Basics.Tests.{not-not}
 
 module _ (G : Graph) (mon : Monitor) (flow : Flow G) (labels-small : (e : Edge) → List·Memᴰ e (G .edges) → e .label < 9)
     (mon-small : (q : ℕ) (v : Event) → q < 8 → mon q v < 8) where

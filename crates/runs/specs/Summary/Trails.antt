@@ -1,8 +1,8 @@
 -- The trail: "A trail record is node, state, step, label, node reached, state reached. Steps: 0 start .., 1 internal, 2 call entered, 3 call passed over."
 -- "The trail has fewest records, ties to the smallest bytes; its last state is 7."
-use mathlib.Core.Bool.{Bool, true, false, not, cond, _&&_}
+use mathlib.Core.Bool.{Bool, false, not, _&&_}
 use mathlib.Core.List.{List, [], _∷_, _++_, map}
-use Prim.Native.Nat.{ℕ, zero, suc}
+use Prim.Native.Nat.{ℕ, suc}
 use lib.Dec.{eqb, ltb}
 use lib.ListN.{length}
 use Rattle.files.specs.Basics.Lists.{keep, each, span}

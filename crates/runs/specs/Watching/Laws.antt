@@ -1,9 +1,9 @@
 -- Watching is refused by the first line of its published order that applies, and otherwise says what `Watches` says.
 use mathlib.Core.Path.{_≡_, refl, sym, ap, ap₂, subst, _∙_}
-use mathlib.Core.Logic.{_⊎_, inl, inr, _↔_}
+use mathlib.Core.Logic.{_↔_}
 use mathlib.Core.Bool.{Bool, true, false, not, cond}
 use mathlib.Core.List.{List, [], _∷_, List·Memᴰ}
-use mathlib.Core.Option.{Option, none, some}
+use mathlib.Core.Option.{Option, none}
 use Prim.Native.Nat.{ℕ, _≤_, _<_}
 use native.Mathlib.Omega.{arith}
 use lib.Dec.{T}
@@ -13,8 +13,8 @@ use Rattle.files.specs.Decode.{Filed, decode-graph, decode-interface, decode-ru
 use Rattle.files.specs.Decode.Graphs.{decoded-filed}
 use Rattle.files.specs.Decode.RuleFiles.{decoded-rules}
 use Rattle.files.specs.Graph.{Graph, Edge, Flow}
-use Rattle.files.specs.Outcome.{Said, Outcome, refuses, says, refusal-at, NoneOf, FirstOf, Matches, NoStart}
-use Rattle.files.specs.Outcome.Laws.{whole-match, scan-match, files-match, out-match, refused-by, accepted-by, verdict-is, file-accepted, whole-none, none-e, says-no-start, whole-none-i, file-none, none-i, none-end}
+use Rattle.files.specs.Outcome.{Said, refuses, says, refusal-at, NoneOf, FirstOf, Matches, NoStart}
+use Rattle.files.specs.Outcome.Laws.{whole-match, scan-match, files-match, out-match, refused-by, accepted-by, verdict-is, file-accepted, whole-none, says-no-start, whole-none-i, file-none, none-i, none-end}
 use Rattle.files.specs.Refusal.{graph, rules, interface, refusal}
 use Rattle.files.specs.Rules.{Rule, Event, Monitor, watch}
 use Rattle.files.specs.Rules.Laws.{watch-small}
@@ -25,12 +25,10 @@ use Rattle.runs.specs.Runs.{Bad, Clean}
 use Rattle.runs.specs.Summary.{clean}
 use Rattle.runs.specs.Summary.Table.{not-clean-bad, clean-no-bad}
 use Rattle.runs.specs.Summary.Trails.{trail, trail-bytes}
-use Rattle.runs.specs.Summary.Trails.Behind.{TrailShows}
 use Rattle.runs.specs.Summary.Trails.OneRun.{trail-shows}
 use Rattle.runs.specs.Watching.{watch-room, watch-said, watch-verdict, watch-checks, watch-lines, watched, Watches}
 use Rattle.files.specs.Interface.{Interface}
 use Rattle.files.specs.Basics.First.{Finds}
-use Rattle.files.specs.Basics.Says.{Says}
 
 -- ---- what the verdict says
 

@@ -1,12 +1,10 @@
 -- The sheets of P5 and P6, and some of our own, computed.
 use mathlib.Core.Path.{_≡_, refl}
-use mathlib.Core.Bool.{Bool, true, false}
-use mathlib.Core.List.{List, [], _∷_, _++_, map}
+use mathlib.Core.Bool.{true, false}
+use mathlib.Core.List.{[], _∷_, _++_, map}
 use Prim.Native.Nat.{ℕ}
 use lib.ListN.{length}
-use Rattle.files.specs.Basics.Least.{least}
-use Rattle.files.specs.Basics.Queue.{fresh, walk, breadth-first}
-use Rattle.files.specs.Property.{Row, never, returns, not-returns, both, either, box}
+use Rattle.files.specs.Property.{never, returns, not-returns, both, either, box}
 use Rattle.files.specs.Course.{bytes, nd, ed, gr, entry-graph, call-graph, return-rows, box-rows}
 use Rattle.judging.specs.Levels.{after, next, level, holds, satisfies, rank}
 use Rattle.judging.specs.Levels.Sheet.{targets, lower, ahead, foremost, box-causes, row-causes, causes, failing, pairs, fault, sheet, sheet-bytes}

@@ -2,22 +2,21 @@
 -- and it lists what is reached by causes, breadth first, each pair once, and nothing else.
 use mathlib.Core.Path.{_≡_, refl, sym, ap, ap₂, subst, _∙_}
 use mathlib.Core.Logic.{_⊎_, inl, inr}
-use mathlib.Core.Bool.{Bool, true, false, not, cond, _&&_, _||_}
+use mathlib.Core.Bool.{Bool, true, false, not, cond, _&&_}
 use mathlib.Core.List.{List, [], _∷_, map, List·Memᴰ, List·Memᴰ·head, List·Memᴰ·tail, List·Memᴰ·cases-cons, List·Memᴰ·not-nil, List·Memᴰ·eq-of-singleton, Memᴰ·of-map}
 use mathlib.Core.Option.{Option, none, some, Option·none-ne-some, Option·some-injective}
-use Prim.Native.Nat.{ℕ, zero, suc, _+_, _*_, _≤_, _<_}
+use Prim.Native.Nat.{ℕ, _*_, _≤_, _<_}
 use native.Mathlib.Nat.{le-refl}
 use native.Mathlib.Decide.{decLe, decLt, ℕ-discrete}
 use native.Mathlib.Omega.{arith}
-use lib.Dec.{T, eqb, ltb, leb, eqb→eq, eqb-refl, ltb→lt, lt→ltb, leb→le, nleb→lt, T-not, not-T}
+use lib.Dec.{T, eqb, ltb, leb, eqb→eq, eqb-refl, ltb→lt, leb→le, nleb→lt, T-not}
 use lib.ListN.{length, getD}
 use Rattle.files.specs.Basics.Breadth.{Nearer, in-order}
 use Rattle.files.specs.Basics.Least.{least, least-passes, least-before, least-lt}
 use Rattle.files.specs.Basics.Lists.{keep, keep-i, keep-e, each, each-e, each-i}
 use Rattle.files.specs.Basics.Order.{Ascends}
-use Rattle.files.specs.Basics.Queue.{Once, breadth-first, From, itself, Listed, listed, starts-with}
+use Rattle.files.specs.Basics.Queue.{Once, breadth-first, From, itself, listed, starts-with, onward}
 use Rattle.files.specs.Basics.Says.{Says, says-or, says-and, says-lt, says-eq, says-le}
-use Rattle.files.specs.Basics.Queue.{onward}
 use Rattle.files.specs.Basics.Tests.{and-l, and-r, and-i, any, any-e, any-i, upto, upto-i, upto-e, grid, grid-i, length-grid, eq-eqb, decide, not-not, not-and, not-or}
 use Rattle.files.specs.Graph.{Graph, Edge, size, node, Flow}
 use Rattle.files.specs.Property.{Row, always, never, returns, not-returns, in-method, not-in-method, both, either, box, row, obliged, names, Property}

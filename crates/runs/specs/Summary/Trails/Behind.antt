@@ -1,9 +1,7 @@
 -- What a trail means: a valid trail, and the one run behind it that passes its pairs of a node and a state in order.
 use mathlib.Core.Path.{_≡_}
-use mathlib.Core.Logic.{_⊎_}
 use mathlib.Core.List.{List, [], _∷_, List·Memᴰ}
-use Prim.Native.Nat.{ℕ, _≤_, _<_}
-use lib.Dec.{T}
+use Prim.Native.Nat.{ℕ, _≤_}
 use lib.ListN.{length}
 use Rattle.files.specs.Basics.Lexical.{Before}
 use Rattle.files.specs.Basics.Lists.{each}
@@ -11,7 +9,7 @@ use Rattle.files.specs.Graph.{Graph}
 use Rattle.files.specs.Rules.{Monitor}
 use Rattle.runs.specs.Runs.{Config, cfg, plain, EntryOf, Step, Run, Above}
 use Rattle.runs.specs.Summary.{Place}
-use Rattle.runs.specs.Summary.Trails.{Rec, trail-rec-bytes, Where, before, here, end, is-bad, started, leaving}
+use Rattle.runs.specs.Summary.Trails.{Rec, trail-rec-bytes, Where, before, here, end, started, leaving}
 
 module _ (G : Graph) (mon : Monitor) where
   -- r's pair is c's, and the pair reached is d's

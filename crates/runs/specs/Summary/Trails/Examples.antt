@@ -1,13 +1,9 @@
 -- P10 and P11, computed; and: a method without entry makes no event, and a call that never returns is not passed over.
 use mathlib.Core.Path.{_≡_, refl}
-use mathlib.Core.Bool.{Bool, true, false, cond}
-use mathlib.Core.List.{List, [], _∷_, _++_}
-use Prim.Native.Nat.{ℕ}
+use mathlib.Core.Bool.{true, false, cond}
+use mathlib.Core.List.{[], _∷_, _++_}
 use lib.Dec.{eqb}
 use lib.ListN.{length}
-use Rattle.files.specs.Basics.Closure.{from, closed}
-use Rattle.files.specs.Basics.Least.{least}
-use Rattle.files.specs.Basics.Shortest.{best, walk, ways, lowest}
 use Rattle.files.specs.Course.{bytes, nd, ed, gr, call-graph, returning-graph, return-monitor}
 use Rattle.files.specs.Rules.{Monitor}
 use Rattle.runs.specs.Summary.{callee, moves, leads-from, along, spot-rule, all-spots, spots, moved-from, called-from, reaches, place-rule, all-places, places, clean}

@@ -1,21 +1,21 @@
 -- The trail is a way to a bad state wherever there is a bad run, has the fewest records and, of those, the smallest bytes.
-use mathlib.Core.Path.{_≡_, refl, sym, ap, subst, subst₂, _∙_}
+use mathlib.Core.Path.{_≡_, refl, sym, ap, subst, _∙_}
 use mathlib.Core.Logic.{_⊎_, inl, inr, _↔_}
-use mathlib.Core.Bool.{Bool, true, false, not, _&&_}
+use mathlib.Core.Bool.{Bool, not, _&&_}
 use mathlib.Core.List.{List, [], _∷_, _++_, map, List·Memᴰ, List·Memᴰ·head, List·Memᴰ·tail, List·Memᴰ·append-cases, List·Memᴰ·cases-cons, List·Memᴰ·eq-of-singleton, Memᴰ·append-left, Memᴰ·append-right, Memᴰ·map, Memᴰ·of-map}
-use Prim.Native.Nat.{ℕ, zero, suc, _+_, _*_, _≤_, _<_}
+use Prim.Native.Nat.{ℕ, suc, _≤_, _<_}
 use native.Mathlib.Omega.{arith}
 use lib.Dec.{T, eqb, eqb→eq, ltb, ltb→lt, lt→ltb, lit<}
 use Rattle.files.specs.Basics.Lexical.{Before}
 use Rattle.files.specs.Basics.Lists.{keep, keep-i, keep-e, each, each-i, each-e, span, span-i, span-e}
-use Rattle.files.specs.Basics.Shortest.{To, there, by, ways, best, to-ways, short-way, best-to, best-fewest, best-first}
-use Rattle.files.specs.Basics.Tests.{any, any-i, any-e, and-i, and-e, eq-eqb}
+use Rattle.files.specs.Basics.Shortest.{To, there, by, ways, to-ways, short-way, best-to, best-fewest, best-first}
+use Rattle.files.specs.Basics.Tests.{any, any-i, and-i, and-e, eq-eqb}
 use Rattle.files.specs.Graph.{Graph, Edge, size, node, Flow}
 use Rattle.files.specs.Rules.{Event, calls, Monitor}
-use Rattle.runs.specs.Runs.{plain, meth, EntryOf, Runs, Config, Run, Bad}
-use Rattle.runs.specs.Summary.{Inside, Trail, starts, steps, enters, passes, Spot, Place, is-entry-of, callee, spots, all-places}
+use Rattle.runs.specs.Runs.{meth, EntryOf, Runs, Bad}
+use Rattle.runs.specs.Summary.{Trail, starts, steps, enters, passes, Place, is-entry-of, callee, spots, all-places}
 use Rattle.runs.specs.Summary.Exact.{exact}
-use Rattle.runs.specs.Summary.Table.{Moves, passes-e, callee-i, no-ret, entry-e, entry-i, trail-moves, trail-now, into-is, inside-now, into, out, spot, spots-sound, spots-complete, places-i}
+use Rattle.runs.specs.Summary.Table.{passes-e, callee-i, no-ret, entry-e, entry-i, trail-moves, trail-now, into-is, out, spot, spots-sound, spots-complete, places-i}
 use Rattle.runs.specs.Summary.Trails.{Rec, trail-rec-bytes, Where, before, here, end, is-bad, started, internal-rec, entered-rec, passed-rec, recs, leaving, trail}
 use lib.ListN.{length, getD, length-map}
 

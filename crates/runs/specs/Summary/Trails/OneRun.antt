@@ -1,22 +1,20 @@
 -- For every valid trail there is one run that passes its pairs of a node and a state in order.
 use mathlib.Core.Path.{_≡_, refl, sym, ap, subst, subst₂, _∙_}
-use mathlib.Core.Logic.{_⊎_, inl, inr}
 use mathlib.Core.List.{List, [], _∷_, List·Memᴰ, head-eq-of-cons-eq}
-use Prim.Native.Nat.{ℕ, zero, suc, _<_}
+use Prim.Native.Nat.{ℕ, _<_}
 use native.Mathlib.Omega.{arith}
-use lib.Dec.{T, eqb, eqb→eq}
+use lib.Dec.{T, eqb→eq}
 use Rattle.files.specs.Basics.Shortest.{To, there, by}
 use Rattle.files.specs.Basics.Tests.{eq-eqb}
-use Rattle.files.specs.Graph.{Graph, Edge, size, node, Flow}
-use Rattle.files.specs.Rules.{Event, calls, returns-to, Monitor}
+use Rattle.files.specs.Graph.{Graph, Edge, node, Flow}
+use Rattle.files.specs.Rules.{Event, calls, Monitor}
 use Rattle.runs.specs.Runs.{Config, plain, meth, EntryOf, Runs, Step, internal, call, return, Run, start, then, cfg, Above, stay, next-step, Bad}
-use Rattle.runs.specs.Summary.Trails.Behind.{TrailShows}
-use Rattle.runs.specs.Summary.{Inside, Place, callee, spots}
+use Rattle.runs.specs.Summary.Trails.Behind.{TrailShows, Part, internal-step, call-step, whole-call, Chain, no-more, and-then, Valid, ends, goes, Stands, OneRun}
+use Rattle.runs.specs.Summary.{Inside, Place, spots}
 use Rattle.runs.specs.Summary.Balanced.{inside-above}
-use Rattle.runs.specs.Summary.Table.{Moves, by-step, by-call, passes-e, into-is, into, spots-sound}
+use Rattle.runs.specs.Summary.Table.{Moves, by-step, by-call, passes-e, into-is, spots-sound}
 use Rattle.runs.specs.Summary.Trails.{Rec, trail-rec-bytes, Where, before, here, end, is-bad, started, leaving, trail}
-use Rattle.runs.specs.Summary.Trails.Behind.{Meets, Part, internal-step, call-step, whole-call, Chain, no-more, and-then, Valid, ends, goes, Stands, OneRun}
-use Rattle.runs.specs.Summary.Trails.Laws.{Leaves, steps-on, goes-in, goes-by, leaves-e, start-e, Path, place, trail-to, path-iff-bad, trail-fewest, trail-first}
+use Rattle.runs.specs.Summary.Trails.Laws.{Leaves, steps-on, goes-in, goes-by, leaves-e, start-e, trail-to, path-iff-bad, trail-fewest, trail-first}
 use lib.ListN.{length}
 
 module _ (G : Graph) (mon : Monitor) where
