@@ -1,12 +1,13 @@
 -- What a call answers and writes, and how its refusals are ordered: a list of checks in the published order beside the same list as the table words it.
 use mathlib.Core.Path.{_≡_}
 use mathlib.Core.Logic.{_⊎_}
-use mathlib.Core.Bool.{Bool, not, cond, _&&_, _||_}
+use mathlib.Core.Bool.{Bool, not, cond, _&&_, _||_, true}
 use mathlib.Core.List.{List, [], _∷_, _++_}
 use mathlib.Core.Option.{Option, none, some}
 use Prim.Native.Nat.{ℕ, zero, suc, _≤_, _<_}
 use lib.Dec.{eqb, leb, ltb}
 use lib.ListN.{length, drop, replicate}
+use Rattle.files.specs.Basics.Lexical.{before}
 use Rattle.files.specs.Basics.First.{whole, Finds}
 use Rattle.files.specs.declared.record.Limits.{Limits}
 use Rattle.files.specs.declared.refusal.Refusal.{Refusal}
@@ -135,6 +136,26 @@ Matches [] no-lines = Unit {0}
 Matches [] (line k g A ls) = ⊥
 Matches (c ∷ cs) no-lines = ⊥
 Matches (c ∷ cs) (line k g A ls) = (c .number ≡ k) × ((c .file ≡ g) × (Finds (c .found) A × Matches cs ls))
+
+-- ---- the published order
+
+-- "Order: 13; then each file in argument order, its lowest number among 1..8; then the start method's 3; then 9 to 12. .. Within 9, graphs come in argument
+-- order before a shared method." Where a number of a file stands in it: lists compare by the first place at which they differ. (Showing's own 7, of no file,
+-- stands where the start method's 3 does.)
+abbrev pub place : ℕ → ℕ → List ℕ
+place n f =
+    cond (eqb n 13) (0 ∷ 0 ∷ 0 ∷ [])
+    (cond (leb n 8) (cond (eqb f 0) (2 ∷ n ∷ 0 ∷ []) (1 ∷ f ∷ n ∷ [])) (3 ∷ n ∷ cond (eqb f 0) 9 f ∷ []))
+
+-- each line stands before the next
+abbrev pub ascends-from : List ℕ → Lines → Bool
+ascends-from k no-lines = true
+ascends-from k (line n f A ls) = before k (place n f) && ascends-from (place n f) ls
+
+-- the lines of a call stand in the published order
+abbrev pub published : Lines → Bool
+published no-lines = true
+published (line n f A ls) = ascends-from (place n f) ls
 
 -- ---- numbers that several calls share
 

@@ -19,11 +19,16 @@ use Rattle.files.specs.declared.record.Limits.{Limits}
 use Rattle.judging.specs.Compare.{compare-room, compare-said, compare-verdict, compare-checks, compare-lines, compared, Compares}
 use Rattle.judging.specs.Simulation.{Simulation, Simulates, covered, simulates, uncovered, relation-bytes}
 use Rattle.judging.specs.Simulation.Laws.{verdict, largest, covered-i, uncovered-is, uncovered-lowest}
+use Rattle.files.specs.Outcome.{published}
 
 module _ (L : Limits) (g h : List ℕ) (out work : ℕ) where
   compare-match : Matches (compare-checks L g h out work) (compare-lines L g h out work)
   compare-match =
       whole-match 13 _ (work < compare-room) (says-lt work compare-room) _ _ (files-match L 1 graph g _ _ (files-match L 2 graph h _ _ (out-match out (compare-verdict L g h out work))))
+
+  -- the lines stand in the published order
+  pub compare-order : published (compare-lines L g h out work) ≡ true
+  compare-order = refl
 
   -- refused, by number, file and record, exactly where that comes first in the published order
   pub compare-refused : (n f i : ℕ) → (compared L g h out work ≡ refuses (refusal-at n f i)) ↔ FirstOf (compare-lines L g h out work) n f i

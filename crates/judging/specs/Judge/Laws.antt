@@ -1,5 +1,5 @@
 -- Judging is refused by the first line of its published order that applies, and otherwise says what `Judges` says.
-use mathlib.Core.Path.{_≡_, ap, ap₂, _∙_}
+use mathlib.Core.Path.{_≡_, ap, ap₂, _∙_, refl}
 use mathlib.Core.Logic.{_↔_}
 use mathlib.Core.Bool.{Bool, true, false, cond}
 use mathlib.Core.List.{List, [], _∷_}
@@ -22,11 +22,16 @@ use Rattle.judging.specs.Judge.{judge-room, judge-said, judge-verdict, j
 use Rattle.judging.specs.Levels.{Satisfies, satisfies}
 use Rattle.judging.specs.Levels.Laws.{satisfies-agrees}
 use Rattle.judging.specs.Levels.Sheet.{sheet, sheet-bytes}
+use Rattle.files.specs.Outcome.{published}
 
 module _ (L : Limits) (g p : List ℕ) (out work : ℕ) where
   judge-match : Matches (judge-checks L g p out work) (judge-lines L g p out work)
   judge-match =
       whole-match 13 _ (work < judge-room) (says-lt work judge-room) _ _ (files-match L 1 graph g _ _ (files-match L 2 property p _ _ (out-match out (judge-verdict L g p out work))))
+
+  -- the lines stand in the published order
+  pub judge-order : published (judge-lines L g p out work) ≡ true
+  judge-order = refl
 
   -- refused, by number, file and record, exactly where that comes first in the published order
   pub judge-refused : (n f i : ℕ) → (judged L g p out work ≡ refuses (refusal-at n f i)) ↔ FirstOf (judge-lines L g p out work) n f i

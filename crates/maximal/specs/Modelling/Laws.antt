@@ -1,5 +1,5 @@
 -- Modelling is refused by the first line of its published order that applies, and otherwise says what `Models` says.
-use mathlib.Core.Path.{_≡_, sym, ap, ap₂, subst, _∙_}
+use mathlib.Core.Path.{_≡_, sym, ap, ap₂, subst, _∙_, refl}
 use mathlib.Core.Logic.{_↔_}
 use mathlib.Core.List.{List, [], _∷_}
 use mathlib.Core.Option.{none}
@@ -26,6 +26,8 @@ use Rattle.maximal.specs.Model.Computed.{is-model}
 use Rattle.maximal.specs.Model.Filed.{model-is-of, model-filed}
 use Rattle.maximal.specs.Model.Maximal.{maximal}
 use Rattle.maximal.specs.Modelling.{model-room, model-graph, model-checks, model-lines, modelled, Models}
+use Rattle.files.specs.Outcome.{published}
+use mathlib.Core.Bool.{true}
 
 module _ (L : Limits) (i p : List ℕ) (out work : ℕ) where
   abbrev said : Said
@@ -35,6 +37,10 @@ module _ (L : Limits) (i p : List ℕ) (out work : ℕ) where
   model-match =
       whole-match 13 _ (work < model-room) (says-lt work model-room) _ _ (files-match L 1 interface i _ _ (files-match L 2 property p _ _
       (whole-match 11 _ (TooLarge L (model-graph L i p out work)) (says-too-large L (model-graph L i p out work)) _ _ (out-match out said))))
+
+  -- the lines stand in the published order
+  pub model-order : published (model-lines L i p out work) ≡ true
+  model-order = refl
 
   -- refused, by number, file and record, exactly where that comes first in the published order
   pub model-refused : (n f r : ℕ) → (modelled L i p out work ≡ refuses (refusal-at n f r)) ↔ FirstOf (model-lines L i p out work) n f r

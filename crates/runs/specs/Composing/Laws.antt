@@ -1,6 +1,6 @@
 -- The composed verdict is refused by the first line of its published order that applies; where it is not, the model conforms, and the verdict is that of watching
 -- the known graph joined with the model.
-use mathlib.Core.Path.{_≡_}
+use mathlib.Core.Path.{_≡_, refl}
 use mathlib.Core.Logic.{_⊎_, _↔_}
 use mathlib.Core.List.{List}
 use Prim.Native.Nat.{ℕ, _<_}
@@ -30,6 +30,8 @@ use Rattle.runs.specs.Runs.{Clean}
 use Rattle.runs.specs.Runs.Laws.{simulates-bad}
 use Rattle.runs.specs.Watching.{Watches}
 use Rattle.runs.specs.Watching.Laws.{watch-cases, filed-labels, filed-monitor}
+use Rattle.files.specs.Outcome.{published}
+use mathlib.Core.Bool.{true}
 
 -- ---- the two directions
 
@@ -66,6 +68,10 @@ module _ (L : Limits) (ki kg oi p r : List ℕ) (m out store work : ℕ) where
       (whole-match 10 _ _ (says-unprovided (compose-sides L ki kg oi p r m out store work) m) _ _
       (whole-match 11 _ _ (says-or (says-too-large L (compose-model L ki kg oi p r m out store work)) (says-too-large L (compose-graph L ki kg oi p r m out store work))) _ _
       (out-match out said)))))))))))
+
+  -- the lines stand in the published order
+  pub compose-order : published (compose-lines L ki kg oi p r m out store work) ≡ true
+  compose-order = refl
 
   -- refused, by number, file and record, exactly where that comes first in the published order
   pub compose-refused : (n f k : ℕ) → (composed L ki kg oi p r m out store work ≡ refuses (refusal-at n f k)) ↔ FirstOf (compose-lines L ki kg oi p r m out store work) n f k

@@ -1,5 +1,5 @@
 -- Joining is refused by the first line of its published order that applies, and otherwise says what `Joins` says.
-use mathlib.Core.Path.{_≡_, sym, ap, subst, _∙_}
+use mathlib.Core.Path.{_≡_, sym, ap, subst, _∙_, refl}
 use mathlib.Core.Logic.{_↔_}
 use mathlib.Core.List.{List}
 use Prim.Native.Nat.{ℕ}
@@ -16,6 +16,8 @@ use Rattle.files.specs.Sides.Laws.{foreign-finds, says-shares, none-foreign}
 use Rattle.files.specs.declared.record.Limits.{Limits}
 use Rattle.runs.specs.Join.Laws.{join-filed, join-of}
 use Rattle.runs.specs.Joining.{join-graph, join-sides, join-said, join-checks, join-lines, joined, Joins}
+use Rattle.files.specs.Outcome.{published}
+use mathlib.Core.Bool.{true}
 
 module _ (L : Limits) (i1 g1 i2 g2 : List ℕ) (out : ℕ) where
   abbrev said : Said
@@ -27,6 +29,10 @@ module _ (L : Limits) (i1 g1 i2 g2 : List ℕ) (out : ℕ) where
       (scan-match 9 2 _ _ (foreign-finds (decode-interface i1) g1) _ _ (scan-match 9 4 _ _ (foreign-finds (decode-interface i2) g2) _ _
       (whole-match 9 _ _ (says-shares (decode-interface i1) (decode-interface i2)) _ _
       (whole-match 11 _ _ (says-too-large L (join-graph L i1 g1 i2 g2 out)) _ _ (out-match out said))))))))
+
+  -- the lines stand in the published order
+  pub join-order : published (join-lines L i1 g1 i2 g2 out) ≡ true
+  join-order = refl
 
   -- refused, by number, file and record, exactly where that comes first in the published order
   pub join-refused : (n f r : ℕ) → (joined L i1 g1 i2 g2 out ≡ refuses (refusal-at n f r)) ↔ FirstOf (join-lines L i1 g1 i2 g2 out) n f r

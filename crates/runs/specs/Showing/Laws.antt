@@ -20,6 +20,7 @@ use Rattle.runs.specs.Join.{join}
 use Rattle.runs.specs.Join.Laws.{join-first, join-second, join-size}
 use Rattle.runs.specs.Showing.{show-size, show-said, show-checks, show-lines, shown, Shows}
 use Rattle.files.specs.Basics.Tests.{below}
+use Rattle.files.specs.Outcome.{published}
 
 module _ (L : Limits) (g1 g2 : List ℕ) (number : ℕ) where
   abbrev said : Said
@@ -27,6 +28,10 @@ module _ (L : Limits) (g1 g2 : List ℕ) (number : ℕ) where
 
   show-match : Matches (show-checks L g1 g2 number) (show-lines L g1 g2 number)
   show-match = files-match L 1 graph g1 _ _ (files-match L 2 graph g2 _ _ (whole-match 7 _ _ (says-le (show-size L g1 g2 number) number) [] no-lines match-end))
+
+  -- the lines stand in the published order
+  pub show-order : published (show-lines L g1 g2 number) ≡ true
+  show-order = refl
 
   -- refused, by number, file and record, exactly where that comes first in the published order
   pub show-refused : (n f r : ℕ) → (shown L g1 g2 number ≡ refuses (refusal-at n f r)) ↔ FirstOf (show-lines L g1 g2 number) n f r

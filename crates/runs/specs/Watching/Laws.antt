@@ -29,6 +29,7 @@ use Rattle.runs.specs.Summary.Trails.OneRun.{trail-shows}
 use Rattle.runs.specs.Watching.{watch-room, watch-said, watch-verdict, watch-checks, watch-lines, watched, Watches}
 use Rattle.files.specs.Interface.{Interface}
 use Rattle.files.specs.Basics.First.{Finds}
+use Rattle.files.specs.Outcome.{published}
 
 -- ---- what the verdict says
 
@@ -80,6 +81,10 @@ module _ (L : Limits) (i g r : List ℕ) (m out work : ℕ) where
       whole-match 13 _ (work < watch-room) (says-lt work watch-room) _ _ (files-match L 1 interface i _ _ (files-match L 2 graph g _ _ (files-match L 3 rules r _ _
       (whole-match 3 _ _ (says-no-start m) _ _ (scan-match 9 2 _ _ (foreign-finds (decode-interface i) g) _ _
       (whole-match 10 _ _ (says-unprovided (decode-interface i) m) _ _ (out-match out said)))))))
+
+  -- the lines stand in the published order
+  pub watch-order : published (watch-lines L i g r m out work) ≡ true
+  watch-order = refl
 
   -- refused, by number, file and record, exactly where that comes first in the published order
   pub watch-refused : (n f k : ℕ) → (watched L i g r m out work ≡ refuses (refusal-at n f k)) ↔ FirstOf (watch-lines L i g r m out work) n f k
