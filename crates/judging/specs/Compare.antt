@@ -3,7 +3,7 @@ use mathlib.Core.Path.{_≡_}
 use mathlib.Core.Logic.{_↔_}
 use mathlib.Core.Bool.{cond}
 use mathlib.Core.List.{List, [], _∷_}
-use Prim.Native.Nat.{ℕ, _<_}
+use Prim.Native.Nat.{ℕ, _<_, _+_, _*_, _/_, _%_}
 use lib.Dec.{T}
 use Rattle.files.specs.declared.record.Limits.{Limits}
 use Rattle.files.specs.Graph.{Graph, Flow, node, size}
@@ -12,7 +12,10 @@ use Rattle.files.specs.Decode.{decode-graph}
 use Rattle.files.specs.Outcome.{Said, Outcome, Answer, refused-answer, verdict-answer, Check, whole-check, file-checks, out-check, answered, Lines, whole-line, file-lines, out-line, short}
 use Rattle.judging.specs.declared.answers.Compared.{Compared}
 use Rattle.judging.specs.declared.answers.Compared.the-variants.{Yes, No, Refused}
-use Rattle.judging.specs.Simulation.{Simulation, Simulates, covered, simulates, uncovered, relation-bytes}
+use Rattle.judging.specs.Simulation.{Simulation, Simulates, covered, simulates, uncovered, relation-bytes, related}
+use Rattle.files.specs.Basics.Tests.{one}
+use Rattle.files.specs.Basics.Binary.{bit}
+use lib.ListN.{getD}
 pub mod Laws
 pub mod Examples
 
@@ -45,14 +48,18 @@ module _ (L : Limits) (first second : List ℕ) (out work : ℕ) where
   pub compared : Outcome
   compared = answered compare-checks compare-verdict
 
--- What a verdict of comparing says: 1 exactly where the second graph simulates the first; 2 otherwise, with the lowest entry of the first that no entry
--- of the second covers; and the bytes of the largest simulation (Simulation.Laws: `related-simulation`, `largest`, `relation-bit`).
+-- What a verdict of comparing says: 1 exactly where the second graph simulates the first, which is where the largest simulation covers every entry; 2 otherwise,
+-- with the lowest entry of the first that no simulation gives a related entry of the second; and the bytes of the largest simulation, under either verdict.
 pub record Compares (G H : Graph) (s : Said) : Type 1 where
   pub first-flow : Flow G
   pub second-flow : Flow H
   pub yes-iff : (s .verdict ≡ 1) ↔ Simulates G H
   pub no-iff : (s .verdict ≡ 2) ↔ (Simulates G H → ⊥)
+  pub yes-covers : (s .verdict ≡ 1) ↔ ((g : ℕ) → g < size G → T ((node G g) .entry) → T (covered G H g))
   pub no-entry : s .verdict ≡ 2 → (s .values ≡ uncovered G H ∷ []) × (uncovered G H < size G) × T ((node G (uncovered G H)) .entry)
       × ((R : ℕ → ℕ → Type 0) → Simulation G H R → (h : ℕ) → T ((node H h) .entry) → R (uncovered G H) h → ⊥)
   pub lowest-entry : (g : ℕ) → g < uncovered G H → T ((node G g) .entry) → T (covered G H g)
+  pub is-simulation : Simulation G H (λ g h. T (related G H g h))
+  pub is-largest : (R : ℕ → ℕ → Type 0) → Simulation G H R → (g h : ℕ) → R g h → T (related G H g h)
   pub writes : s .written ≡ relation-bytes G H
+  pub writes-relation : (g h : ℕ) → g < size G → h < 256 → bit (getD (s .written) (32 * g + h / 8) 0) (h % 8) ≡ one (related G H g h)

@@ -4,10 +4,10 @@ use mathlib.Core.Logic.{_↔_}
 use mathlib.Core.Bool.{Bool, true, false, not, cond}
 use mathlib.Core.List.{List, [], _∷_}
 use mathlib.Core.Option.{none}
-use Prim.Native.Nat.{ℕ, _≤_, _<_}
+use Prim.Native.Nat.{ℕ, _≤_, _<_, _+_, _*_, _/_, _%_}
 use native.Mathlib.Omega.{arith}
 use lib.Dec.{T, T-not}
-use lib.ListN.{length}
+use lib.ListN.{length, getD}
 use Rattle.files.specs.Basics.Says.{says-lt}
 use Rattle.files.specs.Decode.{decode-graph}
 use Rattle.files.specs.Decode.Graphs.{decoded-flow}
@@ -17,9 +17,11 @@ use Rattle.files.specs.Outcome.Laws.{whole-match, files-match, out-match, refus
 use Rattle.files.specs.Refusal.{graph, refusal}
 use Rattle.files.specs.declared.record.Limits.{Limits}
 use Rattle.judging.specs.Compare.{compare-room, compare-said, compare-verdict, compare-checks, compare-lines, compared, Compares}
-use Rattle.judging.specs.Simulation.{Simulation, Simulates, covered, simulates, uncovered, relation-bytes}
-use Rattle.judging.specs.Simulation.Laws.{verdict, largest, covered-i, uncovered-is, uncovered-lowest}
+use Rattle.judging.specs.Simulation.{Simulation, Simulates, covered, simulates, uncovered, relation-bytes, related}
+use Rattle.judging.specs.Simulation.Laws.{verdict, largest, covered-i, uncovered-is, uncovered-lowest, simulates-covers, related-simulation, relation-bit}
 use Rattle.files.specs.Outcome.{published}
+use Rattle.files.specs.Basics.Tests.{one}
+use Rattle.files.specs.Basics.Binary.{bit}
 
 module _ (L : Limits) (g h : List ℕ) (out work : ℕ) where
   compare-match : Matches (compare-checks L g h out work) (compare-lines L g h out work)
@@ -61,6 +63,12 @@ compare-cases G H s fg fh e = go (simulates G H) refl (verdict G H fg fh) e
         let a = uncovered-is G H t in
         (a .0, a .1, λ R s h x r. T-not (covered G H (uncovered G H)) (a .2) (covered-i G H fg fh (uncovered G H) h x (largest G H fg fh R s (uncovered G H) h r)))
 
+    covers-iff : T (simulates G H) ↔ ((g : ℕ) → g < size G → T ((node G g) .entry) → T (covered G H g))
+    covers-iff = simulates-covers G H
+
+    bits : s .written ≡ relation-bytes G H → (g h : ℕ) → g < size G → h < 256 → bit (getD (s .written) (32 * g + h / 8) 0) (h % 8) ≡ one (related G H g h)
+    bits w g h hg hh = ap (λ (l : List ℕ). bit (getD l (32 * g + h / 8) 0) (h % 8)) w ∙ relation-bit G H g h hg hh
+
     go : (b : Bool) → simulates G H ≡ b → T b ↔ Simulates G H
         → s ≡ cond b (record { verdict = 1; values = []; written = relation-bytes G H }) (record { verdict = 2; values = uncovered G H ∷ []; written = relation-bytes G H })
         → Compares G H s
@@ -72,8 +80,12 @@ compare-cases G H s fg fh e = go (simulates G H) refl (verdict G H fg fh) e
           yes-iff = (λ x. i .0 tt, λ x. v);
           no-iff = (λ x. absurd (omega arith), λ f. absurd (f (i .0 tt)));
           no-entry = λ x. absurd (omega arith);
+          yes-covers = (λ x. covers-iff .0 (subst T (sym c) tt), λ x. v);
           lowest-entry = uncovered-lowest G H;
+          is-simulation = related-simulation G H fg fh;
+          is-largest = largest G H fg fh;
           writes = ap (λ (x : Said). x .written) q;
+          writes-relation = bits (ap (λ (x : Said). x .written) q);
         }
     go false c i q =
         let v : s .verdict ≡ 2 = ap (λ (x : Said). x .verdict) q in
@@ -84,8 +96,12 @@ compare-cases G H s fg fh e = go (simulates G H) refl (verdict G H fg fh) e
           yes-iff = (λ x. absurd (omega arith), λ f. absurd (i .1 f));
           no-iff = (λ x f. i .1 f, λ f. v);
           no-entry = λ x. (ap (λ (x : Said). x .values) q, a .0, a .1, a .2);
+          yes-covers = (λ x. absurd (omega arith), λ f. absurd (subst T c (covers-iff .1 f)));
           lowest-entry = uncovered-lowest G H;
+          is-simulation = related-simulation G H fg fh;
+          is-largest = largest G H fg fh;
           writes = ap (λ (x : Said). x .written) q;
+          writes-relation = bits (ap (λ (x : Said). x .written) q);
         }
 
 -- whatever the bytes and lengths, a verdict of comparing says what `Compares` says

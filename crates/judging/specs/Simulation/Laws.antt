@@ -76,6 +76,14 @@ module _ (G H : Graph) where
       and-i (alike (node G g) (node H h)) _ (alike-i (node G g) (node H h) (k .same-method) (k .same-ret))
       (all-i _ (G .edges) (λ e m. imp-i (eqb (e .from) g) (matching H v h e) (λ p. matching-i H v h e (k .matched e m (eqb→eq _ _ p)))))
 
+-- the verdict, as a fact of each entry
+pub simulates-covers : (G H : Graph) → T (simulates G H) ↔ ((g : ℕ) → g < size G → T ((node G g) .entry) → T (covered G H g))
+unfolding simulates
+simulates-covers G H = (
+  λ t g h s. imp-e ((node G g) .entry) (covered G H g) (all-e _ (upto (size G)) t g (upto-i (size G) g h)) s,
+  λ f. all-i _ (upto (size G)) (λ g m. imp-i ((node G g) .entry) (covered G H g) (f g (upto-e (size G) g m))),
+)
+
 module _ (G H : Graph) (fg : Flow G) (fh : Flow H) where
   abbrev pairs : List (ℕ × ℕ)
   pairs = grid (size G) (size H)
@@ -163,16 +171,13 @@ module _ (G H : Graph) (fg : Flow G) (fh : Flow H) where
 
   -- the verdict is yes exactly where H simulates G
   pub verdict : T (simulates G H) ↔ Simulates G H
-  unfolding simulates
   verdict = (
     λ t. record {
       rel = λ g h. T (related G H g h);
       simulation = related-simulation;
-      covers = λ g h s. covered-e g (imp-e ((node G g) .entry) (covered G H g) (all-e _ (upto (size G)) t g (upto-i (size G) g h)) s);
+      covers = λ g h s. covered-e g (simulates-covers G H .0 t g h s);
     },
-    λ s. all-i _ (upto (size G)) (λ g m. imp-i ((node G g) .entry) (covered G H g) (λ p.
-        let c = s .covers g (upto-e (size G) g m) p in
-        covered-i g (c .0) (c .1) (largest (s .rel) (s .simulation) g (c .0) (c .2)))),
+    λ s. simulates-covers G H .1 (λ g h p. let c = s .covers g h p in covered-i g (c .0) (c .1) (largest (s .rel) (s .simulation) g (c .0) (c .2))),
   )
 
 -- a graph simulates itself
