@@ -3,7 +3,6 @@ use mathlib.Core.List.{List, [], _∷_, _++_, map, List·Memᴰ}
 use Prim.Native.Nat.{ℕ, zero, suc, _-_, _≤_, _<_}
 use lib.Dec.{eqb}
 use lib.ListN.{length, getD}
-use Rattle.files.specs.Basics.Tests.{one}
 use Rattle.files.specs.Basics.Tables.{table, tally}
 use Rattle.files.specs.Basics.Lexical.{Before}
 use Rattle.files.specs.declared.record.Record.{Record}
@@ -14,6 +13,7 @@ use Rattle.files.specs.Property.{Row, always, never, returns, not-return
 use Rattle.files.specs.Rules.{Rule, no-rule}
 use Rattle.files.specs.Interface.{Interface}
 use Rattle.files.specs.Refusal.{nodes-of}
+pub mod AnyFile
 pub mod Graphs
 pub mod Properties
 pub mod RuleFiles

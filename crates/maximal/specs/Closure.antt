@@ -12,6 +12,7 @@ use Rattle.files.specs.Basics.Queue.{fresh}
 use Rattle.files.specs.Property.{Row, always, never, returns, not-returns, in-method, not-in-method, both, either, box, row, is-either}
 use Rattle.maximal.specs.Model.{Rows, has, supported, below}
 use Rattle.maximal.specs.Model.Supports.{tab}
+pub mod Completed
 pub mod Laws
 
 -- row x asks for row r at the same node; an "or" asks for its first operand where the choice is true, for its second where it is false

@@ -1,5 +1,5 @@
 -- Summaries: "For each method and monitor state at its entry, the reachable states at its return nodes fix what a whole call can yield."
--- First as relations, for an unbounded stack; then computed, with the verdict. (Exact and Table say that they agree.)
+-- First as relations, for an unbounded stack; then computed, with the verdict. (Exact, Spots and Places say that they agree.)
 use mathlib.Core.Path.{_≡_}
 use mathlib.Core.Bool.{Bool, not, _&&_, _||_}
 use mathlib.Core.List.{List, map}
@@ -14,7 +14,9 @@ use Rattle.runs.specs.Runs.{meth, EntryOf, Runs}
 pub mod Frames
 pub mod Exact
 pub mod Balanced
-pub mod Table
+pub mod Moves
+pub mod Spots
+pub mod Places
 pub mod Trails
 
 module _ (G : Graph) (mon : Monitor) where

@@ -5,7 +5,6 @@ use mathlib.Core.List.{List, [], _∷_, _++_, map, append-nil}
 use mathlib.Core.Option.{none}
 use Prim.Native.Nat.{ℕ, zero, suc, _+_, _-_, _*_, _≤_, _<_}
 use native.Mathlib.Nat.{zero-add, add-zero}
-use native.Mathlib.Decide.{ℕ-discrete}
 use native.Mathlib.Omega.{arith}
 use lib.Dec.{eqb}
 use lib.ListN.{length}
@@ -14,10 +13,10 @@ use Rattle.files.specs.Basics.Tests.{one, at-most}
 use Rattle.files.specs.Decode.{to-node, to-edge, decode-graph, node-rec, edge-rec, graph-recs, graph-bytes}
 use Rattle.files.specs.Decode.Graphs.{is-node, is-edge, few, decoded-size, decoded-node}
 use Rattle.files.specs.Decode.Written.{skip-rec}
+use Rattle.files.specs.Basics.Says.{says-eq, says-sure}
+use Rattle.files.specs.Decode.AnyFile.{none-applies, whole-file}
 use Rattle.files.specs.Record.{record-from, record-at, count, six, write, part}
 use Rattle.files.specs.Refusal.{graph, nodes-of, refusal}
-use Rattle.files.specs.Refusal.Laws.{accepted-iff}
-use Rattle.files.specs.Table.{Applies}
 use Rattle.files.specs.declared.record.Limits.{Limits}
 use Rattle.files.specs.declared.record.Record.{Record}
 use Rattle.files.specs.Record.Laws.{part-length, part-record}
@@ -81,11 +80,7 @@ edge-same : (r : Record) → r .kind ≡ 2 → r .fourth ≡ 0 → r .fifth ≡ 
 edge-same r k c d = λ i. record { kind = sym k i; first = r .first; second = r .second; third = r .third; fourth = sym c i; fifth = sym d i }
 
 pub unused : (x : ℕ) → ((x ≡ 0 → ⊥) → ⊥) → x ≡ 0
-unused x f = go (ℕ-discrete x 0)
-  where
-    go : Dec (x ≡ 0) → x ≡ 0
-    go (yes e) = e
-    go (no e) = absurd (f e)
+unused x f = says-sure (says-eq x 0) f
 
 -- one record of a file, as bytes
 pub part-one : (l : List ℕ) (i : ℕ) → i < count l → part l i 1 ≡ six (record-at l i)
@@ -95,27 +90,17 @@ part-one l i h =
     sym (write-recs 1 (part l i 1) n) ∙ append-nil (six (record-at (part l i 1) 0)) ∙ ap six (part-record l i 1 0 (omega arith) (omega arith) ∙ ap (record-at l) e)
 
 module _ (L : Limits) (l : List ℕ) (accepted : refusal L graph l ≡ none) where
-  none-applies : (n i : ℕ) → Applies L graph l n i → ⊥
-  none-applies = (accepted-iff L graph l) .0 accepted
-
   node-at : (i : ℕ) → i < nodes-of l → node-rec (to-node (record-at l i)) ≡ record-at l i
   node-at i h =
       let n : i < count l = omega (arith, few L l accepted) in
       let k = is-node L l accepted i h in
-      node-same (record-at l i) k (at-most _ 1 (λ x. none-applies 3 i (n, inl (k, inr (inl x))))) (at-most _ 1 (λ x. none-applies 3 i (n, inl (k, inr (inr (inl x))))))
-      (unused _ (λ x. none-applies 3 i (n, inl (k, inr (inr (inr (inl x))))))) (unused _ (λ x. none-applies 3 i (n, inl (k, inr (inr (inr (inr x)))))))
+      node-same (record-at l i) k (at-most _ 1 (λ x. none-applies L graph l accepted 3 i (n, inl (k, inr (inl x))))) (at-most _ 1 (λ x. none-applies L graph l accepted 3 i (n, inl (k, inr (inr (inl x))))))
+      (unused _ (λ x. none-applies L graph l accepted 3 i (n, inl (k, inr (inr (inr (inl x))))))) (unused _ (λ x. none-applies L graph l accepted 3 i (n, inl (k, inr (inr (inr (inr x)))))))
 
   edge-at : (i : ℕ) → nodes-of l ≤ i → i < count l → edge-rec (to-edge (record-at l i)) ≡ record-at l i
   edge-at i h n =
       let k = is-edge L l accepted i h n in
-      edge-same (record-at l i) k (unused _ (λ x. none-applies 3 i (n, inr (inl (k, inr (inl x)))))) (unused _ (λ x. none-applies 3 i (n, inr (inl (k, inr (inr x))))))
-
-  whole-records : length l ≡ 6 * count l
-  whole-records = go (ℕ-discrete (length l) (6 * count l))
-    where
-      go : Dec (length l ≡ 6 * count l) → length l ≡ 6 * count l
-      go (yes e) = e
-      go (no e) = absurd (none-applies 1 0 (refl, λ n q. e (omega arith)))
+      edge-same (record-at l i) k (unused _ (λ x. none-applies L graph l accepted 3 i (n, inr (inl (k, inr (inl x)))))) (unused _ (λ x. none-applies L graph l accepted 3 i (n, inr (inl (k, inr (inr x))))))
 
   recs-same : graph-recs (decode-graph l) ≡ table (record-at l) 0 (count l)
   unfolding decode-graph
@@ -131,7 +116,7 @@ module _ (L : Limits) (l : List ℕ) (accepted : refusal L graph l ≡ none) whe
 
   pub bytes-decode : graph-bytes (decode-graph l) ≡ l
   unfolding graph-bytes
-  bytes-decode = ap write recs-same ∙ write-recs (count l) l whole-records
+  bytes-decode = ap write recs-same ∙ write-recs (count l) l (whole-file L graph l accepted)
 
   -- the six bytes of node g are those of record g
   pub shown-node : (g : ℕ) → g < size (decode-graph l) → part l g 1 ≡ six (node-rec (node (decode-graph l) g))

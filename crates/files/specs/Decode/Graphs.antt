@@ -1,25 +1,22 @@
 -- An accepted graph file holds a graph: edges between its own nodes, each inside one method, fields in range, within the limits, edges ascending. Assumes nothing.
 use mathlib.Core.Path.{_≡_, refl, sym, ap, subst, subst₂, _∙_}
 use mathlib.Core.Logic.{_⊎_, inl, inr}
-use mathlib.Core.Bool.{Bool, true, false}
 use mathlib.Core.List.{List, List·Memᴰ}
 use mathlib.Core.Option.{none}
 use Prim.Native.Nat.{ℕ, suc, _+_, _-_, _≤_, _<_}
 use native.Mathlib.Nat.{zero-add}
-use native.Mathlib.Decide.{ℕ-discrete}
 use native.Mathlib.Omega.{arith}
 use lib.Dec.{T, eqb, eqb→eq}
 use lib.ListN.{length, getD}
 use Rattle.files.specs.Basics.Lexical.{Before, says-before}
-use Rattle.files.specs.Basics.Says.{Says}
-use Rattle.files.specs.Basics.Tables.{table, length-table, getD-table, table-e, tally-le, tally-down, tally-both}
+use Rattle.files.specs.Basics.Says.{says-eq, says-or, says-sure}
+use Rattle.files.specs.Basics.Tables.{length-table, getD-table, table-e, tally-le, tally-down, tally-both}
 use Rattle.files.specs.Basics.Tests.{eq-eqb, one, below}
 use Rattle.files.specs.Decode.{to-node, to-edge, decode-graph, key, Filed}
 use Rattle.files.specs.Graph.{Node, Edge, Flow, node, size, no-edge}
+use Rattle.files.specs.Decode.AnyFile.{none-applies}
 use Rattle.files.specs.Record.{record-at, kind-at, count}
 use Rattle.files.specs.Refusal.{graph, of-kind, nodes-of, edges-of, edge-key, method-at, refusal}
-use Rattle.files.specs.Refusal.Laws.{accepted-iff}
-use Rattle.files.specs.Table.{Applies}
 use Rattle.files.specs.declared.record.Limits.{Limits}
 
 -- one of two kinds
@@ -28,27 +25,15 @@ one-kind x (inl e) = subst (λ (y : ℕ). one (eqb y 1) + one (eqb y 2) ≡ 1) (
 one-kind x (inr e) = subst (λ (y : ℕ). one (eqb y 1) + one (eqb y 2) ≡ 1) (sym e) refl
 
 module _ (L : Limits) (l : List ℕ) (accepted : refusal L graph l ≡ none) where
-  none-applies : (n i : ℕ) → Applies L graph l n i → ⊥
-  none-applies = (accepted-iff L graph l) .0 accepted
-
   pub placed : (i : ℕ) → i < count l → (kind-at l i ≡ 1) ⊎ (kind-at l i ≡ 2)
-  placed i h = go (ℕ-discrete (kind-at l i) 1) (ℕ-discrete (kind-at l i) 2)
-    where
-      go : Dec (kind-at l i ≡ 1) → Dec (kind-at l i ≡ 2) → (kind-at l i ≡ 1) ⊎ (kind-at l i ≡ 2)
-      go (yes e) d = inl e
-      go (no e) (yes d) = inr d
-      go (no e) (no d) = absurd (none-applies 2 i (h, inl neither))
-        where
-          neither : (kind-at l i ≡ 1) ⊎ (kind-at l i ≡ 2) → ⊥
-          neither (inl x) = e x
-          neither (inr x) = d x
+  placed i h = says-sure (says-or (says-eq (kind-at l i) 1) (says-eq (kind-at l i) 2)) (λ f. none-applies L graph l accepted 2 i (h, inl f))
 
   down : (i j : ℕ) → j < i → i < count l → T (of-kind l 1 i) → T (of-kind l 1 j)
   down i j m h t = go (placed j (omega arith))
     where
       go : (kind-at l j ≡ 1) ⊎ (kind-at l j ≡ 2) → T (of-kind l 1 j)
       go (inl e) = eq-eqb (kind-at l j) 1 e
-      go (inr e) = absurd (none-applies 2 i (h, inr (eqb→eq (kind-at l i) 1 t, (j, m, e))))
+      go (inr e) = absurd (none-applies L graph l accepted 2 i (h, inr (eqb→eq (kind-at l i) 1 t, (j, m, e))))
 
   -- the nodes are the first records, the edges all others
   pub is-node : (i : ℕ) → i < nodes-of l → kind-at l i ≡ 1
@@ -69,36 +54,27 @@ module _ (L : Limits) (l : List ℕ) (accepted : refusal L graph l ≡ none) whe
 
   -- what the table says of an edge record
   from-below : (i : ℕ) → nodes-of l ≤ i → i < count l → (record-at l i) .first < nodes-of l
-  from-below i h k = below _ _ (λ x. none-applies 7 i (k, (is-edge i h k, inl x)))
+  from-below i h k = below _ _ (λ x. none-applies L graph l accepted 7 i (k, (is-edge i h k, inl x)))
 
   to-below : (i : ℕ) → nodes-of l ≤ i → i < count l → (record-at l i) .third < nodes-of l
-  to-below i h k = below _ _ (λ x. none-applies 7 i (k, (is-edge i h k, inr x)))
+  to-below i h k = below _ _ (λ x. none-applies L graph l accepted 7 i (k, (is-edge i h k, inr x)))
 
   method-same : (i : ℕ) → nodes-of l ≤ i → i < count l → method-at l ((record-at l i) .third) ≡ method-at l ((record-at l i) .first)
-  method-same i h k = go (ℕ-discrete (method-at l ((record-at l i) .third)) (method-at l ((record-at l i) .first)))
-    where
-      go : Dec (method-at l ((record-at l i) .third) ≡ method-at l ((record-at l i) .first)) → method-at l ((record-at l i) .third) ≡ method-at l ((record-at l i) .first)
-      go (yes e) = e
-      go (no e) = absurd (none-applies 8 i (k, (is-edge i h k, (from-below i h k, (to-below i h k, e)))))
+  method-same i h k = says-sure (says-eq _ _) (λ e. none-applies L graph l accepted 8 i (k, (is-edge i h k, (from-below i h k, (to-below i h k, e)))))
 
   label-small : (i : ℕ) → nodes-of l ≤ i → i < count l → (record-at l i) .second < 9
-  label-small i h k = below _ _ (λ x. none-applies 3 i (k, inr (inl (is-edge i h k, inl x))))
+  label-small i h k = below _ _ (λ x. none-applies L graph l accepted 3 i (k, inr (inl (is-edge i h k, inl x))))
 
   method-from : (i : ℕ) → i < nodes-of l → 0 < (record-at l i) .first
-  method-from i h = below _ _ (λ x. none-applies 3 i (omega (arith, few), inl (is-node i h, inl (inl (omega arith)))))
+  method-from i h = below _ _ (λ x. none-applies L graph l accepted 3 i (omega (arith, few), inl (is-node i h, inl (inl (omega arith)))))
 
   method-to : (i : ℕ) → i < nodes-of l → (record-at l i) .first < 9
-  method-to i h = below _ _ (λ x. none-applies 3 i (omega (arith, few), inl (is-node i h, inl (inr x))))
+  method-to i h = below _ _ (λ x. none-applies L graph l accepted 3 i (omega (arith, few), inl (is-node i h, inl (inr x))))
 
   in-order : (i : ℕ) → nodes-of l ≤ i → suc i < count l → Before (edge-key (record-at l i)) (edge-key (record-at l (suc i)))
-  in-order i h k = go (decide-before)
-    where
-      decide-before : (b : Bool) × (Says b (Before (edge-key (record-at l i)) (edge-key (record-at l (suc i)))))
-      decide-before = (_, says-before (edge-key (record-at l i)) (edge-key (record-at l (suc i))))
-
-      go : (b : Bool) × (Says b (Before (edge-key (record-at l i)) (edge-key (record-at l (suc i))))) → Before (edge-key (record-at l i)) (edge-key (record-at l (suc i)))
-      go (true, s) = s .say tt
-      go (false, s) = absurd (none-applies 4 (suc i) (k, (is-edge i h (omega arith), (is-edge (suc i) (omega arith) k, s .hear))))
+  in-order i h k =
+      says-sure (says-before (edge-key (record-at l i)) (edge-key (record-at l (suc i))))
+      (λ f. none-applies L graph l accepted 4 (suc i) (k, (is-edge i h (omega arith), (is-edge (suc i) (omega arith) k, f))))
 
   -- ---- the decoded graph
 
@@ -171,10 +147,10 @@ module _ (L : Limits) (l : List ℕ) (accepted : refusal L graph l ≡ none) whe
           subst (λ (x : Edge). x .label ≤ 8) (r .3) (omega (arith, label-small (r .0) (r .1) (r .2)))
 
       small-n : length ((decode-graph l) .nodes) ≤ L .nodes
-      small-n = let a = below (nodes-of l) (suc (L .nodes)) (λ x. none-applies 5 0 (refl, inl x)) in omega (arith, decoded-size, a)
+      small-n = let a = below (nodes-of l) (suc (L .nodes)) (λ x. none-applies L graph l accepted 5 0 (refl, inl x)) in omega (arith, decoded-size, a)
 
       small-e : length ((decode-graph l) .edges) ≤ L .edges
-      small-e = let a = below (edges-of l) (suc (L .edges)) (λ x. none-applies 5 0 (refl, inr x)) in omega (arith, decoded-edges, edges-count, a)
+      small-e = let a = below (edges-of l) (suc (L .edges)) (λ x. none-applies L graph l accepted 5 0 (refl, inr x)) in omega (arith, decoded-edges, edges-count, a)
 
       asc : (j : ℕ) → suc j < length ((decode-graph l) .edges) → Before (key (getD ((decode-graph l) .edges) j no-edge)) (key (getD ((decode-graph l) .edges) (suc j) no-edge))
       asc j h =

@@ -1,4 +1,4 @@
--- Accepted property, rule and interface files hold well-formed values within the limits. Assumes nothing.
+-- An accepted property file holds a property within the limits: rows that name rows, fields in range. Assumes nothing.
 use mathlib.Core.Path.{_≡_, refl, sym, ap, subst, subst₂, _∙_}
 use mathlib.Core.Logic.{_⊎_, inl, inr}
 use mathlib.Core.Bool.{Bool}
@@ -6,7 +6,6 @@ use mathlib.Core.List.{List}
 use mathlib.Core.Option.{none}
 use Prim.Native.Nat.{ℕ, zero, suc, _≤_, _<_}
 use native.Mathlib.Nat.{zero-add}
-use native.Mathlib.Decide.{ℕ-discrete}
 use native.Mathlib.Omega.{arith}
 use lib.Dec.{T, eqb, ltb, lt→ltb}
 use lib.ListN.{length}
@@ -14,10 +13,11 @@ use Rattle.files.specs.Basics.Tables.{tally, length-table, getD-table}
 use Rattle.files.specs.Basics.Tests.{and-i, one, below, at-most}
 use Rattle.files.specs.Decode.{row-of, decode-property, FiledRows, RowIn}
 use Rattle.files.specs.Property.{Row, row, names, never, is-either}
+use Rattle.files.specs.Basics.Says.{says-eq, says-sure}
+use Rattle.files.specs.Decode.AnyFile.{none-applies}
 use Rattle.files.specs.Record.{record-at, kind-at, count}
-use Rattle.files.specs.Refusal.{property, interface, ors-of, is-or, refusal}
-use Rattle.files.specs.Refusal.Laws.{accepted-iff}
-use Rattle.files.specs.Table.{Applies, TakesRows, RowWrong}
+use Rattle.files.specs.Refusal.{property, ors-of, is-or, refusal}
+use Rattle.files.specs.Table.{TakesRows, RowWrong}
 use Rattle.files.specs.declared.record.Limits.{Limits}
 
 row-names : (op a b n : ℕ) → op ≤ 9 → ((TakesRows op × ((n ≤ a) ⊎ (n ≤ b))) ⊎ ((op ≡ 9) × (n ≤ b)) → ⊥) → T (names n (row-of op a b))
@@ -68,18 +68,11 @@ tally-mono p q zero h = omega arith
 tally-mono p q (suc n) h = omega (arith, h n (omega arith), tally-mono p q n (λ i l. h i (omega arith)))
 
 module _ (L : Limits) (l : List ℕ) (accepted : refusal L property l ≡ none) where
-  none-applies : (n i : ℕ) → Applies L property l n i → ⊥
-  none-applies = (accepted-iff L property l) .0 accepted
-
   pub is-row : (i : ℕ) → i < count l → kind-at l i ≡ 3
-  is-row i h = go (ℕ-discrete (kind-at l i) 3)
-    where
-      go : Dec (kind-at l i ≡ 3) → kind-at l i ≡ 3
-      go (yes e) = e
-      go (no e) = absurd (none-applies 2 i (h, e))
+  is-row i h = says-sure (says-eq (kind-at l i) 3) (λ e. none-applies L property l accepted 2 i (h, e))
 
   pub right : (i : ℕ) → i < count l → RowWrong (record-at l i) → ⊥
-  right i h w = none-applies 3 i (h, inr (inr (inl (is-row i h, w))))
+  right i h w = none-applies L property l accepted 3 i (h, inr (inr (inl (is-row i h, w))))
 
   operator : (i : ℕ) → i < count l → (record-at l i) .first ≤ 9
   operator i h = let a : (record-at l i) .first < 10 = below _ _ (λ x. right i h (inl (inr x))) in omega arith
@@ -100,13 +93,13 @@ module _ (L : Limits) (l : List ℕ) (accepted : refusal L property l ≡ none) 
   decoded-property = record { rows-named = record { has-root = root; names-rows = named }; rows-in = inside; few-rows = small; few-ors = ors }
     where
       root : 0 < length (decode-property l)
-      root = let a : 0 < count l = below 0 (count l) (λ x. none-applies 6 0 (refl, omega arith)) in omega (arith, decoded-rows)
+      root = let a : 0 < count l = below 0 (count l) (λ x. none-applies L property l accepted 6 0 (refl, omega arith)) in omega (arith, decoded-rows)
 
       named : (r : ℕ) → r < length (decode-property l) → T (names (length (decode-property l)) (row (decode-property l) r))
       named r h =
           let k : r < count l = omega (arith, decoded-rows) in
           subst₂ (λ (n : ℕ) (x : Row). T (names n x)) (sym decoded-rows) (sym (decoded-row r k))
-          (row-names _ _ _ (count l) (operator r k) (λ x. none-applies 7 r (k, x)))
+          (row-names _ _ _ (count l) (operator r k) (λ x. none-applies L property l accepted 7 r (k, x)))
 
       inside : (r : ℕ) → r < length (decode-property l) → RowIn (row (decode-property l) r)
       inside r h =
@@ -114,13 +107,13 @@ module _ (L : Limits) (l : List ℕ) (accepted : refusal L property l ≡ none) 
           subst RowIn (sym (decoded-row r k)) (row-in _ _ _ ((record-at l r) .fourth) ((record-at l r) .fifth) (operator r k) (right r k))
 
       small : length (decode-property l) ≤ L .rows
-      small = let a = below (count l) (suc (L .rows)) (λ x. none-applies 5 0 (refl, inl x)) in omega (arith, decoded-rows, a)
+      small = let a = below (count l) (suc (L .rows)) (λ x. none-applies L property l accepted 5 0 (refl, inl x)) in omega (arith, decoded-rows, a)
 
       le-one : (r : ℕ) → r < count l → one (is-either (row (decode-property l) r)) ≤ one (is-or l r)
       le-one r h = subst (λ (x : Row). one (is-either x) ≤ one (is-or l r)) (sym (decoded-row r h)) (row-or ((record-at l r) .first) ((record-at l r) .second) ((record-at l r) .third))
 
       ors : tally (λ r. is-either (row (decode-property l) r)) (length (decode-property l)) ≤ L .ors
       ors =
-          let a = below (ors-of l) (suc (L .ors)) (λ x. none-applies 5 0 (refl, inr x)) in
+          let a = below (ors-of l) (suc (L .ors)) (λ x. none-applies L property l accepted 5 0 (refl, inr x)) in
           let b = tally-mono (λ r. is-either (row (decode-property l) r)) (is-or l) (count l) le-one in
           subst (λ (n : ℕ). tally (λ r. is-either (row (decode-property l) r)) n ≤ L .ors) (sym decoded-rows) (omega (arith, a, b))

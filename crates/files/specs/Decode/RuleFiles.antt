@@ -1,23 +1,21 @@
--- Accepted rule and interface files hold well-formed values. Assumes nothing.
+-- An accepted rule file holds rules in range, in order. Assumes nothing.
 use mathlib.Core.Path.{_≡_, sym, ap, subst, subst₂, _∙_}
 use mathlib.Core.Logic.{inl, inr}
-use mathlib.Core.Bool.{Bool, true, false}
 use mathlib.Core.List.{List, List·Memᴰ}
 use mathlib.Core.Option.{none}
 use Prim.Native.Nat.{ℕ, suc, _≤_, _<_}
 use native.Mathlib.Nat.{zero-add}
-use native.Mathlib.Decide.{ℕ-discrete}
 use native.Mathlib.Omega.{arith}
 use lib.ListN.{length, getD}
 use Rattle.files.specs.Basics.Lexical.{Before, says-before}
-use Rattle.files.specs.Basics.Says.{Says}
+use Rattle.files.specs.Basics.Says.{says-eq, says-sure}
 use Rattle.files.specs.Basics.Tables.{length-table, getD-table, table-e}
 use Rattle.files.specs.Decode.{to-rule, decode-rules, FiledRules, RuleIn, rule-order}
+use Rattle.files.specs.Decode.AnyFile.{none-applies}
 use Rattle.files.specs.Record.{record-at, kind-at, count}
-use Rattle.files.specs.Refusal.{rules, interface, rule-key, refusal}
-use Rattle.files.specs.Refusal.Laws.{accepted-iff}
+use Rattle.files.specs.Refusal.{rules, rule-key, refusal}
 use Rattle.files.specs.Rules.{Rule, no-rule}
-use Rattle.files.specs.Table.{Applies, RuleWrong, Out}
+use Rattle.files.specs.Table.{RuleWrong, Out}
 use Rattle.files.specs.declared.record.Limits.{Limits}
 use Rattle.files.specs.declared.record.Record.{Record}
 use Rattle.files.specs.Basics.Tests.{at-most}
@@ -36,15 +34,8 @@ rule-in r f =
     }
 
 module _ (L : Limits) (l : List ℕ) (accepted : refusal L rules l ≡ none) where
-  none-applies : (n i : ℕ) → Applies L rules l n i → ⊥
-  none-applies = (accepted-iff L rules l) .0 accepted
-
   pub is-rule : (i : ℕ) → i < count l → kind-at l i ≡ 4
-  is-rule i h = go (ℕ-discrete (kind-at l i) 4)
-    where
-      go : Dec (kind-at l i ≡ 4) → kind-at l i ≡ 4
-      go (yes e) = e
-      go (no e) = absurd (none-applies 2 i (h, e))
+  is-rule i h = says-sure (says-eq (kind-at l i) 4) (λ e. none-applies L rules l accepted 2 i (h, e))
 
   abbrev ruleAt : ℕ → Rule
   ruleAt i = to-rule (record-at l i)
@@ -62,11 +53,9 @@ module _ (L : Limits) (l : List ℕ) (accepted : refusal L rules l ≡ none) whe
   rule-e u m = let r = table-e ruleAt 0 (count l) u m in (r .0, omega (arith, r .2), r .3)
 
   in-order : (i : ℕ) → suc i < count l → Before (rule-key (record-at l i)) (rule-key (record-at l (suc i)))
-  in-order i k = go (_, says-before (rule-key (record-at l i)) (rule-key (record-at l (suc i))))
-    where
-      go : (b : Bool) × (Says b (Before (rule-key (record-at l i)) (rule-key (record-at l (suc i))))) → Before (rule-key (record-at l i)) (rule-key (record-at l (suc i)))
-      go (true, s) = s .say tt
-      go (false, s) = absurd (none-applies 4 (suc i) (k, (is-rule i (omega arith), (is-rule (suc i) k, s .hear))))
+  in-order i k =
+      says-sure (says-before (rule-key (record-at l i)) (rule-key (record-at l (suc i))))
+      (λ f. none-applies L rules l accepted 4 (suc i) (k, (is-rule i (omega arith), (is-rule (suc i) k, f))))
 
   -- an accepted rule file decodes to rules in range, strictly ascending by (state, event, m1, m2)
   pub decoded-rules : FiledRules (decode-rules l)
@@ -75,7 +64,7 @@ module _ (L : Limits) (l : List ℕ) (accepted : refusal L rules l ≡ none) whe
       ins : (u : Rule) → List·Memᴰ u (decode-rules l) → RuleIn u
       ins u m =
           let r = rule-e u m in
-          subst RuleIn (r .2) (rule-in (record-at l (r .0)) (λ w. none-applies 3 (r .0) (r .1, inr (inr (inr (inl (is-rule (r .0) (r .1), w)))))))
+          subst RuleIn (r .2) (rule-in (record-at l (r .0)) (λ w. none-applies L rules l accepted 3 (r .0) (r .1, inr (inr (inr (inl (is-rule (r .0) (r .1), w)))))))
 
       asc : (j : ℕ) → suc j < length (decode-rules l) → Before (rule-order (getD (decode-rules l) j no-rule)) (rule-order (getD (decode-rules l) (suc j) no-rule))
       asc j h =

@@ -15,14 +15,15 @@ use Rattle.files.specs.Basics.Tests.{one, and-e}
 use Rattle.files.specs.Decode.{row-of, to-row, row-rec, decode-property, property-bytes, FiledRows, RowIn, to-rule, rule-rec, decode-rules, rules-bytes, FiledRules, RuleIn, decode-interface, interface-bytes}
 use Rattle.files.specs.Decode.Canonical.{write-recs, unused}
 use Rattle.files.specs.Decode.Interfaces.{one-record, is-interface}
-use Rattle.files.specs.Decode.Listed.{whole-file, accepted-if, length-values, count-values, at-value, decode-values, values-decode}
+use Rattle.files.specs.Decode.AnyFile.{whole-file, accepted-if, none-applies}
+use Rattle.files.specs.Decode.Listed.{length-values, count-values, at-value, decode-values, values-decode}
 use Rattle.files.specs.Decode.Properties.{is-row, right, tally-mono}
 use Rattle.files.specs.Decode.RuleFiles.{is-rule}
 use Rattle.files.specs.Interface.{Interface}
 use Rattle.files.specs.Property.{Row, always, never, returns, not-returns, in-method, not-in-method, both, either, box, row, names, is-either}
 use Rattle.files.specs.Record.{record-at, kind-at, count, wrong, takes-rows, row-record, interface-record, write}
 use Rattle.files.specs.Refusal.{property, rules, interface, is-or, ors-of, rule-key, refusal}
-use Rattle.files.specs.Refusal.Laws.{accepted-iff, says-past}
+use Rattle.files.specs.Refusal.Laws.{says-past}
 use Rattle.files.specs.Rules.{Rule, no-rule}
 use Rattle.files.specs.Table.{Misplaced, RowWrong, InterfaceWrong, Disordered, Passed, Past}
 use Rattle.files.specs.declared.record.Limits.{Limits}
@@ -235,4 +236,4 @@ interface-bytes-decode L l accepted =
     k = is-interface L l accepted
 
     no-wrong : InterfaceWrong (record-at l 0) → ⊥
-    no-wrong w = (accepted-iff L interface l) .0 accepted 3 0 (omega (arith, one-record L l accepted), inr (inr (inr (inr (k, w)))))
+    no-wrong w = none-applies L interface l accepted 3 0 (omega (arith, one-record L l accepted), inr (inr (inr (inr (k, w)))))

@@ -17,7 +17,7 @@ use Rattle.files.specs.Decode.{to-node, to-edge, decode-graph, node-rec,
 use Rattle.files.specs.Decode.Graphs.{one-kind}
 use Rattle.files.specs.Graph.{Node, Graph, node, no-node, size, no-edge}
 use Rattle.files.specs.Record.{record-from, record-at, kind-at, count, six, write}
-use Rattle.files.specs.Refusal.{graph, of-kind, nodes-of, edges-of}
+use Rattle.files.specs.Refusal.{of-kind, nodes-of, edges-of}
 use Rattle.files.specs.declared.record.Record.{Record}
 
 -- ---- records as bytes
@@ -121,9 +121,6 @@ pub decode-bytes : (G : Graph) → decode-graph (graph-bytes G) ≡ G
 unfolding decode-graph
 decode-bytes G = λ i. record { nodes = ns i; edges = es i }
   where
-    l : List ℕ
-    l = graph-bytes G
-
     ns : table (λ i. to-node (record-at (graph-bytes G) i)) 0 (nodes-of (graph-bytes G)) ≡ G .nodes
     ns =
         ap (table (λ i. to-node (record-at (graph-bytes G) i)) 0) (nodes-bytes G)

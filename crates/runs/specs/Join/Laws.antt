@@ -14,7 +14,7 @@ use Rattle.files.specs.Graph.{Node, Graph, Edge, size, node, Flow, no-node, no-
 use Rattle.files.specs.Interface.{Interface, provides, requires-method, Labelled, Of, united}
 use Rattle.files.specs.Interface.Laws.{united-provides, united-requires}
 use Rattle.files.specs.declared.record.Limits.{Limits}
-use Rattle.judging.specs.Simulation.{Simulation, Simulates}
+use Rattle.judging.specs.Simulation.{Simulates}
 use Rattle.runs.specs.Join.{join, moved}
 use lib.ListN.{length, getD, length-append, length-map, List·getD-append}
 use lib.Seq.{getD-append-add}
@@ -123,21 +123,14 @@ module _ (K K′ G H : Graph) (fk : Flow K) (first : Simulates K K′) (second :
 
 -- two flow graphs joined are a flow graph, and have no other labels
 module _ (K G : Graph) (fk : Flow K) (fg : Flow G) where
-  join-from : (e : Edge) → List·Memᴰ e ((join K G) .edges) → e .from < size (join K G)
-  join-from e m = go (edge-cases K G e m)
+  -- an end of an edge: what is a node of either side is a node of the joined graph
+  join-end : (at : Edge → ℕ) → ((d : Edge) → at (moved (size K) d) ≡ size K + at d) → ((e : Edge) → List·Memᴰ e (K .edges) → at e < size K)
+      → ((e : Edge) → List·Memᴰ e (G .edges) → at e < size G) → (e : Edge) → List·Memᴰ e ((join K G) .edges) → at e < size (join K G)
+  join-end at shift f g e m = go (edge-cases K G e m)
     where
-      go : List·Memᴰ e (K .edges) ⊎ ((d : Edge) × List·Memᴰ d (G .edges) × (moved (size K) d ≡ e)) → e .from < size (join K G)
-      go (inl k) = omega (arith, join-size K G, fk .from-node e k)
-      go (inr k) =
-          let q : size K + (k .0) .from ≡ e .from = ap (λ (x : Edge). x .from) (k .2) in omega (arith, join-size K G, fg .from-node (k .0) (k .1))
-
-  join-to : (e : Edge) → List·Memᴰ e ((join K G) .edges) → e .to < size (join K G)
-  join-to e m = go (edge-cases K G e m)
-    where
-      go : List·Memᴰ e (K .edges) ⊎ ((d : Edge) × List·Memᴰ d (G .edges) × (moved (size K) d ≡ e)) → e .to < size (join K G)
-      go (inl k) = omega (arith, join-size K G, fk .to-node e k)
-      go (inr k) =
-          let q : size K + (k .0) .to ≡ e .to = ap (λ (x : Edge). x .to) (k .2) in omega (arith, join-size K G, fg .to-node (k .0) (k .1))
+      go : List·Memᴰ e (K .edges) ⊎ ((d : Edge) × List·Memᴰ d (G .edges) × (moved (size K) d ≡ e)) → at e < size (join K G)
+      go (inl k) = omega (arith, join-size K G, f e k)
+      go (inr k) = let q : size K + at (k .0) ≡ at e = sym (shift (k .0)) ∙ ap at (k .2) in omega (arith, join-size K G, g (k .0) (k .1))
 
   join-method : (e : Edge) → List·Memᴰ e ((join K G) .edges) → (node (join K G) (e .to)) .method ≡ (node (join K G) (e .from)) .method
   join-method e m = go (edge-cases K G e m)
@@ -149,7 +142,11 @@ module _ (K G : Graph) (fk : Flow K) (fg : Flow G) where
           (rw (join-second K G ((k .0) .to)) (rw (join-second K G ((k .0) .from)) (fg .one-method (k .0) (k .1))))
 
   pub join-flow : Flow (join K G)
-  join-flow = record { from-node = join-from; to-node = join-to; one-method = join-method }
+  join-flow = record {
+    from-node = join-end (λ x. x .from) (λ d. refl) (fk .from-node) (fg .from-node);
+    to-node = join-end (λ x. x .to) (λ d. refl) (fk .to-node) (fg .to-node);
+    one-method = join-method;
+  }
 
 pub join-labels : (K G : Graph) (n : ℕ) → ((e : Edge) → List·Memᴰ e (K .edges) → e .label < n) → ((e : Edge) → List·Memᴰ e (G .edges) → e .label < n)
     → (e : Edge) → List·Memᴰ e ((join K G) .edges) → e .label < n

@@ -23,7 +23,7 @@ use Rattle.files.specs.Sides.Laws.{foreign-finds, says-unprovided}
 use Rattle.files.specs.declared.record.Limits.{Limits}
 use Rattle.runs.specs.Runs.{Bad, Clean}
 use Rattle.runs.specs.Summary.{clean}
-use Rattle.runs.specs.Summary.Table.{not-clean-bad, clean-no-bad}
+use Rattle.runs.specs.Summary.Places.{not-clean-bad, clean-no-bad}
 use Rattle.runs.specs.Summary.Trails.{trail, trail-bytes}
 use Rattle.runs.specs.Summary.Trails.OneRun.{trail-shows}
 use Rattle.runs.specs.Watching.{watch-room, watch-said, watch-verdict, watch-checks, watch-lines, watched, Watches}
@@ -54,7 +54,7 @@ module _ (G : Graph) (mon : Monitor) (m : ℕ) (flow : Flow G) (labels-small : (
           }
       go false c q =
           let v : s .verdict ≡ 2 = ap (λ (x : Said). x .verdict) q in
-          let b : Bad G mon m = not-clean-bad G mon flow labels-small mon-small m (subst (λ (b : Bool). T (not b)) (sym c) tt) in
+          let b : Bad G mon m = not-clean-bad G mon m (subst (λ (b : Bool). T (not b)) (sym c) tt) in
           record {
             clean-iff = (λ x. absurd (omega arith), λ f. absurd (f b));
             bad-iff = (λ x. b, λ x. v);

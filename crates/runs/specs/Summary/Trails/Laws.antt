@@ -15,7 +15,9 @@ use Rattle.files.specs.Rules.{Event, calls, Monitor}
 use Rattle.runs.specs.Runs.{meth, EntryOf, Runs, Bad}
 use Rattle.runs.specs.Summary.{Trail, starts, steps, enters, passes, Place, is-entry-of, callee, spots, all-places}
 use Rattle.runs.specs.Summary.Exact.{exact}
-use Rattle.runs.specs.Summary.Table.{passes-e, callee-i, no-ret, entry-e, entry-i, trail-moves, trail-now, into-is, out, spot, spots-sound, spots-complete, places-i}
+use Rattle.runs.specs.Summary.Moves.{passes-e, callee-i, no-ret, entry-e, entry-i, into-is, out}
+use Rattle.runs.specs.Summary.Places.{trail-moves, trail-now, places-i}
+use Rattle.runs.specs.Summary.Spots.{spot, spots-sound, spots-complete}
 use Rattle.runs.specs.Summary.Trails.{Rec, trail-rec-bytes, Where, before, here, end, is-bad, started, internal-rec, entered-rec, passed-rec, recs, leaving, trail}
 use lib.ListN.{length, getD, length-map}
 
@@ -55,7 +57,7 @@ module _ (G : Graph) (mon : Monitor) (flow : Flow G) (labels-small : (e : Edge) 
           let b = keep-e (ins e) (span 0 (size G)) (a .0) (a .1) in
           let c = and-e (ltb 0 (e .label)) _ (b .1) in
           let h : a .0 < size G = omega (arith, span-e (size G) 0 (a .0) (b .0)) in
-          subst (Leaves x) (a .2) (goes-in e (a .0) y (ltb→lt 0 (e .label) (c .0)) (entry-e G mon flow labels-small mon-small (e .label) (a .0) h (c .1)))
+          subst (Leaves x) (a .2) (goes-in e (a .0) y (ltb→lt 0 (e .label) (c .0)) (entry-e G mon (e .label) (a .0) h (c .1)))
       rest (inr j) =
           let a = Memᴰ·of-map (passed-rec G mon x e) (keep (overs x e) (span 0 8)) j in
           let b = keep-e (overs x e) (span 0 8) (a .0) (a .1) in
@@ -94,7 +96,7 @@ module _ (G : Graph) (mon : Monitor) (flow : Flow G) (labels-small : (e : Edge) 
   leaves-i x r (goes-in e n y h d) =
       edge-leaves x e _ y (Memᴰ·append-right (map (internal-rec G mon x e) (keep (λ q. eqb (e .label) 0) (x .now ∷ [])))
       (Memᴰ·append-left _ (Memᴰ·map (entered-rec G mon x e) (keep-i (ins e) (span 0 (size G)) n (span-i (size G) 0 n (omega arith) (omega (arith, d .is-node)))
-      (and-i (ltb 0 (e .label)) _ (lt→ltb 0 (e .label) h) (entry-i G mon flow labels-small mon-small (e .label) n d))))))
+      (and-i (ltb 0 (e .label)) _ (lt→ltb 0 (e .label) h) (entry-i G mon (e .label) n d))))))
   leaves-i x r (goes-by e q y h l t) =
       edge-leaves x e _ y (Memᴰ·append-right (map (internal-rec G mon x e) (keep (λ q. eqb (e .label) 0) (x .now ∷ [])))
       (Memᴰ·append-right (map (entered-rec G mon x e) (keep (ins e) (span 0 (size G))))
@@ -106,22 +108,22 @@ module _ (G : Graph) (mon : Monitor) (flow : Flow G) (labels-small : (e : Edge) 
       let a = Memᴰ·of-map (started G mon) (keep (is-entry-of G mon m) (span 0 (size G))) k in
       let b = keep-e (is-entry-of G mon m) (span 0 (size G)) (a .0) (a .1) in
       let h : a .0 < size G = omega (arith, span-e (size G) 0 (a .0) (b .0)) in
-      (a .0, entry-e G mon flow labels-small mon-small m (a .0) h (b .1), a .2)
+      (a .0, entry-e G mon m (a .0) h (b .1), a .2)
 
   start-i : (n : ℕ) → EntryOf G m n → List·Memᴰ (started G mon n) (leaving G mon m before)
   unfolding leaving
   start-i n d =
-      Memᴰ·map (started G mon) (keep-i (is-entry-of G mon m) (span 0 (size G)) n (span-i (size G) 0 n (omega arith) (omega (arith, d .is-node))) (entry-i G mon flow labels-small mon-small m n d))
+      Memᴰ·map (started G mon) (keep-i (is-entry-of G mon m) (span 0 (size G)) n (span-i (size G) 0 n (omega arith) (omega (arith, d .is-node))) (entry-i G mon m n d))
 
   -- ---- a path to a bad point is a bad trail, and the other way round
 
   leaves-comes : (x : Place) (r : Rec) → Leaves x r → Comes (here x) → Comes (end r)
   leaves-comes x r (steps-on e y z) c = steps (x .at) (x .now) e c y z
   leaves-comes x r (goes-in e n y h d) c =
-      subst (λ (q : ℕ). Trail G mon m n q) (into-is G mon flow labels-small mon-small m (x .at) (x .now) e y) (enters (x .at) (x .now) e n c y h d)
+      subst (λ (q : ℕ). Trail G mon m n q) (into-is G mon (x .at) (x .now) e y) (enters (x .at) (x .now) e n c y h d)
   leaves-comes x r (goes-by e q y h l t) c =
-      trail-moves G mon flow labels-small mon-small m (x .at) (x .now) q e c (y .edge) (sym (y .leaves)) (no-ret G mon flow labels-small mon-small (x .at) e y)
-      (passes-e G mon flow labels-small mon-small (spots G mon) (spots-sound G mon flow labels-small mon-small) e (x .now) q h t)
+      trail-moves G mon m (x .at) (x .now) q e c (y .edge) (sym (y .leaves)) (no-ret G (x .at) e y)
+      (passes-e G mon (spots G mon) (spots-sound G mon) e (x .now) q h t)
 
   leaving-comes : (w : Where) (r : Rec) → List·Memᴰ r (leaving G mon m w) → Comes w → Comes (end r)
   leaving-comes before r k c = let a = start-e r k in subst (λ (r : Rec). Comes (end r)) (a .2) (starts (a .0) (a .1))
@@ -146,16 +148,16 @@ module _ (G : Graph) (mon : Monitor) (flow : Flow G) (labels-small : (e : Edge) 
   trail-path g q (enters g′ q′ e n t y h d) rs p =
       let x = place g′ q′ in
       trail-path g′ q′ t _ (by (here x) (entered-rec G mon x e n) rs (leaves-i x _ (goes-in e n y h d))
-      (subst (λ (i : ℕ). Path (here (place n i)) rs) (into-is G mon flow labels-small mon-small m g′ q′ e y) p))
+      (subst (λ (i : ℕ). Path (here (place n i)) rs) (into-is G mon g′ q′ e y) p))
   trail-path g q (passes g′ q′ e r s t y h j b) rs p =
       let x = place g′ q′ in
-      let hq = mon-small q′ _ (trail-now G mon flow labels-small mon-small m g′ q′ t) in
-      let z = spot G mon flow labels-small mon-small (e .label) (mon q′ (calls (meth G g′) (e .label))) r s in
+      let hq = mon-small q′ _ (trail-now G mon mon-small m g′ q′ t) in
+      let z = spot (e .label) (mon q′ (calls (meth G g′) (e .label))) r s in
       let k = spots-complete G mon flow labels-small mon-small (e .label) _ r s (labels-small e (y .edge)) hq j in
-      let c = any-i (callee G mon e q′ (out G mon flow labels-small mon-small e r s)) (spots G mon) z k
-      (callee-i G mon flow labels-small mon-small e q′ (out G mon flow labels-small mon-small e r s) z refl (into-is G mon flow labels-small mon-small m g′ q′ e y) b refl) in
-      trail-path g′ q′ t _ (by (here x) (passed-rec G mon x e (out G mon flow labels-small mon-small e r s)) rs
-      (leaves-i x _ (goes-by e _ y h (trail-now G mon flow labels-small mon-small m g q (passes g′ q′ e r s t y h j b)) c)) p)
+      let c = any-i (callee G mon e q′ (out G mon e r s)) (spots G mon) z k
+      (callee-i G mon e q′ (out G mon e r s) z refl (into-is G mon g′ q′ e y) b refl) in
+      trail-path g′ q′ t _ (by (here x) (passed-rec G mon x e (out G mon e r s)) rs
+      (leaves-i x _ (goes-by e _ y h (trail-now G mon mon-small m g q (passes g′ q′ e r s t y h j b)) c)) p)
 
   pub path-iff-bad : ((rs : List Rec) × Path before rs) ↔ Bad G mon m
   path-iff-bad = (
@@ -174,9 +176,9 @@ module _ (G : Graph) (mon : Monitor) (flow : Flow G) (labels-small : (e : Edge) 
   points = before ∷ map here (all-places G mon)
 
   leaves-in : (x : Place) (r : Rec) → x .now < 8 → Leaves x r → List·Memᴰ (end r) (map here (all-places G mon))
-  leaves-in x r h (steps-on e y z) = Memᴰ·map here (places-i G mon flow labels-small mon-small (e .to) (x .now) (flow .to-node e (y .edge)) h)
-  leaves-in x r h (goes-in e n y l d) = Memᴰ·map here (places-i G mon flow labels-small mon-small n _ (d .is-node) (mon-small (x .now) _ h))
-  leaves-in x r h (goes-by e q y l hq t) = Memᴰ·map here (places-i G mon flow labels-small mon-small (e .to) q (flow .to-node e (y .edge)) hq)
+  leaves-in x r h (steps-on e y z) = Memᴰ·map here (places-i G mon (e .to) (x .now) (flow .to-node e (y .edge)) h)
+  leaves-in x r h (goes-in e n y l d) = Memᴰ·map here (places-i G mon n _ (d .is-node) (mon-small (x .now) _ h))
+  leaves-in x r h (goes-by e q y l hq t) = Memᴰ·map here (places-i G mon (e .to) q (flow .to-node e (y .edge)) hq)
 
   abbrev now-of : Where → ℕ
   now-of before = 0
@@ -200,7 +202,7 @@ module _ (G : Graph) (mon : Monitor) (flow : Flow G) (labels-small : (e : Edge) 
   stays-in : (w : Where) → List·Memᴰ w points → (r : Rec) → List·Memᴰ r (leaving G mon m w) → List·Memᴰ (end r) points
   stays-in before k r n =
       let a = start-e r n in
-      List·Memᴰ·tail (subst (λ (r : Rec). List·Memᴰ (end r) (map here (all-places G mon))) (a .2) (Memᴰ·map here (places-i G mon flow labels-small mon-small (a .0) 0 (a .1 .is-node) (lit< tt))))
+      List·Memᴰ·tail (subst (λ (r : Rec). List·Memᴰ (end r) (map here (all-places G mon))) (a .2) (Memᴰ·map here (places-i G mon (a .0) 0 (a .1 .is-node) (lit< tt))))
   stays-in (here x) k r n = List·Memᴰ·tail (leaves-in x r (points-now (here x) k) (leaves-e x r n))
 
   -- the bytes of a record tell where it ends

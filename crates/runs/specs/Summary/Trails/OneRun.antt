@@ -12,7 +12,8 @@ use Rattle.runs.specs.Runs.{Config, plain, meth, EntryOf, Runs, Step, in
 use Rattle.runs.specs.Summary.Trails.Behind.{TrailShows, Part, internal-step, call-step, whole-call, Chain, no-more, and-then, Valid, ends, goes, Stands, OneRun}
 use Rattle.runs.specs.Summary.{Inside, Place, spots}
 use Rattle.runs.specs.Summary.Balanced.{inside-above}
-use Rattle.runs.specs.Summary.Table.{Moves, by-step, by-call, passes-e, into-is, spots-sound}
+use Rattle.runs.specs.Summary.Moves.{Moves, by-step, by-call, passes-e, into-is}
+use Rattle.runs.specs.Summary.Spots.{spots-sound}
 use Rattle.runs.specs.Summary.Trails.{Rec, trail-rec-bytes, Where, before, here, end, is-bad, started, leaving, trail}
 use Rattle.runs.specs.Summary.Trails.Laws.{Leaves, steps-on, goes-in, goes-by, leaves-e, start-e, trail-to, path-iff-bad, trail-fewest, trail-first}
 use lib.ListN.{length}
@@ -36,10 +37,10 @@ module _ (G : Graph) (mon : Monitor) (flow : Flow G) (labels-small : (e : Edge) 
     (mon-small : (q : ℕ) (v : Event) → q < 8 → mon q v < 8) (m : ℕ) where
   -- a call passed over
   over-part : (c : Config) (e : Edge) (q : ℕ) (r : Rec) → Runs G (c .at) e → 0 < e .label → r .at ≡ c .at → r .state ≡ c .state → r .step ≡ 3 → r .label ≡ e .label → r .to ≡ e .to → r .now ≡ q
-      → Moves G mon flow labels-small mon-small e (c .state) q → Part G mon r c (cfg (e .to) (c .stack) q)
+      → Moves G mon e (c .state) q → Part G mon r c (cfg (e .to) (c .stack) q)
   over-part c e q r y h a b i l o w (by-step z) = absurd (omega arith)
   over-part c e q r y h a b i l o w (by-call g s z j k) =
-      let f = into-is G mon flow labels-small mon-small m (c .at) (c .state) e y in
+      let f = into-is G mon (c .at) (c .state) e y in
       let x = inside-above G mon (e .label) _ g s (subst (λ (p : ℕ). Inside G mon (e .label) p g s) (sym f) j) in
       whole-call (e .to) (cfg (x .0) (e .to ∷ c .stack) (mon (c .state) (calls (meth G (c .at)) (e .label)))) (cfg g (e .to ∷ c .stack) s) i
       (record { at-is = sym a; state-is = sym b; to-is = sym o; now-is = sym w }) (call e (x .0) y h (x .1)) refl
@@ -54,7 +55,7 @@ module _ (G : Graph) (mon : Monitor) (flow : Flow G) (labels-small : (e : Edge) 
     refl,
   )
   leaves-part c r (goes-in e n y h d) =
-      let f = into-is G mon flow labels-small mon-small m (c .at) (c .state) e y in (
+      let f = into-is G mon (c .at) (c .state) e y in (
         cfg n (e .to ∷ c .stack) (mon (c .state) (calls (meth G (c .at)) (e .label))),
         call-step (e .to) refl (record { at-is = refl; state-is = refl; to-is = refl; now-is = f }) (call e n y h d) refl d,
         refl,
@@ -63,7 +64,7 @@ module _ (G : Graph) (mon : Monitor) (flow : Flow G) (labels-small : (e : Edge) 
   leaves-part c r (goes-by e q y h l t) = (
     cfg (e .to) (c .stack) q,
     over-part c e q _ y h refl refl refl refl refl refl
-        (passes-e G mon flow labels-small mon-small (spots G mon) (spots-sound G mon flow labels-small mon-small) e (c .state) q h t),
+        (passes-e G mon (spots G mon) (spots-sound G mon) e (c .state) q h t),
     refl,
     refl,
   )
