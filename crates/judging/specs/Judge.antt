@@ -15,6 +15,7 @@ use Rattle.judging.specs.declared.answers.Judged.{Judged}
 use Rattle.judging.specs.declared.answers.Judged.the-variants.{Holds, Fails, Refused}
 use Rattle.judging.specs.Levels.{Satisfies, satisfies}
 use Rattle.judging.specs.Levels.Sheet.{sheet, sheet-bytes}
+use Rattle.judging.specs.Levels.Sheet.Meaning.{SheetShows}
 pub mod Laws
 pub mod Examples
 
@@ -49,7 +50,7 @@ module _ (L : Limits) (g p : List ℕ) (out work : ℕ) where
   judged = answered judge-checks judge-verdict
 
 -- What a verdict of judging says: of a flow graph and a property, 1 exactly where the property is satisfied, and then nothing is written;
--- 2 exactly where it is not, with the fault sheet (Levels.Sheet.Laws says what that is).
+-- 2 exactly where it is not, with the bytes of the fault sheet and the number of its records, and the sheet shows why.
 pub record Judges (G : Graph) (P : List Row) (s : Said) : Type 0 where
   pub is-flow : Flow G
   pub is-property : Property P
@@ -57,3 +58,4 @@ pub record Judges (G : Graph) (P : List Row) (s : Said) : Type 0 where
   pub fails-iff : (s .verdict ≡ 2) ↔ (Satisfies G P → ⊥)
   pub holds-writes : s .verdict ≡ 1 → (s .values ≡ []) × (s .written ≡ [])
   pub fails-writes : s .verdict ≡ 2 → (s .values ≡ length (sheet G P) ∷ []) × (s .written ≡ sheet-bytes G P)
+  pub fails-shows : s .verdict ≡ 2 → SheetShows G P (sheet G P)

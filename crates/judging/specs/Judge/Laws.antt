@@ -1,7 +1,7 @@
 -- Judging is refused by the first line of its published order that applies, and otherwise says what `Judges` says.
-use mathlib.Core.Path.{_≡_, ap, ap₂, _∙_, refl}
+use mathlib.Core.Path.{_≡_, ap, ap₂, _∙_, refl, subst, sym}
 use mathlib.Core.Logic.{_↔_}
-use mathlib.Core.Bool.{Bool, true, false, cond}
+use mathlib.Core.Bool.{Bool, true, false, cond, not}
 use mathlib.Core.List.{List, [], _∷_}
 use mathlib.Core.Option.{none}
 use Prim.Native.Nat.{ℕ, _≤_, _<_}
@@ -23,6 +23,7 @@ use Rattle.judging.specs.Levels.{Satisfies, satisfies}
 use Rattle.judging.specs.Levels.Laws.{satisfies-agrees}
 use Rattle.judging.specs.Levels.Sheet.{sheet, sheet-bytes}
 use Rattle.files.specs.Outcome.{published}
+use Rattle.judging.specs.Levels.Sheet.Laws.{sheet-shows}
 
 module _ (L : Limits) (g p : List ℕ) (out work : ℕ) where
   judge-match : Matches (judge-checks L g p out work) (judge-lines L g p out work)
@@ -56,12 +57,12 @@ module _ (L : Limits) (g p : List ℕ) (out work : ℕ) where
 
 judge-cases : (G : Graph) (P : List Row) (s : Said) → Flow G → Property P → s ≡ judge-said G P → Judges G P s
 unfolding judge-said
-judge-cases G P s flow wf e = go (satisfies G P) (satisfies-agrees G P flow wf) e
+judge-cases G P s flow wf e = go (satisfies G P) refl (satisfies-agrees G P flow wf) e
   where
-    go : (b : Bool) → T b ↔ Satisfies G P
+    go : (b : Bool) → satisfies G P ≡ b → T b ↔ Satisfies G P
         → s ≡ cond b (record { verdict = 1; values = []; written = [] }) (record { verdict = 2; values = length (sheet G P) ∷ []; written = sheet-bytes G P })
         → Judges G P s
-    go true i q =
+    go true c i q =
         let v : s .verdict ≡ 1 = ap (λ (x : Said). x .verdict) q in
         record {
           is-flow = flow;
@@ -70,8 +71,9 @@ judge-cases G P s flow wf e = go (satisfies G P) (satisfies-agrees G P flow wf) 
           fails-iff = (λ x. absurd (omega arith), λ f. absurd (f (i .0 tt)));
           holds-writes = λ x. (ap (λ (x : Said). x .values) q, ap (λ (x : Said). x .written) q);
           fails-writes = λ x. absurd (omega arith);
+          fails-shows = λ x. absurd (omega arith);
         }
-    go false i q =
+    go false c i q =
         let v : s .verdict ≡ 2 = ap (λ (x : Said). x .verdict) q in
         record {
           is-flow = flow;
@@ -80,6 +82,7 @@ judge-cases G P s flow wf e = go (satisfies G P) (satisfies-agrees G P flow wf) 
           fails-iff = (λ x f. i .1 f, λ f. v);
           holds-writes = λ x. absurd (omega arith);
           fails-writes = λ x. (ap (λ (x : Said). x .values) q, ap (λ (x : Said). x .written) q);
+          fails-shows = λ x. sheet-shows G P flow wf (subst (λ (b : Bool). T (not b)) (sym c) tt);
         }
 
 -- whatever the bytes and lengths, a verdict of judging says what `Judges` says

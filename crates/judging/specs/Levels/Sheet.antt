@@ -11,6 +11,7 @@ use Rattle.files.specs.Basics.Queue.{breadth-first}
 use Rattle.files.specs.Graph.{Graph, Edge, size, node}
 use Rattle.files.specs.Property.{Row, always, never, returns, not-returns, in-method, not-in-method, both, either, box, row, obliged}
 use Rattle.judging.specs.Levels.{holds, satisfies, rank}
+pub mod Meaning
 pub mod Causes
 pub mod Laws
 pub mod Examples

@@ -20,6 +20,7 @@ use Rattle.judging.specs.Levels.{truth, after, level, holds, rank}
 use Rattle.judging.specs.Levels.Laws.{after-no, obliged-box, box-obliges}
 use Rattle.judging.specs.Levels.Ranks.{rank-le, rank-bound, false-if, low-false, rank-step}
 use Rattle.judging.specs.Levels.Sheet.{obliged-pair, targets, lower, ahead, foremost, box-causes, row-causes, causes}
+use Rattle.judging.specs.Levels.Sheet.Meaning.{rank-of, Ahead, Wrong, Reason, by-never, by-returns, by-not-returns, by-in-method, by-not-in-method, by-both, by-either, by-box}
 
 obliged-pair-e : (t : ℕ) (o : Option ℕ) (y : ℕ × ℕ) → List·Memᴰ y (obliged-pair t o) → (o ≡ some (y .1)) × (t ≡ y .0)
 obliged-pair-e t none y m = absurd (List·Memᴰ·not-nil m)
@@ -48,38 +49,31 @@ module _ (G : Graph) where
       (keep-i (λ (e : Edge). eqb (e .from) g) (G .edges) e m (eq-eqb _ _ p)) (obliged-pair-i (e .to) (obliged x (e .label)) b q)
 
 module _ (G : Graph) (P : List Row) where
-  abbrev pub rank-of : ℕ × ℕ → ℕ
-  rank-of x = rank G P (x .0) (x .1)
-
-  -- x has a lower rank than y, or the same, and is at no higher a node
-  abbrev pub Ahead : ℕ × ℕ → ℕ × ℕ → Type 0
-  Ahead x y = (rank-of x < rank-of y) ⊎ ((rank-of x ≡ rank-of y) × (x .0 ≤ y .0))
-
-  ahead-rank : (x y : ℕ × ℕ) → Ahead x y → rank-of x ≤ rank-of y
+  ahead-rank : (x y : ℕ × ℕ) → Ahead G P x y → rank-of G P x ≤ rank-of G P y
   ahead-rank x y (inl h) = omega arith
   ahead-rank x y (inr h) = omega (arith, h .0)
 
-  ahead-refl : (x : ℕ × ℕ) → Ahead x x
+  ahead-refl : (x : ℕ × ℕ) → Ahead G P x x
   ahead-refl x = inr (refl, le-refl (x .0))
 
-  ahead-trans : (x y z : ℕ × ℕ) → Ahead x y → Ahead y z → Ahead x z
+  ahead-trans : (x y z : ℕ × ℕ) → Ahead G P x y → Ahead G P y z → Ahead G P x z
   ahead-trans x y z (inl h) (inl k) = inl (omega arith)
   ahead-trans x y z (inl h) (inr k) = inl (omega (arith, k .0))
   ahead-trans x y z (inr h) (inl k) = inl (omega (arith, h .0))
   ahead-trans x y z (inr h) (inr k) = inr (h .0 ∙ k .0, omega (arith, h .1, k .1))
 
-  says-ahead : (x y : ℕ × ℕ) → Says (ahead G P x y) (Ahead x y)
+  says-ahead : (x y : ℕ × ℕ) → Says (ahead G P x y) (Ahead G P x y)
   unfolding ahead
   says-ahead x y = says-or (says-lt _ _) (says-and (says-eq _ _) (says-le _ _))
 
   -- of two pairs one is ahead
-  ahead-no : (x y : ℕ × ℕ) → T (not (ahead G P x y)) → Ahead y x
-  ahead-no x y t = go (decLt (rank-of y) (rank-of x)) (ℕ-discrete (rank-of x) (rank-of y)) (decLe (y .0) (x .0))
+  ahead-no : (x y : ℕ × ℕ) → T (not (ahead G P x y)) → Ahead G P y x
+  ahead-no x y t = go (decLt (rank-of G P y) (rank-of G P x)) (ℕ-discrete (rank-of G P x) (rank-of G P y)) (decLe (y .0) (x .0))
     where
-      no-way : Ahead x y → ⊥
+      no-way : Ahead G P x y → ⊥
       no-way a = T-not (ahead G P x y) t (says-ahead x y .hear a)
 
-      go : Dec (rank-of y < rank-of x) → Dec (rank-of x ≡ rank-of y) → Dec (y .0 ≤ x .0) → Ahead y x
+      go : Dec (rank-of G P y < rank-of G P x) → Dec (rank-of G P x ≡ rank-of G P y) → Dec (y .0 ≤ x .0) → Ahead G P y x
       go (yes h) d c = inl h
       go (no h) (no d) c = absurd (no-way (inl (omega arith)))
       go (no h) (yes d) (yes c) = inr (sym d, c)
@@ -100,23 +94,23 @@ module _ (G : Graph) (P : List Row) where
       go true f = up x (inl refl) (foremost G P x ys) (List·Memᴰ·cases-cons (f x))
       go false f = up y (inr refl) (foremost G P y ys) (List·Memᴰ·cases-cons (f y))
 
-  foremost-ahead : (x : ℕ × ℕ) (xs : List (ℕ × ℕ)) (z : ℕ × ℕ) → List·Memᴰ z (x ∷ xs) → Ahead (foremost G P x xs) z
+  foremost-ahead : (x : ℕ × ℕ) (xs : List (ℕ × ℕ)) (z : ℕ × ℕ) → List·Memᴰ z (x ∷ xs) → Ahead G P (foremost G P x xs) z
   unfolding foremost
-  foremost-ahead x [] z m = subst (λ (y : ℕ × ℕ). Ahead x y) (sym (List·Memᴰ·eq-of-singleton m)) (ahead-refl x)
+  foremost-ahead x [] z m = subst (λ (y : ℕ × ℕ). Ahead G P x y) (sym (List·Memᴰ·eq-of-singleton m)) (ahead-refl x)
   foremost-ahead x (y ∷ ys) z m = pick (ahead G P x y) refl (λ q w k. foremost-ahead q ys w k)
     where
-      at : (q : ℕ × ℕ) → Ahead q x → Ahead q y → ((w : ℕ × ℕ) → List·Memᴰ w (q ∷ ys) → Ahead (foremost G P q ys) w)
-          → (z ≡ x) ⊎ List·Memᴰ z (y ∷ ys) → Ahead (foremost G P q ys) z
+      at : (q : ℕ × ℕ) → Ahead G P q x → Ahead G P q y → ((w : ℕ × ℕ) → List·Memᴰ w (q ∷ ys) → Ahead G P (foremost G P q ys) w)
+          → (z ≡ x) ⊎ List·Memᴰ z (y ∷ ys) → Ahead G P (foremost G P q ys) z
       at q h k f (inl e) =
-          subst (λ (w : ℕ × ℕ). Ahead (foremost G P q ys) w) (sym e) (ahead-trans (foremost G P q ys) q x (f q (List·Memᴰ·head refl)) h)
+          subst (λ (w : ℕ × ℕ). Ahead G P (foremost G P q ys) w) (sym e) (ahead-trans (foremost G P q ys) q x (f q (List·Memᴰ·head refl)) h)
       at q h k f (inr n) = on (List·Memᴰ·cases-cons n)
         where
-          on : (z ≡ y) ⊎ List·Memᴰ z ys → Ahead (foremost G P q ys) z
+          on : (z ≡ y) ⊎ List·Memᴰ z ys → Ahead G P (foremost G P q ys) z
           on (inl e) =
-              subst (λ (w : ℕ × ℕ). Ahead (foremost G P q ys) w) (sym e) (ahead-trans (foremost G P q ys) q y (f q (List·Memᴰ·head refl)) k)
+              subst (λ (w : ℕ × ℕ). Ahead G P (foremost G P q ys) w) (sym e) (ahead-trans (foremost G P q ys) q y (f q (List·Memᴰ·head refl)) k)
           on (inr j) = f z (List·Memᴰ·tail j)
 
-      pick : (c : Bool) → ahead G P x y ≡ c → ((q w : ℕ × ℕ) → List·Memᴰ w (q ∷ ys) → Ahead (foremost G P q ys) w) → Ahead (foremost G P (cond c x y) ys) z
+      pick : (c : Bool) → ahead G P x y ≡ c → ((q w : ℕ × ℕ) → List·Memᴰ w (q ∷ ys) → Ahead G P (foremost G P q ys) w) → Ahead G P (foremost G P (cond c x y) ys) z
       pick true e f = at x (ahead-refl x) (says-ahead x y .say (subst T (sym e) tt)) (f x) (List·Memᴰ·cases-cons m)
       pick false e f = at y (ahead-no x y (subst (λ (c : Bool). T (not c)) (sym e) tt)) (ahead-refl y) (f y) (List·Memᴰ·cases-cons m)
 
@@ -129,29 +123,6 @@ module _ (G : Graph) (P : List Row) where
           → ((cond c a b ≡ a) × (rank G P g a ≤ rank G P g b)) ⊎ ((cond c a b ≡ b) × (rank G P g b < rank G P g a))
       go true e = inl (refl, leb→le _ _ (subst T (sym e) tt))
       go false e = inr (refl, nleb→lt _ _ (subst (λ (c : Bool). T (not c)) (sym e) tt))
-
-  -- ---- what a record says
-
-  -- row x .1 is false at node x .0
-  pub record Wrong (x : ℕ × ℕ) : Type 0 where
-    pub is-node : x .0 < size G
-    pub is-row : x .1 < length P
-    pub is-false : T (not (holds G P (x .0) (x .1)))
-
-  -- Why a row is false at node g, by its causes: a literal or "false" is false at the node; "and" has a false operand, of least rank, ties to a;
-  -- "or" has both operands, both false; a box has a target of an edge of its label at which its operand is false, of least rank, ties to the lowest node.
-  pub data Reason (g : ℕ) : Row → List (ℕ × ℕ) → Type 0 where
-    by-never : Reason g never []
-    by-returns : T (not ((node G g) .ret)) → Reason g returns []
-    by-not-returns : T ((node G g) .ret) → Reason g not-returns []
-    by-in-method : (a : ℕ) → T (not (eqb ((node G g) .method) a)) → Reason g (in-method a) []
-    by-not-in-method : (a : ℕ) → T (eqb ((node G g) .method) a) → Reason g (not-in-method a) []
-    by-both : (a b c : ℕ) → Wrong (g, c) → ((c ≡ a) × (rank G P g a ≤ rank G P g b)) ⊎ ((c ≡ b) × (rank G P g b < rank G P g a))
-        → Reason g (both a b) ((g, c) ∷ [])
-    by-either : (a b : ℕ) → Wrong (g, a) → Wrong (g, b) → Reason g (either a b) ((g, a) ∷ (g, b) ∷ [])
-    by-box : (l b : ℕ) (e : Edge) → List·Memᴰ e (G .edges) → e .from ≡ g → e .label ≡ l → Wrong (e .to, b)
-        → ((d : Edge) → List·Memᴰ d (G .edges) → d .from ≡ g → d .label ≡ l → Ahead (e .to, b) (d .to, b))
-        → Reason g (box l b) ((e .to, b) ∷ [])
 
 module _ (G : Graph) (P : List Row) (flow : Flow G) (wf : Property P) where
   -- false, and of rank at most k

@@ -3,7 +3,7 @@
 use mathlib.Core.Path.{_≡_, refl, sym, ap, ap₂, subst, _∙_}
 use mathlib.Core.Logic.{_⊎_, inl, inr}
 use mathlib.Core.Bool.{Bool, true, false, not, cond, _&&_}
-use mathlib.Core.List.{List, [], _∷_, map, List·Memᴰ, List·Memᴰ·head, Memᴰ·of-map}
+use mathlib.Core.List.{List, [], _∷_, map, List·Memᴰ, List·Memᴰ·head, Memᴰ·map, Memᴰ·of-map}
 use Prim.Native.Nat.{ℕ, _*_, _<_}
 use lib.Dec.{T, eqb, eqb→eq, eqb-refl, T-not}
 use lib.ListN.{length, getD}
@@ -17,7 +17,8 @@ use Rattle.files.specs.Property.{Row, Property}
 use Rattle.judging.specs.Levels.{holds, satisfies}
 use Rattle.judging.specs.Levels.Laws.{satisfies-iff}
 use Rattle.judging.specs.Levels.Sheet.{same-pair, Fault, no-cause, causes, failing, pairs, fault, sheet}
-use Rattle.judging.specs.Levels.Sheet.Causes.{Wrong, cause-false}
+use Rattle.judging.specs.Levels.Sheet.Causes.{cause-false, reason, cause-lower}
+use Rattle.judging.specs.Levels.Sheet.Meaning.{Wrong, Caused, Lists, SheetShows}
 
 pub same-pair-e : (x y : ℕ × ℕ) → T (same-pair x y) → x ≡ y
 same-pair-e x y t =
@@ -77,9 +78,6 @@ module _ (G : Graph) (P : List Row) (flow : Flow G) (wf : Property P) where
 
   -- ---- the pairs listed
 
-  abbrev pub Reached : ℕ × ℕ → Type 0
-  Reached x = From same-pair (causes G P) (failing G P, 0) x
-
   from-wrong : (s x : ℕ × ℕ) → Wrong G P s → From same-pair (causes G P) s x → Wrong G P x
   from-wrong s x w itself = w
   from-wrong s x w (onward y z f m) = cause-false G P flow wf y z (from-wrong s y w f) m
@@ -102,19 +100,8 @@ module _ (G : Graph) (P : List Row) (flow : Flow G) (wf : Property P) where
       go true t = absurd t
       go false t = refl
 
-  -- What the sheet lists: it starts at the lowest failing entry and row 0; every pair is false; it is reached from the first by causes, and every pair so reached is listed;
-  -- every cause of a pair listed is listed; no pair twice.
-  pub record Lists (xs : List (ℕ × ℕ)) : Type 0 where
-    pub rest : List (ℕ × ℕ)
-    pub starts : xs ≡ (failing G P, 0) ∷ rest
-    pub all-false : (x : ℕ × ℕ) → List·Memᴰ x xs → Wrong G P x
-    pub reached : (x : ℕ × ℕ) → List·Memᴰ x xs → Reached x
-    pub complete : (x : ℕ × ℕ) → Reached x → List·Memᴰ x xs
-    pub causes-listed : (x y : ℕ × ℕ) → List·Memᴰ x xs → List·Memᴰ y (causes G P x) → List·Memᴰ y xs
-    pub once : Once xs
-
   module _ (bad : T (not (satisfies G P))) where
-    met-in : (x : ℕ × ℕ) → Reached x → List·Memᴰ x (grid (size G) (length P))
+    met-in : (x : ℕ × ℕ) → Caused G P x → List·Memᴰ x (grid (size G) (length P))
     met-in x f =
         let w = from-wrong (failing G P, 0) x (failing-wrong bad) f in grid-i (size G) (length P) (x .0) (x .1) (w .is-node) (w .is-row)
 
@@ -122,11 +109,11 @@ module _ (G : Graph) (P : List Row) (flow : Flow G) (wf : Property P) where
     walked : breadth-first same-pair (causes G P) (length (grid (size G) (length P))) (failing G P, 0) ≡ pairs G P
     walked = ap (λ (n : ℕ). breadth-first same-pair (causes G P) n (failing G P, 0)) (length-grid (size G) (length P)) ∙ pairs-some bad
 
-    pub pairs-are : Lists (pairs G P)
+    pub pairs-are : Lists G P (pairs G P)
     pairs-are =
         let l = listed same-pair same-pair-e same-pair-refl (causes G P) (failing G P, 0) (grid (size G) (length P)) met-in in
         let a = starts-with same-pair (causes G P) (length (grid (size G) (length P))) (failing G P, 0) in
-        subst Lists walked (record {
+        subst (Lists G P) walked (record {
           rest = a .0;
           starts = a .1;
           all-false = λ x m. from-wrong (failing G P, 0) x (failing-wrong bad) (l .all-met x m);
@@ -137,7 +124,7 @@ module _ (G : Graph) (P : List Row) (flow : Flow G) (wf : Property P) where
         })
       where
         full : (xs : List (ℕ × ℕ)) → List·Memᴰ (failing G P, 0) xs → ((x : ℕ × ℕ) → List·Memᴰ x xs → (y : ℕ × ℕ) → List·Memᴰ y (causes G P x) → List·Memᴰ y xs)
-            → (x : ℕ × ℕ) → Reached x → List·Memᴰ x xs
+            → (x : ℕ × ℕ) → Caused G P x → List·Memᴰ x xs
         full xs s f x itself = s
         full xs s f x (onward y z r m) = f y (full xs s f y r) z m
 
@@ -147,18 +134,34 @@ module _ (G : Graph) (P : List Row) (flow : Flow G) (wf : Property P) where
         subst (Ascends (Nearer (causes G P) (failing G P, 0))) walked
         (in-order same-pair same-pair-e same-pair-refl (causes G P) (failing G P, 0) (grid (size G) (length P)) met-in)
 
-  -- each record of the sheet is of a false pair that is listed, with its causes
-  pub sheet-records : (f : Fault) → List·Memᴰ f (sheet G P)
-      → (x : ℕ × ℕ) × List·Memᴰ x (pairs G P) × (f .pair ≡ x) × (f .first ≡ getD (causes G P x) 0 no-cause) × (f .second ≡ getD (causes G P x) 1 no-cause)
-  unfolding sheet fault
-  sheet-records f m =
-      let a = Memᴰ·of-map (fault G P) (pairs G P) m in
-      (a .0, a .1, sym (ap (λ (f : Fault). f .pair) (a .2)), sym (ap (λ (f : Fault). f .first) (a .2)), sym (ap (λ (f : Fault). f .second) (a .2)))
+  -- ---- the records
 
-  pub sheet-pairs : map (λ (f : Fault). f .pair) (sheet G P) ≡ pairs G P
+  sheet-pairs : map (λ (f : Fault). f .pair) (sheet G P) ≡ pairs G P
   unfolding sheet fault
   sheet-pairs = go (pairs G P)
     where
       go : (xs : List (ℕ × ℕ)) → map (λ (f : Fault). f .pair) (map (fault G P) xs) ≡ xs
       go [] = refl
       go (x ∷ xs) = ap (λ (ys : List (ℕ × ℕ)). x ∷ ys) (go xs)
+
+  sheet-causes : (f : Fault) → List·Memᴰ f (sheet G P) → (f .first ≡ getD (causes G P (f .pair)) 0 no-cause) × (f .second ≡ getD (causes G P (f .pair)) 1 no-cause)
+  unfolding sheet fault
+  sheet-causes f m =
+      let a = Memᴰ·of-map (fault G P) (pairs G P) m in
+      subst (λ (x : Fault). (x .first ≡ getD (causes G P (x .pair)) 0 no-cause) × (x .second ≡ getD (causes G P (x .pair)) 1 no-cause)) (a .2) (refl, refl)
+
+  -- where the property is not satisfied, the sheet shows why
+  pub sheet-shows : T (not (satisfies G P)) → SheetShows G P (sheet G P)
+  sheet-shows bad = record {
+    lists = subst (Lists G P) (sym sheet-pairs) (pairs-are bad);
+    first-entry = failing-entry bad;
+    first-lowest = failing-lowest;
+    breadth-first = subst (Ascends (Nearer (causes G P) (failing G P, 0))) (sym sheet-pairs) (pairs-breadth-first bad);
+    names-causes = sheet-causes;
+    justified = λ f m. reason G P flow wf (f .pair) (is-wrong bad f m);
+    lower-rank = λ f y m k. cause-lower G P flow wf (f .pair) y (is-wrong bad f m) k;
+  }
+    where
+      is-wrong : T (not (satisfies G P)) → (f : Fault) → List·Memᴰ f (sheet G P) → Wrong G P (f .pair)
+      is-wrong bad f m =
+          (pairs-are bad) .all-false (f .pair) (subst (λ (xs : List (ℕ × ℕ)). List·Memᴰ (f .pair) xs) sheet-pairs (Memᴰ·map (λ (f : Fault). f .pair) m))
