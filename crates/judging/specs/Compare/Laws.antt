@@ -12,16 +12,18 @@ use Rattle.files.specs.Basics.Says.{says-lt}
 use Rattle.files.specs.Decode.{decode-graph}
 use Rattle.files.specs.Decode.Graphs.{decoded-flow}
 use Rattle.files.specs.Graph.{Graph, Flow, node, size}
-use Rattle.files.specs.Outcome.{Said, refuses, says, refusal-at, NoneOf, FirstOf, Matches}
+use Rattle.files.specs.Outcome.{Said, refuses, says, refusal-at, NoneOf, FirstOf, Matches, answer}
 use Rattle.files.specs.Outcome.Laws.{whole-match, files-match, out-match, refused-by, accepted-by, verdict-is, file-accepted, whole-none, whole-none-i, file-none, none-end}
 use Rattle.files.specs.Refusal.{graph, refusal}
 use Rattle.files.specs.declared.record.Limits.{Limits}
-use Rattle.judging.specs.Compare.{compare-room, compare-said, compare-verdict, compare-checks, compare-lines, compared, Compares}
+use Rattle.judging.specs.Compare.{compare-room, compare-said, compare-verdict, compare-checks, compare-lines, compared, Compares, compared-answer}
 use Rattle.judging.specs.Simulation.{Simulation, Simulates, covered, simulates, uncovered, relation-bytes, related}
 use Rattle.judging.specs.Simulation.Laws.{verdict, largest, covered-i, uncovered-is, uncovered-lowest, simulates-covers, related-simulation, relation-bit}
 use Rattle.files.specs.Outcome.{published}
 use Rattle.files.specs.Basics.Tests.{one}
 use Rattle.files.specs.Basics.Binary.{bit}
+use Rattle.files.specs.declared.refusal.Refusal.{Refusal}
+use Rattle.judging.specs.declared.answers.Compared.the-variants.{Yes, No, Refused}
 
 module _ (L : Limits) (g h : List ℕ) (out work : ℕ) where
   compare-match : Matches (compare-checks L g h out work) (compare-lines L g h out work)
@@ -130,3 +132,10 @@ yes-said G H e = ap (λ (b : Bool). cond b (record { verdict = 1; values = []; w
 pub no-said : (G H : Graph) → simulates G H ≡ false → compare-said G H ≡ record { verdict = 2; values = uncovered G H ∷ []; written = relation-bytes G H }
 unfolding compare-said
 no-said G H e = ap (λ (b : Bool). cond b (record { verdict = 1; values = []; written = relation-bytes G H }) (record { verdict = 2; values = uncovered G H ∷ []; written = relation-bytes G H })) e
+
+-- ---- the answer enum
+
+-- each case answers what its outcome says
+pub compare-answers : (g : ℕ) (ws : List ℕ) (r : Refusal) → (compared-answer Yes ≡ answer (says (record { verdict = 1; values = []; written = ws })))
+    × (compared-answer (No g) ≡ answer (says (record { verdict = 2; values = g ∷ []; written = ws }))) × (compared-answer (Refused r) ≡ answer (refuses r))
+compare-answers g ws r = (refl, refl, refl)

@@ -13,17 +13,19 @@ use Rattle.files.specs.Decode.{decode-graph, decode-property}
 use Rattle.files.specs.Decode.Graphs.{decoded-flow}
 use Rattle.files.specs.Decode.Properties.{decoded-property}
 use Rattle.files.specs.Graph.{Graph, Flow}
-use Rattle.files.specs.Outcome.{Said, refuses, says, refusal-at, NoneOf, FirstOf, Matches}
+use Rattle.files.specs.Outcome.{Said, refuses, says, refusal-at, NoneOf, FirstOf, Matches, answer}
 use Rattle.files.specs.Outcome.Laws.{whole-match, files-match, out-match, refused-by, accepted-by, verdict-is, file-accepted, whole-none, whole-none-i, file-none, none-end}
 use Rattle.files.specs.Property.{Row, Property}
 use Rattle.files.specs.Refusal.{graph, property, refusal}
 use Rattle.files.specs.declared.record.Limits.{Limits}
-use Rattle.judging.specs.Judge.{judge-room, judge-said, judge-verdict, judge-checks, judge-lines, judged, Judges}
+use Rattle.judging.specs.Judge.{judge-room, judge-said, judge-verdict, judge-checks, judge-lines, judged, Judges, judged-answer}
 use Rattle.judging.specs.Levels.{Satisfies, satisfies}
 use Rattle.judging.specs.Levels.Laws.{satisfies-agrees}
 use Rattle.judging.specs.Levels.Sheet.{sheet, sheet-bytes}
 use Rattle.files.specs.Outcome.{published}
 use Rattle.judging.specs.Levels.Sheet.Laws.{sheet-shows}
+use Rattle.files.specs.declared.refusal.Refusal.{Refusal}
+use Rattle.judging.specs.declared.answers.Judged.the-variants.{Holds, Fails, Refused}
 
 module _ (L : Limits) (g p : List ℕ) (out work : ℕ) where
   judge-match : Matches (judge-checks L g p out work) (judge-lines L g p out work)
@@ -111,3 +113,10 @@ holds-said G P e = ap (λ (b : Bool). cond b (record { verdict = 1; values = [];
 pub fails-said : (G : Graph) (P : List Row) → satisfies G P ≡ false → judge-said G P ≡ record { verdict = 2; values = length (sheet G P) ∷ []; written = sheet-bytes G P }
 unfolding judge-said
 fails-said G P e = ap (λ (b : Bool). cond b (record { verdict = 1; values = []; written = [] }) (record { verdict = 2; values = length (sheet G P) ∷ []; written = sheet-bytes G P })) e
+
+-- ---- the answer enum
+
+-- each case answers what its outcome says
+pub judge-answers : (n : ℕ) (ws : List ℕ) (r : Refusal) → (judged-answer Holds ≡ answer (says (record { verdict = 1; values = []; written = [] })))
+    × (judged-answer (Fails n) ≡ answer (says (record { verdict = 2; values = n ∷ []; written = ws }))) × (judged-answer (Refused r) ≡ answer (refuses r))
+judge-answers n ws r = (refl, refl, refl)

@@ -13,7 +13,7 @@ use Rattle.files.specs.Decode.Properties.{decoded-property}
 use Rattle.files.specs.Decode.Written.{decode-bytes}
 use Rattle.files.specs.Graph.{Graph, Flow, size}
 use Rattle.files.specs.Interface.{Interface, Of}
-use Rattle.files.specs.Outcome.{Said, refuses, says, refusal-at, NoneOf, FirstOf, Matches, TooLarge, graph-said}
+use Rattle.files.specs.Outcome.{Said, refuses, says, refusal-at, NoneOf, FirstOf, Matches, TooLarge, graph-said, answer}
 use Rattle.files.specs.Outcome.Laws.{whole-match, files-match, out-match, refused-by, accepted-by, verdict-is, file-accepted, whole-none, says-too-large, small-enough, whole-none-i, file-none, none-end}
 use Rattle.files.specs.Property.{Row, Property}
 use Rattle.files.specs.Refusal.{graph, property, interface, refusal}
@@ -25,9 +25,11 @@ use Rattle.maximal.specs.Model.{model, state-at}
 use Rattle.maximal.specs.Model.Computed.{is-model}
 use Rattle.maximal.specs.Model.Filed.{model-is-of, model-filed}
 use Rattle.maximal.specs.Model.Maximal.{maximal}
-use Rattle.maximal.specs.Modelling.{model-room, model-graph, model-checks, model-lines, modelled, Models}
+use Rattle.maximal.specs.Modelling.{model-room, model-graph, model-checks, model-lines, modelled, Models, modelled-answer}
 use Rattle.files.specs.Outcome.{published}
 use mathlib.Core.Bool.{true}
+use Rattle.files.specs.declared.refusal.Refusal.{Refusal}
+use Rattle.maximal.specs.declared.answers.Modelled.the-variants.{Written, Refused}
 
 module _ (L : Limits) (i p : List ℕ) (out work : ℕ) where
   abbrev said : Said
@@ -107,3 +109,9 @@ model-on L i p out work I P G a b c d e small o w =
   where
     same : model (decode-interface i) (decode-property p) ≡ G
     same = ap₂ model c d ∙ e
+
+-- ---- the answer enum
+
+-- each case answers what its outcome says
+pub model-answers : (G : Graph) (r : Refusal) → (modelled-answer (Written (size G) (length (G .edges))) ≡ answer (says (graph-said G []))) × (modelled-answer (Refused r) ≡ answer (refuses r))
+model-answers G r = (refl, refl)

@@ -1,23 +1,27 @@
 -- Joining is refused by the first line of its published order that applies, and otherwise says what `Joins` says.
 use mathlib.Core.Path.{_≡_, sym, ap, subst, _∙_, refl}
 use mathlib.Core.Logic.{_↔_}
-use mathlib.Core.List.{List}
+use mathlib.Core.List.{List, [], _∷_}
 use Prim.Native.Nat.{ℕ}
 use Rattle.files.specs.Decode.{decode-graph, decode-interface, graph-bytes}
 use Rattle.files.specs.Decode.Accepted.{accepted-bytes}
 use Rattle.files.specs.Decode.Graphs.{decoded-filed}
 use Rattle.files.specs.Decode.Written.{decode-bytes}
 use Rattle.files.specs.Interface.{Of}
-use Rattle.files.specs.Outcome.{Said, refuses, says, refusal-at, NoneOf, FirstOf, Matches}
+use Rattle.files.specs.Outcome.{Said, refuses, says, refusal-at, NoneOf, FirstOf, Matches, answer, graph-said}
 use Rattle.files.specs.Outcome.Laws.{whole-match, scan-match, files-match, out-match, refused-by, accepted-by, verdict-is, file-accepted, whole-none, none-e, says-too-large, small-enough}
 use Rattle.files.specs.Refusal.{graph, interface, refusal}
 use Rattle.files.specs.Sides.{ForeignAt}
 use Rattle.files.specs.Sides.Laws.{foreign-finds, says-shares, none-foreign}
 use Rattle.files.specs.declared.record.Limits.{Limits}
 use Rattle.runs.specs.Join.Laws.{join-filed, join-of}
-use Rattle.runs.specs.Joining.{join-graph, join-sides, join-said, join-checks, join-lines, joined, Joins}
+use Rattle.runs.specs.Joining.{join-graph, join-sides, join-said, join-checks, join-lines, joined, Joins, joined-answer}
 use Rattle.files.specs.Outcome.{published}
 use mathlib.Core.Bool.{true}
+use Rattle.files.specs.declared.refusal.Refusal.{Refusal}
+use Rattle.runs.specs.declared.answers.Joined.the-variants.{Written, Refused}
+use Rattle.files.specs.Graph.{size, Graph}
+use lib.ListN.{length}
 
 module _ (L : Limits) (i1 g1 i2 g2 : List ℕ) (out : ℕ) where
   abbrev said : Said
@@ -70,3 +74,10 @@ module _ (L : Limits) (i1 g1 i2 g2 : List ℕ) (out : ℕ) where
             (join-of (decode-graph g1) (decode-graph g2) (decode-interface i1) (decode-interface i2) (none-foreign L (decode-interface i1) g1 (b2 .0) (c1 .0))
             (none-foreign L (decode-interface i2) g2 (b4 .0) (c2 .0)));
       }
+
+-- ---- the answer enum
+
+-- each case answers what its outcome says
+pub join-answers : (G : Graph) (p q : ℕ) (r : Refusal)
+    → (joined-answer (Written (size G) (length (G .edges)) p q) ≡ answer (says (graph-said G (p ∷ q ∷ [])))) × (joined-answer (Refused r) ≡ answer (refuses r))
+join-answers G p q r = (refl, refl)

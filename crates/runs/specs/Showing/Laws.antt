@@ -11,16 +11,18 @@ use Rattle.files.specs.Basics.Says.{says-le}
 use Rattle.files.specs.Decode.{decode-graph, node-rec}
 use Rattle.files.specs.Decode.Canonical.{shown-node}
 use Rattle.files.specs.Graph.{size, node}
-use Rattle.files.specs.Outcome.{Said, refuses, says, refusal-at, NoneOf, FirstOf, Matches, no-lines}
+use Rattle.files.specs.Outcome.{Said, refuses, says, refusal-at, NoneOf, FirstOf, Matches, no-lines, answer}
 use Rattle.files.specs.Outcome.Laws.{whole-match, files-match, refused-by, accepted-by, verdict-is, file-accepted, whole-none, match-end}
 use Rattle.files.specs.Record.{part, six}
 use Rattle.files.specs.Refusal.{graph, refusal}
 use Rattle.files.specs.declared.record.Limits.{Limits}
 use Rattle.runs.specs.Join.{join}
 use Rattle.runs.specs.Join.Laws.{join-first, join-second, join-size}
-use Rattle.runs.specs.Showing.{show-size, show-said, show-checks, show-lines, shown, Shows}
+use Rattle.runs.specs.Showing.{show-size, show-said, show-checks, show-lines, shown, Shows, shown-answer}
 use Rattle.files.specs.Basics.Tests.{below}
 use Rattle.files.specs.Outcome.{published}
+use Rattle.files.specs.declared.refusal.Refusal.{Refusal}
+use Rattle.runs.specs.declared.answers.Shown.the-variants.{Part, Refused}
 
 module _ (L : Limits) (g1 g2 : List ℕ) (number : ℕ) where
   abbrev said : Said
@@ -68,3 +70,9 @@ module _ (L : Limits) (g1 g2 : List ℕ) (number : ℕ) where
           let j = number - size (decode-graph g1) in
           let i : size (decode-graph g1) + j ≡ number = omega arith in
           shown-node L g2 y j (omega arith) ∙ ap (λ v. six (node-rec v)) (sym (join-second (decode-graph g1) (decode-graph g2) j) ∙ ap (node (join (decode-graph g1) (decode-graph g2))) i)
+
+-- ---- the answer enum
+
+-- each case answers what its outcome says
+pub show-answers : (ws : List ℕ) (r : Refusal) → (shown-answer Part ≡ answer (says (record { verdict = 1; values = []; written = ws }))) × (shown-answer (Refused r) ≡ answer (refuses r))
+show-answers ws r = (refl, refl)
