@@ -1,3 +1,4 @@
-// Files of records: the record, its fields, the limits, and how a refusal names its place.
+// Files of records: the record, its fields, the limits, what a file is refused by, and how a refusal names its place.
+pub mod parse;
 pub mod record;
 pub mod refusal;

@@ -11,6 +11,7 @@ use Rattle.files.specs.Record.{record-at, count, part, wrong, parsed}
 use Rattle.files.specs.declared.record.Parsed.the-variants.{Node, Edge, Row, Rule, Interface, Wrong, Other}
 use Rattle.files.specs.declared.record.Parsed.{Parsed}
 use Rattle.files.specs.declared.record.Record.{Record}
+use borrow.Author.Tests.{ne-eqb}
 
 -- ---- a range of a file
 
@@ -74,3 +75,7 @@ parsed-rule r t e = parsed-right r 4 t e
 
 pub parsed-interface : (r : Record) → T (not (wrong r)) → r .kind ≡ 5 → parsed r ≡ Interface (r .first) (r .second)
 parsed-interface r t e = parsed-right r 5 t e
+
+pub parsed-other : (r : Record) → (r .kind ≡ 1 → ⊥) → (r .kind ≡ 2 → ⊥) → (r .kind ≡ 3 → ⊥) → (r .kind ≡ 4 → ⊥) → (r .kind ≡ 5 → ⊥) → parsed r ≡ Other
+unfolding parsed
+parsed-other r a b c d e = simp (ne-eqb (r .kind) 1 a, ne-eqb (r .kind) 2 b, ne-eqb (r .kind) 3 c, ne-eqb (r .kind) 4 d, ne-eqb (r .kind) 5 e)

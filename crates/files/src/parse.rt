@@ -1,0 +1,138 @@
+// Reading one record from a slice into the parsed-record enum. Raw byte reads are private to this file.
+ghost use mathlib.Core.Path.{_≡_};
+ghost use Prim.Native.Nat.{_+_, _*_, _≤_};
+ghost use lib.ListN.{length};
+ghost use Rattle.files.specs.Record.{record-at, kind-at, node-wrong, edge-wrong, row-wrong, rule-wrong, interface-wrong, wrong, parsed};
+use crate::record::Parsed;
+use crate::record::Record;
+
+// The six bytes of record i.
+fn read(records: &[u8], i: usize) -> Record
+    requires { ⌜ 6 * i + 6 ≤ length (now records) ⌝ }
+    ensures { λ r. ⌜ r ≡ record-at (now (records .entry)) i ⌝ }
+{
+    let p = 6 * i;
+    Record {
+        kind: records[p],
+        first: records[p + 1],
+        second: records[p + 2],
+        third: records[p + 3],
+        fourth: records[p + 4],
+        fifth: records[p + 5],
+    }
+}
+
+// The kind of record i, whatever its fields.
+pub fn kind_at(records: &[u8], i: usize) -> u8
+    requires { ⌜ 6 * i + 6 ≤ length (now records) ⌝ }
+    ensures { λ r. ⌜ r ≡ kind-at (now (records .entry)) i ⌝ }
+{
+    records[6 * i]
+}
+
+fn node_wrong(r: Record) -> bool
+    ensures { λ b. ⌜ b ≡ node-wrong r ⌝ }
+{
+    ((r.first < 1) | (8 < r.first))
+        | ((1 < r.second) | ((1 < r.third) | (!(r.fourth == 0) | !(r.fifth == 0))))
+}
+
+fn edge_wrong(r: Record) -> bool
+    ensures { λ b. ⌜ b ≡ edge-wrong r ⌝ }
+{
+    (8 < r.second) | (!(r.fourth == 0) | !(r.fifth == 0))
+}
+
+fn row_wrong(r: Record) -> bool
+    ensures { λ b. ⌜ b ≡ row-wrong r ⌝ }
+{
+    let x = r.first;
+    let none = (x == 1) | ((x == 2) | ((x == 5) | (x == 6)));
+    let method = (x == 3) | (x == 4);
+    let spare = !(r.fourth == 0) | !(r.fifth == 0);
+    let method_out = ((r.second < 1) | (8 < r.second)) | !(r.third == 0);
+    ((x < 1) | (9 < x))
+        | ((none & (!(r.second == 0) | !(r.third == 0)))
+            | ((method & method_out) | (((x == 9) & (8 < r.second)) | spare)))
+}
+
+fn rule_wrong(r: Record) -> bool
+    ensures { λ b. ⌜ b ≡ rule-wrong r ⌝ }
+{
+    let m1 = (r.third < 1) | (8 < r.third);
+    let m2 = (r.fourth < 1) | (8 < r.fourth);
+    (6 < r.first) | (((r.second < 1) | (2 < r.second)) | (m1 | (m2 | (7 < r.fifth))))
+}
+
+fn interface_wrong(r: Record) -> bool
+    ensures { λ b. ⌜ b ≡ interface-wrong r ⌝ }
+{
+    !(r.third == 0) | (!(r.fourth == 0) | !(r.fifth == 0))
+}
+
+// A field is out of range, or an unused byte is not 0, by the record's own kind.
+fn wrong(r: Record) -> bool
+    ensures { λ b. ⌜ b ≡ wrong r ⌝ }
+{
+    let k = r.kind;
+    ((k == 1) & node_wrong(r))
+        | (((k == 2) & edge_wrong(r))
+            | (((k == 3) & row_wrong(r))
+                | (((k == 4) & rule_wrong(r)) | ((k == 5) & interface_wrong(r)))))
+}
+
+// What a record reads as.
+fn reads(r: Record) -> Parsed
+    ensures { λ p. ⌜ p ≡ parsed r ⌝ }
+{
+    if wrong(r) {
+        return Parsed::Wrong;
+    }
+    let k = r.kind;
+    if k == 1 {
+        return Parsed::Node {
+            method: r.first,
+            returns: r.second == 1,
+            entry: r.third == 1,
+        };
+    }
+    if k == 2 {
+        return Parsed::Edge {
+            from: r.first as usize,
+            label: r.second,
+            to: r.third as usize,
+        };
+    }
+    if k == 3 {
+        return Parsed::Row {
+            operator: r.first,
+            a: r.second,
+            b: r.third,
+        };
+    }
+    if k == 4 {
+        return Parsed::Rule {
+            state: r.first,
+            event: r.second,
+            m1: r.third,
+            m2: r.fourth,
+            next: r.fifth,
+        };
+    }
+    if k == 5 {
+        return Parsed::Interface {
+            provided: r.first,
+            required: r.second,
+        };
+    }
+    Parsed::Other
+}
+
+// What record i reads as.
+pub fn parse(records: &[u8], i: usize) -> Parsed
+    requires { ⌜ 6 * i + 6 ≤ length (now records) ⌝ }
+    ensures { λ p. ⌜ p ≡ parsed (record-at (now (records .entry)) i) ⌝ }
+{
+    let r = read(records, i);
+    reads(r)
+}
