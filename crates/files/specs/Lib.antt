@@ -11,3 +11,5 @@ pub mod Table
 pub mod Decode
 pub mod Sides
 pub mod Outcome
+pub mod FileKind
+pub mod Checking

@@ -1,0 +1,185 @@
+-- Checking a file, number by number, on records as they read: the steps that the code takes. Laws says that they come to the file's refusal.
+use mathlib.Core.Bool.{Bool, true, false, not, cond, _&&_, _||_}
+use mathlib.Core.List.{List, [], _∷_}
+use mathlib.Core.Option.{Option, none, some}
+use Prim.Native.Nat.{ℕ, zero, suc, _+_, _-_, _%_}
+use lib.Dec.{leb, ltb, eqb}
+use lib.ListN.{length}
+use Rattle.files.specs.Basics.First.{first-where}
+use Rattle.files.specs.Basics.Lexical.{before}
+use Rattle.files.specs.Basics.Tables.{tally}
+use Rattle.files.specs.declared.record.Limits.{Limits}
+use Rattle.files.specs.declared.record.Parsed.{Parsed}
+use Rattle.files.specs.declared.record.Parsed.the-variants.{Node, Edge, Row, Rule, Interface, Wrong, Other}
+use Rattle.files.specs.declared.check.Checked.{Checked}
+use Rattle.files.specs.declared.check.Checked.the-variants.{Accepted, Refused}
+use Rattle.files.specs.Record.{record-at, count, takes-rows, parsed}
+use Rattle.files.specs.Refusal.{Kind, graph, property, rules, interface, of-kind, nodes-of, misplaced, missing, refusal}
+use Rattle.files.specs.Outcome.{refusal-at}
+pub mod Laws
+
+-- ---- what checking answers, by the file's refusal
+
+abbrev pub checked-by : List ℕ → ℕ → Option (ℕ × ℕ) → Checked
+checked-by l position none = Accepted (nodes-of l) (count l)
+checked-by l position (some x) = Refused (refusal-at (x .0) position (x .1))
+
+-- "its lowest number among 1..8", with the file's position
+pub checked : Limits → Kind → List ℕ → ℕ → Checked
+checked L k l position = checked-by l position (refusal L k l)
+
+-- ---- tests on records as they read
+
+abbrev pub parsed-at : List ℕ → ℕ → Parsed
+parsed-at l i = parsed (record-at l i)
+
+abbrev pub is-wrong : Parsed → Bool
+is-wrong (Node m r e) = false
+is-wrong (Edge f l t) = false
+is-wrong (Row o a b) = false
+is-wrong (Rule q v m n p) = false
+is-wrong (Interface p q) = false
+is-wrong Wrong = true
+is-wrong Other = false
+
+-- an edge that does not come after the edge (f, l, t)
+abbrev pub edge-out : ℕ → ℕ → ℕ → Parsed → Bool
+edge-out f l t (Node m r e) = false
+edge-out f l t (Edge g k u) = not (before (f ∷ l ∷ t ∷ []) (g ∷ k ∷ u ∷ []))
+edge-out f l t (Row o a b) = false
+edge-out f l t (Rule q v m n p) = false
+edge-out f l t (Interface p q) = false
+edge-out f l t Wrong = false
+edge-out f l t Other = false
+
+abbrev pub edges-out : Parsed → Parsed → Bool
+edges-out (Node m r e) y = false
+edges-out (Edge f l t) y = edge-out f l t y
+edges-out (Row o a b) y = false
+edges-out (Rule q v m n p) y = false
+edges-out (Interface p q) y = false
+edges-out Wrong y = false
+edges-out Other y = false
+
+-- a rule that does not come after the rule (q, v, m, n)
+abbrev pub rule-out : ℕ → ℕ → ℕ → ℕ → Parsed → Bool
+rule-out q v m n (Node k r e) = false
+rule-out q v m n (Edge f l t) = false
+rule-out q v m n (Row o a b) = false
+rule-out q v m n (Rule r w a b s) = not (before (q ∷ v ∷ m ∷ n ∷ []) (r ∷ w ∷ a ∷ b ∷ []))
+rule-out q v m n (Interface p r) = false
+rule-out q v m n Wrong = false
+rule-out q v m n Other = false
+
+abbrev pub rules-out : Parsed → Parsed → Bool
+rules-out (Node m r e) y = false
+rules-out (Edge f l t) y = false
+rules-out (Row o a b) y = false
+rules-out (Rule q v m n p) y = rule-out q v m n y
+rules-out (Interface p q) y = false
+rules-out Wrong y = false
+rules-out Other y = false
+
+-- 4: the record before is of the same kind and not before this one
+abbrev pub disordered-at : List ℕ → ℕ → Bool
+disordered-at l zero = false
+disordered-at l (suc i) = edges-out (parsed-at l i) (parsed-at l (suc i)) || rules-out (parsed-at l i) (parsed-at l (suc i))
+
+-- 7: an edge or a row names what is not below n
+abbrev pub past-of : ℕ → Parsed → Bool
+past-of n (Node m r e) = false
+past-of n (Edge f l t) = leb n f || leb n t
+past-of n (Row o a b) = (takes-rows o && (leb n a || leb n b)) || (eqb o 9 && leb n b)
+past-of n (Rule q v m k p) = false
+past-of n (Interface p q) = false
+past-of n Wrong = false
+past-of n Other = false
+
+abbrev pub method-of : Parsed → ℕ
+method-of (Node m r e) = m
+method-of (Edge f l t) = 0
+method-of (Row o a b) = 0
+method-of (Rule q v m n p) = 0
+method-of (Interface p q) = 0
+method-of Wrong = 0
+method-of Other = 0
+
+-- 8: an edge between two nodes below n whose methods differ
+abbrev pub crossing-of : List ℕ → ℕ → Parsed → Bool
+crossing-of l n (Node m r e) = false
+crossing-of l n (Edge f k t) = ltb f n && (ltb t n && not (eqb (method-of (parsed-at l t)) (method-of (parsed-at l f))))
+crossing-of l n (Row o a b) = false
+crossing-of l n (Rule q v m k p) = false
+crossing-of l n (Interface p q) = false
+crossing-of l n Wrong = false
+crossing-of l n Other = false
+
+abbrev pub is-or-of : Parsed → Bool
+is-or-of (Node m r e) = false
+is-or-of (Edge f l t) = false
+is-or-of (Row o a b) = eqb o 8
+is-or-of (Rule q v m n p) = false
+is-or-of (Interface p q) = false
+is-or-of Wrong = false
+is-or-of Other = false
+
+-- whether number n, of 2, 3, 4, 7 and 8, offends at record i; b bounds the numbers that records name
+pub offends : ℕ → Kind → List ℕ → ℕ → ℕ → Bool
+offends n k l b i =
+    cond (eqb n 2) (misplaced k l i) (cond (eqb n 3) (is-wrong (parsed-at l i)) (cond (eqb n 4) (disordered-at l i)
+    (cond (eqb n 7) (past-of b (parsed-at l i)) (crossing-of l b (parsed-at l i)))))
+
+-- ---- the steps
+
+abbrev pub first-or : Option ℕ → ℕ → ℕ
+first-or none n = n
+first-or (some i) n = i
+
+-- the first record at which number n offends, or the count of records
+pub first-offending : ℕ → Kind → List ℕ → ℕ → ℕ
+first-offending n k l b = first-or (first-where (offends n k l b) (count l)) (count l)
+
+-- refused by number n at its first record, which is record `first + i` of the file; or else what follows
+abbrev pub number-step : ℕ → Kind → List ℕ → ℕ → ℕ → ℕ → Checked → Checked
+number-step n k l b first position rest =
+    cond (ltb (first-offending n k l b) (count l)) (Refused (refusal-at n position (first + first-offending n k l b))) rest
+
+-- how many there are: what an edge may name is a node, what a row may name is a row
+abbrev pub bound-of : Kind → List ℕ → ℕ
+bound-of graph l = nodes-of l
+bound-of property l = count l
+bound-of rules l = count l
+bound-of interface l = count l
+
+abbrev pub ors-at : List ℕ → ℕ
+ors-at l = tally (λ i. is-or-of (parsed-at l i)) (count l)
+
+-- 5, where no kind is out of place: all records but the nodes are edges
+abbrev pub over : Limits → Kind → List ℕ → Bool
+over L graph l = ltb (L .nodes) (nodes-of l) || ltb (L .edges) (count l - nodes-of l)
+over L property l = ltb (L .rows) (count l) || ltb (L .ors) (ors-at l)
+over L rules l = false
+over L interface l = false
+
+pub from-eight : Kind → List ℕ → ℕ → ℕ → Checked
+from-eight k l first position = number-step 8 k l (bound-of k l) first position (Accepted (nodes-of l) (count l))
+
+pub from-seven : Kind → List ℕ → ℕ → ℕ → Checked
+from-seven k l first position = number-step 7 k l (bound-of k l) first position (from-eight k l first position)
+
+pub from-five : Limits → Kind → List ℕ → ℕ → ℕ → Checked
+from-five L k l first position =
+    cond (over L k l) (Refused (refusal-at 5 position 0)) (cond (missing k l) (Refused (refusal-at 6 position 0)) (from-seven k l first position))
+
+pub from-four : Limits → Kind → List ℕ → ℕ → ℕ → Checked
+from-four L k l first position = number-step 4 k l 0 first position (from-five L k l first position)
+
+pub from-three : Limits → Kind → List ℕ → ℕ → ℕ → Checked
+from-three L k l first position = number-step 3 k l 0 first position (from-four L k l first position)
+
+pub from-two : Limits → Kind → List ℕ → ℕ → ℕ → Checked
+from-two L k l first position = number-step 2 k l 0 first position (from-three L k l first position)
+
+-- the steps of a whole file
+pub from-one : Limits → Kind → List ℕ → ℕ → Checked
+from-one L k l position = cond (not (eqb (length l % 6) 0)) (Refused (refusal-at 1 position 0)) (from-two L k l 0 position)
