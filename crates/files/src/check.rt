@@ -8,9 +8,9 @@ ghost use Prim.Native.Nat.{_+_, _*_, _/_, _≤_, _<_};
 ghost use lib.ListN.{length};
 ghost use Rattle.files.specs.Basics.Lexical.{before};
 ghost use Rattle.files.specs.Record.{record-at, count, takes-rows};
-ghost use Rattle.files.specs.Refusal.{edge-before, misplaced};
+ghost use Rattle.files.specs.Refusal.{edge-before, misplaced, nodes-of};
 ghost use Rattle.files.specs.FileKind.{kind-of};
-ghost use Rattle.files.specs.Checking.{parsed-at, is-wrong, edges-out, rules-out, disordered-at, past-of, method-of, crossing-of, is-or-of, offends};
+ghost use Rattle.files.specs.Checking.{parsed-at, is-wrong, edges-out, rules-out, disordered-at, past-of, method-of, crossing-of, is-or-of, ors-at, offends, first-offending};
 use crate::parse::kind_at;
 use crate::parse::parse;
 use crate::record::Parsed;
@@ -165,4 +165,112 @@ fn row_past(operator: u8, a: u8, b: u8, n: usize) -> bool
     let named_a = n <= (a as usize);
     let named_b = n <= (b as usize);
     (((operator == 7) | (operator == 8)) & (named_a | named_b)) | ((operator == 9) & named_b)
+}
+
+// The method of node g; 0 where record g does not read as a node.
+fn method_of(records: &[u8], g: usize) -> u8
+    requires { ⌜ 6 * g + 6 ≤ length (now records) ⌝ }
+    ensures { λ r. ⌜ r ≡ method-of (parsed-at (now (records .entry)) g) ⌝ }
+{
+    let Parsed::Node { method, .. } = parse(records, g) else {
+        return 0;
+    };
+    method
+}
+
+// 8: an edge between two nodes below n whose methods differ.
+fn crossing(records: &[u8], i: usize, n: usize) -> bool
+    requires { ⌜ (6 * i + 6 ≤ length (now records)) × (6 * n ≤ length (now records)) ⌝ }
+    ensures { λ r. ⌜ r ≡ crossing-of (now (records .entry)) n (parsed-at (now (records .entry)) i) ⌝ }
+{
+    let Parsed::Edge { from, to, .. } = parse(records, i) else {
+        return false;
+    };
+    if n <= from {
+        return false;
+    }
+    if n <= to {
+        return false;
+    }
+    let there = method_of(records, to);
+    let here = method_of(records, from);
+    !(there == here)
+}
+
+// Whether number 2, 3, 4, 7 or 8 offends at record i.
+fn offends(number: u8, kind: FileKind, records: &[u8], bound: usize, i: usize) -> bool
+    requires { ⌜ (6 * i + 6 ≤ length (now records)) × (6 * bound ≤ length (now records)) ⌝ }
+    ensures { λ r. ⌜ r ≡ offends number (kind-of kind) (now (records .entry)) bound i ⌝ }
+{
+    if number == 2 {
+        return misplaced(kind, records, i);
+    }
+    if number == 3 {
+        let p = parse(records, i);
+        return is_wrong(p);
+    }
+    if number == 4 {
+        return disordered(records, i);
+    }
+    if number == 7 {
+        let p = parse(records, i);
+        return past(p, bound);
+    }
+    crossing(records, i, bound)
+}
+
+// The first record at which a number offends, or the count of records.
+fn first_offending(number: u8, kind: FileKind, records: &[u8], bound: usize) -> usize
+    requires { ⌜ 6 * bound ≤ length (now records) ⌝ }
+    ensures { λ r. ⌜ r ≡ first-offending number (kind-of kind) (now (records .entry)) bound ⌝ }
+{
+    let n = records.len() / Record::LEN;
+    let mut i = 0;
+    while i < n {
+        if offends(number, kind, records, bound, i) {
+            return i;
+        }
+        i += 1;
+    }
+    n
+}
+
+// How many records are nodes.
+fn count_nodes(records: &[u8]) -> usize
+    ensures { λ r. ⌜ r ≡ nodes-of (now (records .entry)) ⌝ }
+{
+    let n = records.len() / Record::LEN;
+    let mut i = 0;
+    let mut nodes = 0;
+    while i < n {
+        let node = kind_at(records, i) == Record::NODE;
+        nodes += node as usize;
+        i += 1;
+    }
+    nodes
+}
+
+fn is_or(p: Parsed) -> bool
+    ensures { λ r. ⌜ r ≡ is-or-of p ⌝ }
+{
+    let Parsed::Row { operator, .. } = p else {
+        return false;
+    };
+    operator == 8
+}
+
+// How many rows have operator 8.
+fn count_ors(records: &[u8]) -> usize
+    ensures { λ r. ⌜ r ≡ ors-at (now (records .entry)) ⌝ }
+{
+    let n = records.len() / Record::LEN;
+    let mut i = 0;
+    let mut ors = 0;
+    while i < n {
+        let p = parse(records, i);
+        let or = is_or(p);
+        ors += or as usize;
+        i += 1;
+    }
+    ors
 }
