@@ -1,18 +1,26 @@
 -- What the tests on a record and the one before it say, for the code that reads record i - 1.
 use mathlib.Core.Path.{_≡_, refl, sym, ap, ap₂, _∙_}
-use mathlib.Core.Bool.{Bool, false, _||_}
+use mathlib.Core.Bool.{Bool, false, _||_, true}
 use mathlib.Core.Option.{Option, none}
 use mathlib.Core.List.{List}
-use Prim.Native.Nat.{ℕ, zero, suc, _+_, _-_}
+use Prim.Native.Nat.{ℕ, zero, suc, _+_, _-_, _*_, _≤_, _<_, _%_}
 use native.Mathlib.Nat.{add-comm}
 use native.Mathlib.Omega.{arith}
 use lib.Dec.{eqb}
 use Rattle.files.specs.Basics.Tests.{one}
-use Rattle.files.specs.Basics.Tables.{tally}
+use Rattle.files.specs.Basics.Tables.{tally, tally-le}
 use Rattle.files.specs.Basics.First.{first-where, first-miss}
-use Rattle.files.specs.Record.{kind-at}
-use Rattle.files.specs.Refusal.{edge-before}
-use Rattle.files.specs.Checking.{parsed-at, edges-out, rules-out, disordered-at}
+use Rattle.files.specs.Record.{kind-at, count, part}
+use Rattle.files.specs.Refusal.{edge-before, Kind, graph, property, rules, interface, of-kind, nodes-of, missing}
+use Rattle.files.specs.Checking.{parsed-at, edges-out, rules-out, disordered-at, bound-with, bound-of, number-step, first-offending, over, checked, from-two, from-five, from-seven}
+use lib.ListN.{length, take, drop}
+use borrow.Author.Tests.{lt-ltb, le-ltb}
+use Rattle.files.specs.Outcome.{refusal-at}
+use Rattle.files.specs.declared.check.Checked.{Checked}
+use Rattle.files.specs.declared.check.Checked.the-variants.{Accepted, Refused}
+use Rattle.files.specs.declared.record.Limits.{Limits}
+use Rattle.files.specs.Checking.Laws.{from-five-is, from-one-is, checked-steps}
+use Rattle.files.specs.Record.Laws.{part-length}
 
 pub edge-before-at : (l : List ℕ) (i : ℕ) → (i ≡ 0 → ⊥) → eqb (kind-at l (i - 1)) 2 ≡ edge-before l i
 edge-before-at l zero h = absurd (h refl)
@@ -36,3 +44,53 @@ tally-more p i n b e f =
 -- a scan that has found nothing below i goes on past i where i does not offend
 pub scan-on : (p : ℕ → Bool) (i : ℕ) → first-where p i ≡ none → p i ≡ false → first-where p (i + 1) ≡ none
 scan-on p i e f = let q : i + 1 ≡ suc i = omega arith in ap (first-where p) q ∙ first-miss p i e f
+
+-- ---- bounds and steps
+
+pub bound-is : (k : Kind) (l : List ℕ) (n c : ℕ) → n ≡ nodes-of l → c ≡ count l → bound-with k n c ≡ bound-of k l
+bound-is graph l n c e f = e
+bound-is property l n c e f = f
+bound-is rules l n c e f = f
+bound-is interface l n c e f = f
+
+pub bound-fits : (k : Kind) (l : List ℕ) → 6 * bound-of k l ≤ length l
+bound-fits graph l = omega (arith, tally-le (of-kind l 1) (count l))
+bound-fits property l = omega arith
+bound-fits rules l = omega arith
+bound-fits interface l = omega arith
+
+pub step-taken : (n : ℕ) (k : Kind) (l : List ℕ) (b first position i : ℕ) (rest : Checked) → i ≡ first-offending n k l b → i < count l
+    → Refused (refusal-at n position (first + i)) ≡ number-step n k l b first position rest
+step-taken n k l b first position i rest e h = rw (← e, lt-ltb i (count l) h) refl
+
+pub step-left : (n : ℕ) (k : Kind) (l : List ℕ) (b first position i : ℕ) (rest : Checked) → i ≡ first-offending n k l b → count l ≤ i
+    → rest ≡ number-step n k l b first position rest
+step-left n k l b first position i rest e h = rw (← e, le-ltb i (count l) h) refl
+
+module _ (L : Limits) (k : Kind) (l : List ℕ) (first position : ℕ) where
+  pub five-over : over L k l ≡ true → Refused (refusal-at 5 position 0) ≡ from-five L k l first position
+  five-over e = rw (from-five-is, e) refl
+
+  pub six-missing : over L k l ≡ false → missing k l ≡ true → Refused (refusal-at 6 position 0) ≡ from-five L k l first position
+  six-missing e f = rw (from-five-is, e, f) refl
+
+  pub five-fine : over L k l ≡ false → missing k l ≡ false → from-seven k l first position ≡ from-five L k l first position
+  five-fine e f = rw (from-five-is, e, f) refl
+
+  pub one-ragged : eqb (length l % 6) 0 ≡ false → Refused (refusal-at 1 position 0) ≡ checked L k l position
+  one-ragged e = rw (← checked-steps L k l position, from-one-is, e) refl
+
+  pub one-whole : eqb (length l % 6) 0 ≡ true → from-two L k l 0 position ≡ checked L k l position
+  one-whole e = rw (← checked-steps L k l position, from-one-is, e) refl
+
+-- ---- a part of a file, as a slice from one place to another
+
+span-is : (a n : ℕ) → 6 * (a + n) - 6 * a ≡ 6 * n
+span-is a n = omega arith
+
+pub part-span : (l : List ℕ) (a n : ℕ) → 6 * (a + n) ≤ length l → length (take (6 * (a + n) - 6 * a) (drop (6 * a) l)) ≡ 6 * n
+part-span l a n h = ap (λ (k : ℕ). length (take k (drop (6 * a) l))) (span-is a n) ∙ part-length l a n (omega arith)
+
+pub part-checked : (L : Limits) (k : Kind) (l : List ℕ) (a n position : ℕ)
+    → from-two L k (take (6 * (a + n) - 6 * a) (drop (6 * a) l)) a position ≡ from-two L k (part l a n) a position
+part-checked L k l a n position = ap (λ (m : ℕ). from-two L k (take m (drop (6 * a) l)) a position) (span-is a n)

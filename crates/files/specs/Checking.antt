@@ -16,6 +16,7 @@ use Rattle.files.specs.declared.check.Checked.the-variants.{Accepted, Re
 use Rattle.files.specs.Record.{record-at, count, takes-rows, parsed}
 use Rattle.files.specs.Refusal.{Kind, graph, property, rules, interface, of-kind, nodes-of, misplaced, missing, refusal}
 use Rattle.files.specs.Outcome.{refusal-at}
+pub mod Agree
 pub mod Laws
 
 -- ---- what checking answers, by the file's refusal
@@ -143,6 +144,13 @@ first-offending n k l b = first-or (first-where (offends n k l b) (count l)) (co
 abbrev pub number-step : ℕ → Kind → List ℕ → ℕ → ℕ → ℕ → Checked → Checked
 number-step n k l b first position rest =
     cond (ltb (first-offending n k l b) (count l)) (Refused (refusal-at n position (first + first-offending n k l b))) rest
+
+-- of nodes and records, the number that bounds what records name
+abbrev pub bound-with : Kind → ℕ → ℕ → ℕ
+bound-with graph n c = n
+bound-with property n c = c
+bound-with rules n c = c
+bound-with interface n c = c
 
 -- how many there are: what an edge may name is a node, what a row may name is a row
 abbrev pub bound-of : Kind → List ℕ → ℕ

@@ -13,3 +13,4 @@ pub mod Sides
 pub mod Outcome
 pub mod FileKind
 pub mod Checking
+pub mod Cells

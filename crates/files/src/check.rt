@@ -7,12 +7,13 @@ ghost use lib.Dec.{eqb, leb};
 ghost use Prim.Native.Nat.{_+_, _*_, _/_, _≤_, _<_};
 ghost use lib.ListN.{length};
 ghost use Rattle.files.specs.Basics.Lexical.{before};
-ghost use Rattle.files.specs.Record.{record-at, count, takes-rows};
-ghost use Rattle.files.specs.Refusal.{edge-before, misplaced, nodes-of};
+ghost use Rattle.files.specs.Record.{record-at, part, takes-rows};
+ghost use Rattle.files.specs.Refusal.{graph, property, rules, interface, edge-before, misplaced, nodes-of, missing};
 ghost use Rattle.files.specs.FileKind.{kind-of};
-ghost use Rattle.files.specs.Checking.{parsed-at, is-wrong, edges-out, rules-out, disordered-at, past-of, method-of, crossing-of, is-or-of, ors-at, offends, first-offending};
+ghost use Rattle.files.specs.Checking.{checked, parsed-at, is-wrong, edges-out, rules-out, disordered-at, past-of, method-of, crossing-of, is-or-of, ors-at, offends, first-offending, bound-with, over, from-eight, from-seven, from-five, from-four, from-three, from-two};
 use crate::parse::kind_at;
 use crate::parse::parse;
+use crate::record::Limits;
 use crate::record::Parsed;
 use crate::record::Record;
 use crate::refusal::Refusal;
@@ -273,4 +274,186 @@ fn count_ors(records: &[u8]) -> usize
         i += 1;
     }
     ors
+}
+
+// How many there are of what records name: nodes in a graph, rows in a property.
+fn bound(kind: FileKind, nodes: usize, records: usize) -> usize
+    ensures { λ r. ⌜ r ≡ bound-with (kind-of kind) nodes records ⌝ }
+{
+    match kind {
+        FileKind::Graph => nodes,
+        FileKind::Property => records,
+        FileKind::Rules => records,
+        FileKind::Interface => records,
+    }
+}
+
+// The steps from number 8 on.
+fn from_eight(kind: FileKind, records: &[u8], first: usize, position: u8, nodes: usize) -> Checked
+    requires { ⌜ (nodes ≡ nodes-of (now records)) × (first + length (now records) < 18446744073709551616) ⌝ }
+    ensures { λ r. ⌜ r ≡ from-eight (kind-of kind) (now (records .entry)) first position ⌝ }
+{
+    let n = records.len() / Record::LEN;
+    let most = bound(kind, nodes, n);
+    let i = first_offending(8, kind, records, most);
+    if i < n {
+        return Checked::Refused(Refusal::at(8, position, first + i));
+    }
+    Checked::Accepted {
+        nodes: nodes,
+        records: n,
+    }
+}
+
+// The steps from number 7 on.
+fn from_seven(kind: FileKind, records: &[u8], first: usize, position: u8, nodes: usize) -> Checked
+    requires { ⌜ (nodes ≡ nodes-of (now records)) × (first + length (now records) < 18446744073709551616) ⌝ }
+    ensures { λ r. ⌜ r ≡ from-seven (kind-of kind) (now (records .entry)) first position ⌝ }
+{
+    let n = records.len() / Record::LEN;
+    let most = bound(kind, nodes, n);
+    let i = first_offending(7, kind, records, most);
+    if i < n {
+        return Checked::Refused(Refusal::at(7, position, first + i));
+    }
+    from_eight(kind, records, first, position, nodes)
+}
+
+// 5: a limit is passed. Where no kind is out of place, all records of a graph but the nodes are edges.
+fn over(limits: Limits, kind: FileKind, records: &[u8], nodes: usize) -> bool
+    requires { ⌜ nodes ≡ nodes-of (now records) ⌝ }
+    ensures { λ r. ⌜ r ≡ over limits (kind-of kind) (now (records .entry)) ⌝ }
+{
+    let n = records.len() / Record::LEN;
+    match kind {
+        FileKind::Graph => (limits.nodes < nodes) | (limits.edges < n - nodes),
+        FileKind::Property => {
+            let ors = count_ors(records);
+            (limits.rows < n) | (limits.ors < ors)
+        }
+        FileKind::Rules => false,
+        FileKind::Interface => false,
+    }
+}
+
+// 6: a property without rows, an interface file without a record.
+fn missing(kind: FileKind, records: &[u8]) -> bool
+    ensures { λ r. ⌜ r ≡ missing (kind-of kind) (now (records .entry)) ⌝ }
+{
+    let n = records.len() / Record::LEN;
+    match kind {
+        FileKind::Graph => false,
+        FileKind::Property => n == 0,
+        FileKind::Rules => false,
+        FileKind::Interface => n == 0,
+    }
+}
+
+// The steps from number 5 on.
+fn from_five(limits: Limits, kind: FileKind, records: &[u8], first: usize, position: u8) -> Checked
+    requires { ⌜ first + length (now records) < 18446744073709551616 ⌝ }
+    ensures { λ r. ⌜ r ≡ from-five limits (kind-of kind) (now (records .entry)) first position ⌝ }
+{
+    let nodes = count_nodes(records);
+    if over(limits, kind, records, nodes) {
+        return Checked::Refused(Refusal::at(5, position, 0));
+    }
+    if missing(kind, records) {
+        return Checked::Refused(Refusal::at(6, position, 0));
+    }
+    from_seven(kind, records, first, position, nodes)
+}
+
+// The steps from number 4 on.
+fn from_four(limits: Limits, kind: FileKind, records: &[u8], first: usize, position: u8) -> Checked
+    requires { ⌜ first + length (now records) < 18446744073709551616 ⌝ }
+    ensures { λ r. ⌜ r ≡ from-four limits (kind-of kind) (now (records .entry)) first position ⌝ }
+{
+    let n = records.len() / Record::LEN;
+    let i = first_offending(4, kind, records, 0);
+    if i < n {
+        return Checked::Refused(Refusal::at(4, position, first + i));
+    }
+    from_five(limits, kind, records, first, position)
+}
+
+// The steps from number 3 on.
+fn from_three(limits: Limits, kind: FileKind, records: &[u8], first: usize, position: u8) -> Checked
+    requires { ⌜ first + length (now records) < 18446744073709551616 ⌝ }
+    ensures { λ r. ⌜ r ≡ from-three limits (kind-of kind) (now (records .entry)) first position ⌝ }
+{
+    let n = records.len() / Record::LEN;
+    let i = first_offending(3, kind, records, 0);
+    if i < n {
+        return Checked::Refused(Refusal::at(3, position, first + i));
+    }
+    from_four(limits, kind, records, first, position)
+}
+
+// The steps from number 2 on, of records that start at record `first` of the file.
+fn from_two(limits: Limits, kind: FileKind, records: &[u8], first: usize, position: u8) -> Checked
+    requires { ⌜ first + length (now records) < 18446744073709551616 ⌝ }
+    ensures { λ r. ⌜ r ≡ from-two limits (kind-of kind) (now (records .entry)) first position ⌝ }
+{
+    let n = records.len() / Record::LEN;
+    let i = first_offending(2, kind, records, 0);
+    if i < n {
+        return Checked::Refused(Refusal::at(2, position, first + i));
+    }
+    from_three(limits, kind, records, first, position)
+}
+
+// Checks a whole file.
+fn check(kind: FileKind, file: &[u8], position: u8, limits: Limits) -> Checked
+    ensures { λ r. ⌜ r ≡ checked limits (kind-of kind) (now (file .entry)) position ⌝ }
+{
+    if file.len() % Record::LEN == 0 {
+        return from_two(limits, kind, file, 0, position);
+    }
+    Checked::Refused(Refusal::at(1, position, 0))
+}
+
+// Checks a graph file, which stands at a position among a call's files.
+pub fn check_graph(file: &[u8], position: u8, limits: Limits) -> Checked
+    ensures { λ r. ⌜ r ≡ checked limits graph (now (file .entry)) position ⌝ }
+{
+    check(FileKind::Graph, file, position, limits)
+}
+
+// Checks a property file.
+pub fn check_property(file: &[u8], position: u8, limits: Limits) -> Checked
+    ensures { λ r. ⌜ r ≡ checked limits property (now (file .entry)) position ⌝ }
+{
+    check(FileKind::Property, file, position, limits)
+}
+
+// Checks a rule file.
+pub fn check_rules(file: &[u8], position: u8, limits: Limits) -> Checked
+    ensures { λ r. ⌜ r ≡ checked limits rules (now (file .entry)) position ⌝ }
+{
+    check(FileKind::Rules, file, position, limits)
+}
+
+// Checks an interface file.
+pub fn check_interface(file: &[u8], position: u8, limits: Limits) -> Checked
+    ensures { λ r. ⌜ r ≡ checked limits interface (now (file .entry)) position ⌝ }
+{
+    check(FileKind::Interface, file, position, limits)
+}
+
+// Checks the records of a graph from record `first` on, `count` of them, as a part of a longer file: record numbers count from the file's start, node numbers
+// from the part's.
+pub fn check_graph_part(
+    file: &[u8],
+    first: usize,
+    count: usize,
+    position: u8,
+    limits: Limits,
+) -> Checked
+    requires { ⌜ 6 * (first + count) ≤ length (now file) ⌝ }
+    ensures { λ r. ⌜ r ≡ from-two limits graph (part (now (file .entry)) first count) first position ⌝ }
+{
+    let start = Record::LEN * first;
+    let end = Record::LEN * (first + count);
+    from_two(limits, FileKind::Graph, &file[start..end], first, position)
 }

@@ -143,3 +143,12 @@ first-hit p n i h e t = finds-unique (λ j. (j < n) × T (p j)) (first-where p n
 -- otherwise it goes on
 pub first-miss : (p : ℕ → Bool) (i : ℕ) → first-where p i ≡ none → p i ≡ false → first-where p (suc i) ≡ none
 first-miss p i e f = ap₂ (λ (m : Option ℕ) (b : Bool). or-else m b i) e f
+
+-- where nothing is found, the test fails everywhere
+pub first-never : (p : ℕ → Bool) (n : ℕ) → first-where p n ≡ none → (i : ℕ) → i < n → T (p i) → ⊥
+first-never p n e i h t = subst (λ (m : Option ℕ). Finds m (λ j. (j < n) × T (p j))) e (first-finds p n) i (h, t)
+
+-- tests that agree below n find the same
+pub first-same : (p q : ℕ → Bool) (n : ℕ) → ((i : ℕ) → i < n → p i ≡ q i) → first-where p n ≡ first-where q n
+first-same p q zero h = refl
+first-same p q (suc n) h = ap₂ (λ (m : Option ℕ) (b : Bool). or-else m b n) (first-same p q n (λ i k. h i (omega arith))) (h n (omega arith))

@@ -104,3 +104,8 @@ tally-is p a (suc n) h f g = go (λ k. tally-is p a n k f (λ i x y. g i x (omeg
 pub tally-both : (p q : ℕ → Bool) (n : ℕ) → ((i : ℕ) → i < n → one (p i) + one (q i) ≡ 1) → tally p n + tally q n ≡ n
 tally-both p q zero h = refl
 tally-both p q (suc n) h = omega (arith, h n (omega arith), tally-both p q n (λ i l. h i (omega arith)))
+
+-- tests that agree below n have one tally
+pub tally-same : (p q : ℕ → Bool) (n : ℕ) → ((i : ℕ) → i < n → p i ≡ q i) → tally p n ≡ tally q n
+tally-same p q zero h = refl
+tally-same p q (suc n) h = ap₂ (λ (b : Bool) (m : ℕ). one b + m) (h n (omega arith)) (tally-same p q n (λ i l. h i (omega arith)))

@@ -1,20 +1,24 @@
 -- The steps that the code takes come to the file's refusal; each step's equation; what a loop that looks for a record has found; what an accepted file answers. Assumes nothing.
-use mathlib.Core.Path.{_≡_, refl, ap, _∙_}
+use mathlib.Core.Path.{_≡_, refl, sym, ap, subst, _∙_}
 use mathlib.Core.Bool.{Bool, true, false, not, cond}
-use mathlib.Core.List.{List}
+use mathlib.Core.List.{List, [], _∷_}
 use mathlib.Core.Option.{Option, none, some}
-use Prim.Native.Nat.{ℕ, _%_, _<_}
+use Prim.Native.Nat.{ℕ, suc, _%_, _<_}
+use native.Mathlib.Nat.{zero-add}
 use native.Mathlib.Omega.{arith}
 use lib.Dec.{T, eqb}
 use lib.ListN.{length}
-use Rattle.files.specs.Basics.First.{first-where, first-hit}
+use Rattle.files.specs.Basics.First.{first-where, whole, pick, Finds, first-finds, first-hit, first-same}
 use Rattle.files.specs.Checking.{checked-by, checked, parsed-at, is-wrong, disordered-at, past-of, crossing-of, offends, first-or, first-offending, number-step, bound-of, over, from-one, from-two, from-three, from-four, from-five, from-seven, from-eight}
+use Rattle.files.specs.Checking.Agree.{wrong-same, four-agrees, five-agrees, seven-agrees, eight-agrees}
 use Rattle.files.specs.Outcome.{refusal-at}
-use Rattle.files.specs.Record.{count}
-use Rattle.files.specs.Refusal.{Kind, nodes-of, misplaced, missing, refusal}
+use Rattle.files.specs.Record.{record-at, count, wrong}
+use Rattle.files.specs.Refusal.{Kind, nodes-of, misplaced, disordered, passed, missing, past, crossing, refusal}
+use Rattle.files.specs.Refusal.Laws.{refusal-is, findings-are}
 use Rattle.files.specs.declared.check.Checked.{Checked}
 use Rattle.files.specs.declared.check.Checked.the-variants.{Accepted, Refused}
 use Rattle.files.specs.declared.record.Limits.{Limits}
+use borrow.Author.Tests.{lt-ltb, le-ltb}
 
 -- ---- the equation of each step
 
@@ -73,7 +77,7 @@ offending-none n k l b e = found-is n k l b none e
 
 -- ---- what an accepted file answers
 
--- an accepted file's bounds, for accessors: the nodes are among the records
+-- what checking accepts has no refusal, and the counts are its nodes and its records
 pub accepted-counts : (L : Limits) (k : Kind) (l : List ℕ) (position n c : ℕ) → checked L k l position ≡ Accepted n c → (refusal L k l ≡ none) × (n ≡ nodes-of l) × (c ≡ count l)
 unfolding checked
 accepted-counts L k l position n c e = go (refusal L k l) e
@@ -81,3 +85,89 @@ accepted-counts L k l position n c e = go (refusal L k l) e
     go : (o : Option (ℕ × ℕ)) → checked-by l position o ≡ Accepted n c → (o ≡ none) × (n ≡ nodes-of l) × (c ≡ count l)
     go none q = (refl, cc, cc)
     go (some x) q = let z : _≡_ {A = ℕ} 0 1 = cc in absurd (omega arith)
+
+-- ---- the steps come to the file's refusal
+
+-- the findings from a number on
+abbrev from-eighth : Kind → List ℕ → List (Option ℕ)
+from-eighth k l = first-where (crossing k l) (count l) ∷ []
+
+abbrev from-seventh : Kind → List ℕ → List (Option ℕ)
+from-seventh k l = first-where (past k l) (count l) ∷ from-eighth k l
+
+abbrev from-fifth : Limits → Kind → List ℕ → List (Option ℕ)
+from-fifth L k l = whole (passed L k l) ∷ whole (missing k l) ∷ from-seventh k l
+
+abbrev from-fourth : Limits → Kind → List ℕ → List (Option ℕ)
+from-fourth L k l = first-where (disordered k l) (count l) ∷ from-fifth L k l
+
+-- a step of the whole file, and one that looks at each record
+whole-step : (l : List ℕ) (position n : ℕ) (ms : List (Option ℕ)) (rest : Checked) (b : Bool) → (b ≡ false → rest ≡ checked-by l position (pick (suc n) ms))
+    → cond b (Refused (refusal-at n position 0)) rest ≡ checked-by l position (pick n (whole b ∷ ms))
+whole-step l position n ms rest true f = refl
+whole-step l position n ms rest false f = f refl
+
+scan-step : (k : Kind) (l : List ℕ) (position n : ℕ) (ms : List (Option ℕ)) (rest : Checked) (b : ℕ) (m : Option ℕ) → first-where (offends n k l b) (count l) ≡ m
+    → (m ≡ none → rest ≡ checked-by l position (pick (suc n) ms)) → number-step n k l b 0 position rest ≡ checked-by l position (pick n (m ∷ ms))
+scan-step k l position n ms rest b none e f = rw (offending-none n k l b e, le-ltb (count l) (count l) (omega arith)) (f refl)
+scan-step k l position n ms rest b (some i) e f = rw (found-is n k l b (some i) e, lt-ltb i (count l) below, zero-add i)
+  where
+    below : i < count l
+    below = (subst (λ (o : Option ℕ). Finds o (λ j. (j < count l) × T (offends n k l b j))) e (first-finds (offends n k l b) (count l))) .0 .0
+
+-- each number that looks at records finds what the refusal's number finds
+module _ (k : Kind) (l : List ℕ) where
+  two-finds : first-where (offends 2 k l 0) (count l) ≡ first-where (misplaced k l) (count l)
+  unfolding offends
+  two-finds = first-same (offends 2 k l 0) (misplaced k l) (count l) (λ i h. refl)
+
+  three-finds : first-where (offends 3 k l 0) (count l) ≡ first-where (λ i. wrong (record-at l i)) (count l)
+  unfolding offends
+  three-finds = first-same (offends 3 k l 0) (λ i. wrong (record-at l i)) (count l) (λ i h. wrong-same (record-at l i))
+
+module _ (k : Kind) (l : List ℕ) (two : first-where (misplaced k l) (count l) ≡ none) (three : first-where (λ i. wrong (record-at l i)) (count l) ≡ none) where
+  four-finds : first-where (offends 4 k l 0) (count l) ≡ first-where (disordered k l) (count l)
+  unfolding offends
+  four-finds = first-same (offends 4 k l 0) (disordered k l) (count l) (four-agrees k l two three)
+
+  seven-finds : first-where (offends 7 k l (bound-of k l)) (count l) ≡ first-where (past k l) (count l)
+  unfolding offends
+  seven-finds = first-same (offends 7 k l (bound-of k l)) (past k l) (count l) (seven-agrees k l two three)
+
+  eight-finds : first-where (offends 8 k l (bound-of k l)) (count l) ≡ first-where (crossing k l) (count l)
+  unfolding offends
+  eight-finds = first-same (offends 8 k l (bound-of k l)) (crossing k l) (count l) (eight-agrees k l two three)
+
+  -- the steps from each number on, where 2 and 3 find nothing
+  eight-on : (position : ℕ) → from-eight k l 0 position ≡ checked-by l position (pick 8 (from-eighth k l))
+  eight-on position = from-eight-is k l 0 position ∙ scan-step k l position 8 [] _ (bound-of k l) _ eight-finds (λ e. refl)
+
+  seven-on : (position : ℕ) → from-seven k l 0 position ≡ checked-by l position (pick 7 (from-seventh k l))
+  seven-on position = from-seven-is k l 0 position ∙ scan-step k l position 7 (from-eighth k l) _ (bound-of k l) _ seven-finds (λ e. eight-on position)
+
+  five-on : (L : Limits) (position : ℕ) → from-five L k l 0 position ≡ checked-by l position (pick 5 (from-fifth L k l))
+  five-on L position =
+      from-five-is L k l 0 position ∙ ap (λ (b : Bool). cond b (Refused (refusal-at 5 position 0)) six) (five-agrees k l two three L)
+      ∙ whole-step l position 5 (whole (missing k l) ∷ from-seventh k l) six (passed L k l) (λ e. whole-step l position 6 (from-seventh k l) _ (missing k l) (λ f. seven-on position))
+    where
+      six : Checked
+      six = cond (missing k l) (Refused (refusal-at 6 position 0)) (from-seven k l 0 position)
+
+  four-on : (L : Limits) (position : ℕ) → from-four L k l 0 position ≡ checked-by l position (pick 4 (from-fourth L k l))
+  four-on L position = from-four-is L k l 0 position ∙ scan-step k l position 4 (from-fifth L k l) _ 0 _ four-finds (λ e. five-on L position)
+
+-- the steps that the code takes come to the file's refusal
+pub checked-steps : (L : Limits) (k : Kind) (l : List ℕ) (position : ℕ) → from-one L k l position ≡ checked L k l position
+checked-steps L k l position = one-on ∙ ap (λ (ms : List (Option ℕ)). checked-by l position (pick 1 ms)) (sym (findings-are L k l)) ∙ ap (checked-by l position) (sym (refusal-is L k l)) ∙ sym (checked-is L k l position)
+  where
+    thirds : List (Option ℕ)
+    thirds = first-where (λ i. wrong (record-at l i)) (count l) ∷ from-fourth L k l
+
+    three-on : first-where (misplaced k l) (count l) ≡ none → from-three L k l 0 position ≡ checked-by l position (pick 3 thirds)
+    three-on two = from-three-is L k l 0 position ∙ scan-step k l position 3 (from-fourth L k l) _ 0 _ (three-finds k l) (λ three. four-on k l two three L position)
+
+    two-on : from-two L k l 0 position ≡ checked-by l position (pick 2 (first-where (misplaced k l) (count l) ∷ thirds))
+    two-on = from-two-is L k l 0 position ∙ scan-step k l position 2 thirds _ 0 _ (two-finds k l) three-on
+
+    one-on : from-one L k l position ≡ checked-by l position (pick 1 (whole (not (eqb (length l % 6) 0)) ∷ first-where (misplaced k l) (count l) ∷ thirds))
+    one-on = from-one-is L k l position ∙ whole-step l position 1 (first-where (misplaced k l) (count l) ∷ thirds) _ (not (eqb (length l % 6) 0)) (λ e. two-on)

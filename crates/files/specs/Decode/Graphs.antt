@@ -17,6 +17,7 @@ use Rattle.files.specs.Graph.{Node, Edge, Flow, node, size, no-edge}
 use Rattle.files.specs.Decode.AnyFile.{none-applies}
 use Rattle.files.specs.Record.{record-at, kind-at, count}
 use Rattle.files.specs.Refusal.{graph, of-kind, nodes-of, edges-of, edge-key, method-at, refusal}
+use Rattle.files.specs.Table.{Misplaced}
 use Rattle.files.specs.declared.record.Limits.{Limits}
 
 -- one of two kinds
@@ -24,33 +25,50 @@ pub one-kind : (x : ℕ) → (x ≡ 1) ⊎ (x ≡ 2) → one (eqb x 1) + one (eq
 one-kind x (inl e) = subst (λ (y : ℕ). one (eqb y 1) + one (eqb y 2) ≡ 1) (sym e) refl
 one-kind x (inr e) = subst (λ (y : ℕ). one (eqb y 1) + one (eqb y 2) ≡ 1) (sym e) refl
 
-module _ (L : Limits) (l : List ℕ) (accepted : refusal L graph l ≡ none) where
-  pub placed : (i : ℕ) → i < count l → (kind-at l i ≡ 1) ⊎ (kind-at l i ≡ 2)
-  placed i h = says-sure (says-or (says-eq (kind-at l i) 1) (says-eq (kind-at l i) 2)) (λ f. none-applies L graph l accepted 2 i (h, inl f))
+-- where no record is out of place, the nodes are the first records, the edges all others
+module _ (l : List ℕ) (in-place : (i : ℕ) → i < count l → Misplaced graph l i → ⊥) where
+  pub either-kind : (i : ℕ) → i < count l → (kind-at l i ≡ 1) ⊎ (kind-at l i ≡ 2)
+  either-kind i h = says-sure (says-or (says-eq (kind-at l i) 1) (says-eq (kind-at l i) 2)) (λ f. in-place i h (inl f))
 
   down : (i j : ℕ) → j < i → i < count l → T (of-kind l 1 i) → T (of-kind l 1 j)
-  down i j m h t = go (placed j (omega arith))
+  down i j m h t = go (either-kind j (omega arith))
     where
       go : (kind-at l j ≡ 1) ⊎ (kind-at l j ≡ 2) → T (of-kind l 1 j)
       go (inl e) = eq-eqb (kind-at l j) 1 e
-      go (inr e) = absurd (none-applies L graph l accepted 2 i (h, inr (eqb→eq (kind-at l i) 1 t, (j, m, e))))
+      go (inr e) = absurd (in-place i h (inr (eqb→eq (kind-at l i) 1 t, (j, m, e))))
 
-  -- the nodes are the first records, the edges all others
-  pub is-node : (i : ℕ) → i < nodes-of l → kind-at l i ≡ 1
-  is-node i h = eqb→eq (kind-at l i) 1 ((tally-down (of-kind l 1) (count l) down i (omega (arith, tally-le (of-kind l 1) (count l)))) .1 h)
+  pub nodes-first : (i : ℕ) → i < nodes-of l → kind-at l i ≡ 1
+  nodes-first i h = eqb→eq (kind-at l i) 1 ((tally-down (of-kind l 1) (count l) down i (omega (arith, tally-le (of-kind l 1) (count l)))) .1 h)
 
-  pub is-edge : (i : ℕ) → nodes-of l ≤ i → i < count l → kind-at l i ≡ 2
-  is-edge i h k = go (placed i k)
+  pub edges-after : (i : ℕ) → nodes-of l ≤ i → i < count l → kind-at l i ≡ 2
+  edges-after i h k = go (either-kind i k)
     where
       go : (kind-at l i ≡ 1) ⊎ (kind-at l i ≡ 2) → kind-at l i ≡ 2
       go (inl e) = absurd (omega (arith, (tally-down (of-kind l 1) (count l) down i k) .0 (eq-eqb (kind-at l i) 1 e)))
       go (inr e) = e
 
+  pub edges-rest : edges-of l ≡ count l - nodes-of l
+  edges-rest = omega (arith, tally-both (of-kind l 1) (of-kind l 2) (count l) (λ i h. one-kind (kind-at l i) (either-kind i h)))
+
+module _ (L : Limits) (l : List ℕ) (accepted : refusal L graph l ≡ none) where
+  in-place : (i : ℕ) → i < count l → Misplaced graph l i → ⊥
+  in-place i h m = none-applies L graph l accepted 2 i (h, m)
+
+  pub placed : (i : ℕ) → i < count l → (kind-at l i ≡ 1) ⊎ (kind-at l i ≡ 2)
+  placed = either-kind l in-place
+
+  -- the nodes are the first records, the edges all others
+  pub is-node : (i : ℕ) → i < nodes-of l → kind-at l i ≡ 1
+  is-node = nodes-first l in-place
+
+  pub is-edge : (i : ℕ) → nodes-of l ≤ i → i < count l → kind-at l i ≡ 2
+  is-edge = edges-after l in-place
+
   pub few : nodes-of l ≤ count l
   few = tally-le (of-kind l 1) (count l)
 
   pub edges-count : edges-of l ≡ count l - nodes-of l
-  edges-count = omega (arith, tally-both (of-kind l 1) (of-kind l 2) (count l) (λ i h. one-kind (kind-at l i) (placed i h)))
+  edges-count = edges-rest l in-place
 
   -- what the table says of an edge record
   from-below : (i : ℕ) → nodes-of l ≤ i → i < count l → (record-at l i) .first < nodes-of l

@@ -2,7 +2,7 @@
 use mathlib.Core.Path.{_≡_, refl, ap₂, subst}
 use mathlib.Core.Logic.{_⊎_, inl, inr, _↔_}
 use mathlib.Core.Bool.{Bool, not, _||_}
-use mathlib.Core.List.{List}
+use mathlib.Core.List.{List, [], _∷_}
 use mathlib.Core.Option.{Option, none, some}
 use Prim.Native.Nat.{ℕ, zero, suc, _*_, _/_, _%_, _≤_, _<_}
 use native.Mathlib.Nat.{not-suc-le-zero, le-of-suc-le-suc, eq-or-lt-of-le}
@@ -131,7 +131,7 @@ misplaced-near : (l : List ℕ) (i : ℕ) → Misplaced graph l i → (j : ℕ) 
 misplaced-near l i (inl f) = (i, omega arith, inl f)
 misplaced-near l i (inr x) = node-after l i (x .1 .0) (x .1 .1) (x .1 .2) (x .0)
 
-misplaced-finds : (k : Kind) (l : List ℕ) → Finds (first-where (misplaced k l) (count l)) (λ i. (i < count l) × Misplaced k l i)
+pub misplaced-finds : (k : Kind) (l : List ℕ) → Finds (first-where (misplaced k l) (count l)) (λ i. (i < count l) × Misplaced k l i)
 misplaced-finds graph l =
     finds-as (λ i. (i < count l) × Near l i) (λ i. (i < count l) × Misplaced graph l i) (first-where (misplaced graph l) (count l))
     (λ i a. (a .0, near-misplaced l i (a .1))) (λ i b. let r = misplaced-near l i (b .1) in (r .0, r .1, (omega (arith, r .1, b .0), r .2)))
@@ -217,3 +217,9 @@ eight L k l = refl
 pub refusal-is : (L : Limits) (k : Kind) (l : List ℕ) → refusal L k l ≡ pick 1 (findings L k l)
 unfolding refusal
 refusal-is L k l = refl
+
+pub findings-are : (L : Limits) (k : Kind) (l : List ℕ)
+    → findings L k l ≡ whole (not (eqb (length l % 6) 0)) ∷ first-where (misplaced k l) (count l) ∷ first-where (λ i. wrong (record-at l i)) (count l) ∷ first-where (disordered k l) (count l)
+    ∷ whole (passed L k l) ∷ whole (missing k l) ∷ first-where (past k l) (count l) ∷ first-where (crossing k l) (count l) ∷ []
+unfolding findings
+findings-are L k l = refl

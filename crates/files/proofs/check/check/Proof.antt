@@ -1,0 +1,32 @@
+use mathlib.Core.Path.{ap, _∙_}
+use native.Mathlib.Omega.{arith}
+use borrow.Author.Tests.{eq-eqb, ne-eqb}
+use Rattle.files.specs.FileKind.{kind-of}
+use Rattle.files.specs.declared.check.Checked.the-variants.{Refused}
+use Rattle.files.proofs.CheckLaws.{one-ragged, one-whole}
+use borrow.Author.Needs.{needs}
+use Rattle.files.proofs.check.check.Statement.{statement}
+use Rattle.files.proofs.check.check.Tie as tie
+use Rattle.files.proofs.check.check.Reads as reads
+use Rattle.files.proofs.check.check.Lts as lts
+use Rattle.files.proofs.check.from_two.Reads as from-two-reads
+use Rattle.files.proofs.refusal.Refusal.at.Reads as at-reads
+
+-- src/check.rt:408:9
+from-two-requires : tie.Need-from-two-requires
+from-two-requires c κs = omega arith
+
+-- src/check.rt:408:9
+returns : tie.Need-returns
+returns c = c .from-two .ensures ∙ one-whole (c .before .before .before .args .limits) (kind-of (c .before .before .before .args .kind)) (c .before .before .before .args .file .now) 0 (c .before .before .before .args .position) (eq-eqb _ _ (c .before .if1 .taken))
+
+-- src/check.rt:410:22
+at-requires : tie.Need-at-requires
+at-requires c κs = search needs
+
+-- src/check.rt:404:1
+returns-2 : tie.Need-returns-2
+returns-2 c = ap Refused (c .at .ensures) ∙ one-ragged (c .before .before .before .args .limits) (kind-of (c .before .before .before .args .kind)) (c .before .before .before .args .file .now) 0 (c .before .before .before .args .position) (ne-eqb _ _ (c .before .if1 .left))
+
+pub check-spec : {M : Type 1} → statement M
+check-spec = tie.close (tie.spec from-two-requires returns at-requires returns-2)

@@ -1,0 +1,17 @@
+use borrow.Author.Needs.{needs}
+use Rattle.files.proofs.check.check_graph.Statement.{statement}
+use Rattle.files.proofs.check.check_graph.Tie as tie
+use Rattle.files.proofs.check.check_graph.Reads as reads
+use Rattle.files.proofs.check.check_graph.Lts as lts
+use Rattle.files.proofs.check.check.Reads as check-reads
+
+-- src/check.rt:417:5
+check-requires : tie.Need-check-requires
+check-requires c κs = search needs
+
+-- src/check.rt:414:1
+returns : tie.Need-returns
+returns c = c .check .ensures
+
+pub check-graph-spec : {M : Type 1} → statement M
+check-graph-spec = tie.close (tie.spec check-requires returns)

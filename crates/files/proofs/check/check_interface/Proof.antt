@@ -1,0 +1,17 @@
+use borrow.Author.Needs.{needs}
+use Rattle.files.proofs.check.check_interface.Statement.{statement}
+use Rattle.files.proofs.check.check_interface.Tie as tie
+use Rattle.files.proofs.check.check_interface.Reads as reads
+use Rattle.files.proofs.check.check_interface.Lts as lts
+use Rattle.files.proofs.check.check.Reads as check-reads
+
+-- src/check.rt:438:5
+check-requires : tie.Need-check-requires
+check-requires c κs = search needs
+
+-- src/check.rt:435:1
+returns : tie.Need-returns
+returns c = c .check .ensures
+
+pub check-interface-spec : {M : Type 1} → statement M
+check-interface-spec = tie.close (tie.spec check-requires returns)

@@ -1,0 +1,17 @@
+use borrow.Author.Needs.{needs}
+use Rattle.files.proofs.check.check_property.Statement.{statement}
+use Rattle.files.proofs.check.check_property.Tie as tie
+use Rattle.files.proofs.check.check_property.Reads as reads
+use Rattle.files.proofs.check.check_property.Lts as lts
+use Rattle.files.proofs.check.check.Reads as check-reads
+
+-- src/check.rt:424:5
+check-requires : tie.Need-check-requires
+check-requires c κs = search needs
+
+-- src/check.rt:421:1
+returns : tie.Need-returns
+returns c = c .check .ensures
+
+pub check-property-spec : {M : Type 1} → statement M
+check-property-spec = tie.close (tie.spec check-requires returns)

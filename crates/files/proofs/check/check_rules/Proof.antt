@@ -1,0 +1,17 @@
+use borrow.Author.Needs.{needs}
+use Rattle.files.proofs.check.check_rules.Statement.{statement}
+use Rattle.files.proofs.check.check_rules.Tie as tie
+use Rattle.files.proofs.check.check_rules.Reads as reads
+use Rattle.files.proofs.check.check_rules.Lts as lts
+use Rattle.files.proofs.check.check.Reads as check-reads
+
+-- src/check.rt:431:5
+check-requires : tie.Need-check-requires
+check-requires c κs = search needs
+
+-- src/check.rt:428:1
+returns : tie.Need-returns
+returns c = c .check .ensures
+
+pub check-rules-spec : {M : Type 1} → statement M
+check-rules-spec = tie.close (tie.spec check-requires returns)
