@@ -1,5 +1,5 @@
 -- A record that does not read as an edge, a rule, a node or a wrong one: what each test then says. The tags are those of the enum's variants, in order.
-use mathlib.Core.Path.{_≡_, refl}
+use mathlib.Core.Path.{_≡_, refl, subst}
 use mathlib.Core.Bool.{Bool, true, false}
 use mathlib.Core.List.{List, [], _∷_}
 use Prim.Native.Nat.{ℕ}
@@ -24,6 +24,9 @@ but-edge-row = 0 ∷ 3 ∷ 4 ∷ 5 ∷ 6 ∷ []
 
 abbrev pub but-rule : List ℕ
 but-rule = 0 ∷ 1 ∷ 2 ∷ 4 ∷ 5 ∷ 6 ∷ []
+
+abbrev pub but-interface : List ℕ
+but-interface = 0 ∷ 1 ∷ 2 ∷ 3 ∷ 5 ∷ 6 ∷ []
 
 abbrev pub but-wrong : List ℕ
 but-wrong = 0 ∷ 1 ∷ 2 ∷ 3 ∷ 4 ∷ 6 ∷ []
@@ -108,3 +111,20 @@ no-or (Rule q v m n p) k = refl
 no-or (Interface p q) k = refl
 no-or Wrong k = refl
 no-or Other k = refl
+
+-- ---- a record that is known to read as one kind does not read as another
+
+pub never-node : (x : Parsed) (m : ℕ) (r e : Bool) → x ≡ Node m r e → OneOf but-node (tagOf Parsed.the-type x) → ⊥
+never-node x m r e p k = miss but-node 0 tt (subst (λ (y : Parsed). OneOf but-node (tagOf Parsed.the-type y)) p k)
+
+pub never-edge : (x : Parsed) (f l t : ℕ) → x ≡ Edge f l t → OneOf but-edge (tagOf Parsed.the-type x) → ⊥
+never-edge x f l t p k = miss but-edge 1 tt (subst (λ (y : Parsed). OneOf but-edge (tagOf Parsed.the-type y)) p k)
+
+pub never-row : (x : Parsed) (o a b : ℕ) → x ≡ Row o a b → OneOf but-row (tagOf Parsed.the-type x) → ⊥
+never-row x o a b p k = miss but-row 2 tt (subst (λ (y : Parsed). OneOf but-row (tagOf Parsed.the-type y)) p k)
+
+pub never-rule : (x : Parsed) (q v m n s : ℕ) → x ≡ Rule q v m n s → OneOf but-rule (tagOf Parsed.the-type x) → ⊥
+never-rule x q v m n s p k = miss but-rule 3 tt (subst (λ (y : Parsed). OneOf but-rule (tagOf Parsed.the-type y)) p k)
+
+pub never-interface : (x : Parsed) (u v : ℕ) → x ≡ Interface u v → OneOf but-interface (tagOf Parsed.the-type x) → ⊥
+never-interface x u v p k = miss but-interface 4 tt (subst (λ (y : Parsed). OneOf but-interface (tagOf Parsed.the-type y)) p k)

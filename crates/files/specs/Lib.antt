@@ -14,3 +14,4 @@ pub mod Outcome
 pub mod FileKind
 pub mod Checking
 pub mod Cells
+pub mod Access

@@ -133,7 +133,7 @@ fill op a b x y d e f p q = λ i. record { kind = 3; first = op; second = sym p 
     fifth = unused e (λ x. f (inr (inr (inr (inr (inr x))))))
 
 -- a row record that is not wrong is that of its row
-row-same : (op a b d e : ℕ) → (RowWrong (record { kind = 3; first = op; second = a; third = b; fourth = d; fifth = e }) → ⊥)
+pub row-same : (op a b d e : ℕ) → (RowWrong (record { kind = 3; first = op; second = a; third = b; fourth = d; fifth = e }) → ⊥)
     → row-rec (row-of op a b) ≡ record { kind = 3; first = op; second = a; third = b; fourth = d; fifth = e }
 row-same zero a b d e f = absurd (f (inl (inl (omega arith))))
 row-same (suc zero) a b d e f = fill 1 a b 0 0 d e f (unused a (λ x. f (inr (inl (inl refl, inl x))))) (unused b (λ x. f (inr (inl (inl refl, inr x)))))
@@ -148,7 +148,7 @@ row-same (suc (suc (suc (suc (suc (suc (suc (suc zero)))))))) a b d e f = fill 8
 row-same (suc (suc (suc (suc (suc (suc (suc (suc (suc zero))))))))) a b d e f = fill 9 a b a b d e f refl refl
 row-same (suc (suc (suc (suc (suc (suc (suc (suc (suc (suc n)))))))))) a b d e f = absurd (f (inl (inr (omega arith))))
 
-of-kind-three : (r : Record) → r .kind ≡ 3 → record { kind = 3; first = r .first; second = r .second; third = r .third; fourth = r .fourth; fifth = r .fifth } ≡ r
+pub of-kind-three : (r : Record) → r .kind ≡ 3 → record { kind = 3; first = r .first; second = r .second; third = r .third; fourth = r .fourth; fifth = r .fifth } ≡ r
 of-kind-three r k = λ i. record { kind = sym k i; first = r .first; second = r .second; third = r .third; fourth = r .fourth; fifth = r .fifth }
 
 pub property-bytes-decode : (L : Limits) (l : List ℕ) → refusal L property l ≡ none → property-bytes (decode-property l) ≡ l

@@ -2,21 +2,35 @@
 use mathlib.Core.Path.{_≡_, refl, sym, ap, subst, _∙_}
 use mathlib.Core.Logic.{inl, inr, _↔_}
 use mathlib.Core.Bool.{Bool, true, false}
-use mathlib.Core.List.{List, [], _∷_}
+use mathlib.Core.List.{List, [], _∷_, _++_}
 use mathlib.Core.Option.{Option, none, some}
 use Prim.Native.Nat.{ℕ, zero, suc, _≤_, _<_}
 use native.Mathlib.Decide.{decLt}
 use native.Mathlib.Omega.{arith}
-use lib.ListN.{length}
+use lib.ListN.{length, drop}
 use Rattle.files.specs.Basics.First.{pick, Finds, whole-finds, Found}
 use Rattle.files.specs.Basics.Says.{Says, says-lt, says-not, says-and, says-or, says-le}
-use Rattle.files.specs.Outcome.{Said, Outcome, refuses, says, Check, check, numbered, file-checks, whole-check, or-next, first-refusal, unless, answered, Lines, no-lines, line, file-lines, whole-line, FirstOf, NoneOf, Matches, refusal-at, out-check, out-line, Graph, no-start, TooLarge, too-large, size, NoStart}
+use Rattle.files.specs.Outcome.{Said, Outcome, refuses, says, written-of, out-after, Check, check, numbered, file-checks, whole-check, or-next, first-refusal, unless, answered, Lines, no-lines, line, file-lines, whole-line, FirstOf, NoneOf, Matches, refusal-at, out-check, out-line, Graph, no-start, TooLarge, too-large, size, NoStart}
 use Rattle.files.specs.Refusal.{Kind, findings, refusal}
 use Rattle.files.specs.Refusal.Laws.{accepted-iff, found, eight, refusal-is}
 use Rattle.files.specs.Table.{Applies}
 use Rattle.files.specs.declared.record.Limits.{Limits}
 use Rattle.files.specs.declared.refusal.Refusal.{Refusal}
 use Rattle.files.specs.Basics.Tests.{at-most}
+
+-- ---- the lent bytes
+
+-- "Output is unchanged after a refusal"
+pub refusal-leaves-output : (r : Refusal) (out : List ℕ) → out-after (refuses r) out ≡ out
+refusal-leaves-output r out = refl
+
+drop-past : (l m : List ℕ) → drop (length l) (l ++ m) ≡ m
+drop-past [] m = refl
+drop-past (x ∷ l) m = drop-past l m
+
+-- "after success, bytes past the result are unchanged"
+pub past-result-unchanged : (o : Outcome) (out : List ℕ) → drop (length (written-of o)) (out-after o out) ≡ drop (length (written-of o)) out
+past-result-unchanged o out = drop-past (written-of o) (drop (length (written-of o)) out)
 
 -- ---- no line applies, line by line
 

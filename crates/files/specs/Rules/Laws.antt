@@ -56,6 +56,10 @@ by-rule-next (w ∷ ws) u m f = go (fits w (u .state) (u .event)) refl (λ k. by
 
 -- ---- the monitor
 
+pub watch-is : (us : List Rule) (q : ℕ) (v : Event) → watch us q v ≡ cond (eqb q 7) 7 (by-rule us q v)
+unfolding watch
+watch-is us q v = refl
+
 pub watch-bad : (us : List Rule) (v : Event) → watch us 7 v ≡ 7
 unfolding watch
 watch-bad us v = refl

@@ -1,0 +1,43 @@
+// The two sets of methods of an accepted interface file.
+ghost use mathlib.Core.Path.{_≡_};
+ghost use Prim.Native.Nat.{_<_};
+ghost use Rattle.files.specs.Interface.{in-set, provides, requires-method};
+ghost use Rattle.files.specs.Decode.{decode-interface};
+ghost use Rattle.files.specs.Access.{InterfaceFile};
+use crate::parse::parse;
+use crate::record::Parsed;
+
+// Method m is in the set whose bit of weight 2^(m-1) stands for it.
+fn in_set(x: u8, m: u8) -> bool
+    ensures { λ r. ⌜ r ≡ in-set x m ⌝ }
+{
+    if m < 1 {
+        return false;
+    }
+    if 8 < m {
+        return false;
+    }
+    (x >> (m - 1)) % 2 == 1
+}
+
+// Method m is provided.
+pub fn provides(interface: &[u8], m: u8) -> bool
+    requires { ⌜ InterfaceFile (now interface) ⌝ }
+    ensures { λ r. ⌜ r ≡ provides (decode-interface (now (interface .entry))) m ⌝ }
+{
+    let Parsed::Interface { provided, .. } = parse(interface, 0) else {
+        return false;
+    };
+    in_set(provided, m)
+}
+
+// Method m is required.
+pub fn requires_method(interface: &[u8], m: u8) -> bool
+    requires { ⌜ InterfaceFile (now interface) ⌝ }
+    ensures { λ r. ⌜ r ≡ requires-method (decode-interface (now (interface .entry))) m ⌝ }
+{
+    let Parsed::Interface { required, .. } = parse(interface, 0) else {
+        return false;
+    };
+    in_set(required, m)
+}
