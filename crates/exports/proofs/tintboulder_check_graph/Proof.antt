@@ -1,0 +1,28 @@
+use borrow.Author.Needs.{needs}
+use Rattle.exports.proofs.tintboulder_check_graph.Statement.{statement}
+use Rattle.exports.proofs.tintboulder_check_graph.Tie as tie
+use Rattle.exports.proofs.tintboulder_check_graph.Reads as reads
+use Rattle.exports.proofs.tintboulder_check_graph.Lts as lts
+use Rattle.exports.proofs.checked_answer.Reads as checked-answer-reads
+use Rattle.files.proofs.check.check_graph.Reads as check-graph-reads
+use Rattle.files.proofs.record.Limits.desk.Reads as desk-reads
+
+-- src/lib.rt:56:55
+desk-requires : tie.Need-desk-requires
+desk-requires c κs = search needs
+
+-- src/lib.rt:56:20
+check-graph-requires : tie.Need-check-graph-requires
+check-graph-requires c κs = search needs
+
+-- src/lib.rt:56:5
+checked-answer-requires : tie.Need-checked-answer-requires
+checked-answer-requires c κs = search needs
+
+-- src/lib.rt:52:1
+returns : tie.Need-returns
+returns c = rw (c .checked-answer .ensures, c .before .check-graph .ensures, c .before .before .desk .ensures)
+
+pub tintboulder-check-graph-spec : {M : Type 1} → statement M
+tintboulder-check-graph-spec =
+    tie.close (tie.spec desk-requires check-graph-requires checked-answer-requires returns)

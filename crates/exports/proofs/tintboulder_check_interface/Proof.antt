@@ -1,0 +1,28 @@
+use borrow.Author.Needs.{needs}
+use Rattle.exports.proofs.tintboulder_check_interface.Statement.{statement}
+use Rattle.exports.proofs.tintboulder_check_interface.Tie as tie
+use Rattle.exports.proofs.tintboulder_check_interface.Reads as reads
+use Rattle.exports.proofs.tintboulder_check_interface.Lts as lts
+use Rattle.exports.proofs.checked_answer.Reads as checked-answer-reads
+use Rattle.files.proofs.check.check_interface.Reads as check-interface-reads
+use Rattle.files.proofs.record.Limits.desk.Reads as desk-reads
+
+-- src/lib.rt:80:59
+desk-requires : tie.Need-desk-requires
+desk-requires c κs = search needs
+
+-- src/lib.rt:80:20
+check-interface-requires : tie.Need-check-interface-requires
+check-interface-requires c κs = search needs
+
+-- src/lib.rt:80:5
+checked-answer-requires : tie.Need-checked-answer-requires
+checked-answer-requires c κs = search needs
+
+-- src/lib.rt:76:1
+returns : tie.Need-returns
+returns c = rw (c .checked-answer .ensures, c .before .check-interface .ensures, c .before .before .desk .ensures)
+
+pub tintboulder-check-interface-spec : {M : Type 1} → statement M
+tintboulder-check-interface-spec =
+    tie.close (tie.spec desk-requires check-interface-requires checked-answer-requires returns)

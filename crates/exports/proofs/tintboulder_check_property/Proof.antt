@@ -1,0 +1,28 @@
+use borrow.Author.Needs.{needs}
+use Rattle.exports.proofs.tintboulder_check_property.Statement.{statement}
+use Rattle.exports.proofs.tintboulder_check_property.Tie as tie
+use Rattle.exports.proofs.tintboulder_check_property.Reads as reads
+use Rattle.exports.proofs.tintboulder_check_property.Lts as lts
+use Rattle.exports.proofs.checked_answer.Reads as checked-answer-reads
+use Rattle.files.proofs.check.check_property.Reads as check-property-reads
+use Rattle.files.proofs.record.Limits.desk.Reads as desk-reads
+
+-- src/lib.rt:64:58
+desk-requires : tie.Need-desk-requires
+desk-requires c κs = search needs
+
+-- src/lib.rt:64:20
+check-property-requires : tie.Need-check-property-requires
+check-property-requires c κs = search needs
+
+-- src/lib.rt:64:5
+checked-answer-requires : tie.Need-checked-answer-requires
+checked-answer-requires c κs = search needs
+
+-- src/lib.rt:60:1
+returns : tie.Need-returns
+returns c = rw (c .checked-answer .ensures, c .before .check-property .ensures, c .before .before .desk .ensures)
+
+pub tintboulder-check-property-spec : {M : Type 1} → statement M
+tintboulder-check-property-spec =
+    tie.close (tie.spec desk-requires check-property-requires checked-answer-requires returns)

@@ -1,0 +1,28 @@
+use borrow.Author.Needs.{needs}
+use Rattle.exports.proofs.tintboulder_check_rules.Statement.{statement}
+use Rattle.exports.proofs.tintboulder_check_rules.Tie as tie
+use Rattle.exports.proofs.tintboulder_check_rules.Reads as reads
+use Rattle.exports.proofs.tintboulder_check_rules.Lts as lts
+use Rattle.exports.proofs.checked_answer.Reads as checked-answer-reads
+use Rattle.files.proofs.check.check_rules.Reads as check-rules-reads
+use Rattle.files.proofs.record.Limits.desk.Reads as desk-reads
+
+-- src/lib.rt:72:55
+desk-requires : tie.Need-desk-requires
+desk-requires c κs = search needs
+
+-- src/lib.rt:72:20
+check-rules-requires : tie.Need-check-rules-requires
+check-rules-requires c κs = search needs
+
+-- src/lib.rt:72:5
+checked-answer-requires : tie.Need-checked-answer-requires
+checked-answer-requires c κs = search needs
+
+-- src/lib.rt:68:1
+returns : tie.Need-returns
+returns c = rw (c .checked-answer .ensures, c .before .check-rules .ensures, c .before .before .desk .ensures)
+
+pub tintboulder-check-rules-spec : {M : Type 1} → statement M
+tintboulder-check-rules-spec =
+    tie.close (tie.spec desk-requires check-rules-requires checked-answer-requires returns)

@@ -1,0 +1,81 @@
+// The C boundary: each call of the library with slices as pointer and length, its answer as six numbers. A call here states what the call it wraps states.
+ghost use mathlib.Core.Path.{_≡_};
+ghost use Rattle.files.specs.Limits.{desk};
+ghost use Rattle.files.specs.Refusal.{graph, property, rules, interface};
+ghost use Rattle.files.specs.Checking.{checked};
+ghost use Rattle.exports.specs.Face.{refused-face, verdict-face, checked-face};
+use files::check::Checked;
+use files::record::Limits;
+use files::refusal::Refusal;
+
+// Verdict 0 is a refusal: its number, file (first) and record (second). Other verdicts carry their values from first on.
+#[repr(C)]
+pub struct Answer {
+    pub verdict: u32,
+    pub number: u32,
+    pub first: u64,
+    pub second: u64,
+    pub third: u64,
+    pub fourth: u64,
+}
+
+fn refused(r: Refusal) -> Answer
+    ensures { λ a. ⌜ a ≡ refused-face r ⌝ }
+{
+    Answer {
+        verdict: 0,
+        number: r.number as u32,
+        first: r.file as u64,
+        second: r.record as u64,
+        third: 0,
+        fourth: 0,
+    }
+}
+
+fn checked_answer(c: Checked) -> Answer
+    ensures { λ a. ⌜ a ≡ checked-face c ⌝ }
+{
+    match c {
+        Checked::Accepted { nodes, records } => Answer {
+            verdict: 1,
+            number: 0,
+            first: nodes as u64,
+            second: records as u64,
+            third: 0,
+            fourth: 0,
+        },
+        Checked::Refused(r) => refused(r),
+    }
+}
+
+// Checks a graph file as the file of position 1.
+#[no_mangle]
+pub extern "C" fn tintboulder_check_graph(file: &[u8]) -> Answer
+    ensures { λ a. ⌜ a ≡ checked-face (checked desk graph (now (file .entry)) 1) ⌝ }
+{
+    checked_answer(files::check::check_graph(file, 1, Limits::desk()))
+}
+
+// Checks a property file.
+#[no_mangle]
+pub extern "C" fn tintboulder_check_property(file: &[u8]) -> Answer
+    ensures { λ a. ⌜ a ≡ checked-face (checked desk property (now (file .entry)) 1) ⌝ }
+{
+    checked_answer(files::check::check_property(file, 1, Limits::desk()))
+}
+
+// Checks a rule file.
+#[no_mangle]
+pub extern "C" fn tintboulder_check_rules(file: &[u8]) -> Answer
+    ensures { λ a. ⌜ a ≡ checked-face (checked desk rules (now (file .entry)) 1) ⌝ }
+{
+    checked_answer(files::check::check_rules(file, 1, Limits::desk()))
+}
+
+// Checks an interface file.
+#[no_mangle]
+pub extern "C" fn tintboulder_check_interface(file: &[u8]) -> Answer
+    ensures { λ a. ⌜ a ≡ checked-face (checked desk interface (now (file .entry)) 1) ⌝ }
+{
+    checked_answer(files::check::check_interface(file, 1, Limits::desk()))
+}

@@ -1,0 +1,33 @@
+/* The C boundary of the flow-graph checker. A slice is a pointer, then its length in bytes; a length of 0 allows any pointer that is not null. */
+#ifndef TINTBOULDER_H
+#define TINTBOULDER_H
+
+#include <stddef.h>
+#include <stdint.h>
+
+#ifdef __cplusplus
+extern "C" {
+#endif
+
+/* verdict 0: refused, with the number of the published table; first is the file's position from 1, second the first offending record from 0.
+   Other verdicts have number 0 and carry their values from first on; values that a call does not name are 0. */
+struct tintboulder_answer {
+    uint32_t verdict;
+    uint32_t number;
+    uint64_t first;
+    uint64_t second;
+    uint64_t third;
+    uint64_t fourth;
+};
+
+/* Check one file as the file of position 1. Verdict 1: accepted; first is the number of its node records, second the number of its records. */
+struct tintboulder_answer tintboulder_check_graph(const uint8_t *file, size_t file_length);
+struct tintboulder_answer tintboulder_check_property(const uint8_t *file, size_t file_length);
+struct tintboulder_answer tintboulder_check_rules(const uint8_t *file, size_t file_length);
+struct tintboulder_answer tintboulder_check_interface(const uint8_t *file, size_t file_length);
+
+#ifdef __cplusplus
+}
+#endif
+
+#endif
