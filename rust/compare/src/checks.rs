@@ -1,0 +1,62 @@
+//! The file checks of both implementations, brought to one form: nodes and records of an accepted file, or number and record of a refusal.
+
+use generator::generate::{self, Kind, Random, Size};
+use second::files;
+use second::record::{Limits, RECORD_LEN};
+
+/// Refusals of a file alone have the numbers 1 to 8; 0 counts acceptance.
+pub type Tally = [u64; 9];
+
+/// Nodes and records, or number, file and record.
+pub type Checked = Result<(u64, u64), (u64, u64, u64)>;
+
+pub fn proved(kind: Kind, bytes: &[u8]) -> Checked {
+    let checked = match kind {
+        Kind::Graph => tintboulder::check_graph(bytes),
+        Kind::Property => tintboulder::check_property(bytes),
+        Kind::Rules => tintboulder::check_rules(bytes),
+        Kind::Interface => tintboulder::check_interface(bytes),
+    };
+    checked
+        .map(|accepted| (accepted.nodes, accepted.records))
+        .map_err(|refusal| (u64::from(refusal.number), refusal.file, refusal.record))
+}
+
+pub fn second(kind: Kind, bytes: &[u8]) -> Checked {
+    let nodes = match kind {
+        Kind::Graph => files::check_graph(bytes, &Limits::DESK).map(|graph| graph.nodes.len()),
+        Kind::Property => files::check_property(bytes, &Limits::DESK).map(|_| 0),
+        Kind::Rules => files::check_rules(bytes).map(|_| 0),
+        Kind::Interface => files::check_interface(bytes).map(|_| 0),
+    };
+    nodes
+        .map(|nodes| (nodes as u64, (bytes.len() / RECORD_LEN) as u64))
+        .map_err(|(number, record)| (u64::from(number), 1, record as u64))
+}
+
+pub fn differ(kind: Kind, bytes: &[u8]) -> bool {
+    proved(kind, bytes) != second(kind, bytes)
+}
+
+/// One third of the files valid, one in sixteen large. Ends at the first file on which the answers differ.
+pub fn run(random: &mut Random, kind: Kind, count: u64) -> Result<Tally, Vec<u8>> {
+    let mut tally = Tally::default();
+    for _ in 0..count {
+        let bytes = file(random, kind);
+        let answer = proved(kind, &bytes);
+        if answer != second(kind, &bytes) {
+            return Err(bytes);
+        }
+        let number = answer.map_or_else(|(number, ..)| number, |_| 0);
+        tally[number as usize] += 1;
+    }
+    Ok(tally)
+}
+
+fn file(random: &mut Random, kind: Kind) -> Vec<u8> {
+    let size = if random.once_in(16) { Size::Large } else { Size::Small };
+    match random.once_in(3) {
+        true => generate::valid(random, kind, size),
+        false => generate::damaged(random, kind, size),
+    }
+}

@@ -1,0 +1,42 @@
+//! The examples of crates/course: one for each refusal 1 to 8 and each limit, and the files of the case studies.
+
+mod cases;
+mod examples;
+
+use second::files::{check_graph, check_interface, check_property, check_rules};
+use second::record::{Limits, RECORD_LEN};
+use std::io;
+use std::path::{Path, PathBuf};
+
+/// A file that the program reads. The first letter of the name tells what it is read as.
+pub struct Example {
+    pub name: String,
+    pub bytes: Vec<u8>,
+}
+
+pub fn repository() -> PathBuf {
+    Path::new(env!("CARGO_MANIFEST_DIR")).join("../..")
+}
+
+/// All examples, in the order in which the program reads them.
+pub fn examples() -> io::Result<Vec<Example>> {
+    let mut all = examples::small();
+    all.extend(examples::at_the_limits());
+    all.extend(cases::files(&repository().join("cases"))?);
+    Ok(all)
+}
+
+/// The line that the program prints of an example, as the second implementation has it.
+pub fn line(example: &Example) -> String {
+    let Example { name, bytes } = example;
+    let nodes = match name.as_bytes().first() {
+        Some(b'g') => check_graph(bytes, &Limits::DESK).map(|graph| graph.nodes.len()),
+        Some(b'p') => check_property(bytes, &Limits::DESK).map(|_| 0),
+        Some(b'r') => check_rules(bytes).map(|_| 0),
+        _ => check_interface(bytes).map(|_| 0),
+    };
+    match nodes {
+        Ok(nodes) => format!("{name}: accepted {nodes} {}\n", bytes.len() / RECORD_LEN),
+        Err((number, record)) => format!("{name}: refused {number} 1 {record}\n"),
+    }
+}

@@ -1,0 +1,79 @@
+//! Random valid properties.
+
+use crate::generate::{label, method, Random, Size, LIMITS};
+use second::record::{kind, Record};
+
+pub fn property(random: &mut Random, size: Size) -> Vec<u8> {
+    let records = match (size, random.below(4)) {
+        (Size::Small, _) => {
+            let rows = 1 + random.below(7);
+            any_rows(random, rows)
+        }
+        (Size::Large, 0) => row_cycle(random),
+        (Size::Large, 1) => many_ors(random, LIMITS.ors),
+        (Size::Large, _) => any_rows(random, LIMITS.rows),
+    };
+    records.concat()
+}
+
+pub(crate) fn any_rows(random: &mut Random, rows: usize) -> Vec<Record> {
+    let mut ors = 0;
+    let mut records = Vec::new();
+    for _ in 0..rows {
+        let mut operator = random.pick(&[1, 2, 3, 4, 5, 6, 7, 7, 8, 8, 8, 9, 9, 9, 9, 9]);
+        if operator == 8 && ors == LIMITS.ors {
+            operator = 7;
+        }
+        ors += usize::from(operator == 8);
+        records.push(row(random, operator, rows));
+    }
+    records
+}
+
+/// A row with the operator and operands anywhere below `rows`.
+fn row(random: &mut Random, operator: u8, rows: usize) -> Record {
+    let mut operand = || random.below(rows) as u8;
+    let (a, b) = (operand(), operand());
+    match operator {
+        3 | 4 => [kind::ROW, operator, method(random), 0, 0, 0],
+        7 | 8 => [kind::ROW, operator, a, b, 0, 0],
+        9 => [kind::ROW, operator, label(random), b, 0, 0],
+        _ => [kind::ROW, operator, 0, 0, 0, 0],
+    }
+}
+
+/// Row 0 comes back to itself through "and" rows and a box or two, and a
+/// literal at the end of the file can make it false: the highest ranks.
+fn row_cycle(random: &mut Random) -> Vec<Record> {
+    let literal = LIMITS.rows as u8 - 1;
+    let mut records: Vec<Record> =
+        (1..literal).map(|next| [kind::ROW, 7, next, next, 0, 0]).collect();
+    records.push([kind::ROW, 9, 0, 0, 0, 0]);
+    let falsified = random.below(records.len() - 1);
+    records[falsified][3] = literal;
+    if random.once_in(2) {
+        let at = random.below(records.len() - 1);
+        records[at] = [kind::ROW, 9, label(random), at as u8 + 1, 0, 0];
+    }
+    let operator = random.pick(&[2, 5, 6]);
+    records.push(row(random, operator, LIMITS.rows));
+    records
+}
+
+/// A chain of "and" rows that demands each of the "or" rows after it, whose
+/// operands are boxes, literals and each other.
+pub(crate) fn many_ors(random: &mut Random, ors: usize) -> Vec<Record> {
+    let first_or = ors - 1;
+    let mut records: Vec<Record> =
+        (0..first_or).map(|at| [kind::ROW, 7, (first_or + at) as u8, at as u8 + 1, 0, 0]).collect();
+    for _ in 0..ors {
+        let operands = if random.once_in(4) { first_or } else { first_or + ors };
+        let mut operand = || (operands + random.below(LIMITS.rows - operands)) as u8;
+        records.push([kind::ROW, 8, operand(), operand(), 0, 0]);
+    }
+    while records.len() < LIMITS.rows {
+        let operator = random.pick(&[9, 9, 9, 9, 9, 4, 5, 6]);
+        records.push(row(random, operator, LIMITS.rows));
+    }
+    records
+}

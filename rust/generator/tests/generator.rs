@@ -1,0 +1,56 @@
+//! What the generator promises.
+
+use generator::generate::{self, Kind, Random, Size};
+use second::files;
+use second::record::Limits;
+
+#[test]
+fn valid_files_are_accepted() {
+    let mut random = Random::new(1);
+    for round in 0..2_000 {
+        let size = if round % 10 == 0 { Size::Large } else { Size::Small };
+        for kind in Kind::ALL {
+            let bytes = generate::valid(&mut random, kind, size);
+            assert_eq!(kind.number(&bytes), 0, "{kind:?} {bytes:?}");
+        }
+    }
+}
+
+#[test]
+fn damaged_files_meet_every_number_of_their_kind() {
+    let mut random = Random::new(2);
+    for (kind, numbers) in [
+        (Kind::Graph, &[1, 2, 3, 4, 5, 7, 8][..]),
+        (Kind::Property, &[1, 2, 3, 5, 6, 7]),
+        (Kind::Rules, &[1, 2, 3, 4]),
+        (Kind::Interface, &[1, 2, 3, 6]),
+    ] {
+        let mut met = [0; 9];
+        for _ in 0..2_000 {
+            let bytes = generate::damaged(&mut random, kind, Size::Small);
+            met[kind.number(&bytes)] += 1;
+        }
+        assert!(numbers.iter().all(|&number| met[number] > 20), "{kind:?} {met:?}");
+    }
+}
+
+#[test]
+fn graphs_are_of_their_interface() {
+    let mut random = Random::new(3);
+    for _ in 0..2_000 {
+        let bytes = generate::closed_interface(&mut random);
+        let graph = generate::graph_of(&mut random, Size::Small, bytes[1], bytes[2]);
+        let interface = files::check_interface(&bytes).expect("a valid interface");
+        let graph = files::check_graph(&graph, &Limits::DESK).expect("a valid graph");
+        assert_eq!(graph.first_outside(&interface), None);
+    }
+}
+
+#[test]
+fn a_seed_gives_the_same_files_again() {
+    let files = || {
+        let mut random = Random::new(4);
+        Kind::ALL.map(|kind| generate::damaged(&mut random, kind, Size::Large))
+    };
+    assert_eq!(files(), files());
+}

@@ -1,0 +1,34 @@
+//! Refusals: why a call says no verdict, and where its input offends.
+
+/// The numbers of the refusal table.
+pub mod number {
+    pub const LENGTH: u8 = 1;
+    pub const KIND: u8 = 2;
+    pub const RANGE: u8 = 3;
+    pub const ORDER: u8 = 4;
+    pub const LIMIT: u8 = 5;
+    pub const EMPTY: u8 = 6;
+    pub const PAST_THE_LAST: u8 = 7;
+    pub const BETWEEN_METHODS: u8 = 8;
+    pub const NOT_OF_INTERFACE: u8 = 9;
+    pub const NOT_PROVIDED: u8 = 10;
+    pub const TOO_LARGE: u8 = 11;
+    pub const SHORT_OUTPUT: u8 = 12;
+    pub const SHORT_WORK: u8 = 13;
+}
+
+#[derive(Clone, Copy, Debug, PartialEq, Eq)]
+pub struct Refusal {
+    pub number: u8,
+    /// Position of the file among the arguments, from 1; 0 for no file.
+    pub file: u8,
+    /// First offending record, from 0.
+    pub record: usize,
+}
+
+impl Refusal {
+    /// A refusal that no file is to blame for.
+    pub fn of_call(number: u8) -> Refusal {
+        Refusal { number, file: 0, record: 0 }
+    }
+}

@@ -1,0 +1,125 @@
+//! Judging against levels evaluated one after the other, on random files.
+
+mod support;
+
+use generator::generate::{self, Random, Size};
+use second::files::{check_graph, check_property};
+use second::graph::Graph;
+use second::record::Row;
+use std::collections::VecDeque;
+use support::*;
+
+/// The first level at which each row is false, by node and row.
+type Ranks = Vec<Vec<Option<usize>>>;
+
+fn naive_ranks(graph: &Graph, property: &[Row]) -> Ranks {
+    let all_true = vec![vec![true; property.len()]; graph.nodes.len()];
+    let mut ranks = vec![vec![None; property.len()]; graph.nodes.len()];
+    let mut before = all_true;
+    for level in 1.. {
+        let values = next_level(graph, property, &before);
+        if values == before {
+            break;
+        }
+        for (node, row) in pairs(graph, property) {
+            if !values[node][row] && ranks[node][row].is_none() {
+                ranks[node][row] = Some(level);
+            }
+        }
+        before = values;
+    }
+    ranks
+}
+
+fn next_level(graph: &Graph, property: &[Row], before: &[Vec<bool>]) -> Vec<Vec<bool>> {
+    let value = |node: usize, row: usize| {
+        let (method, returns) = (graph.nodes[node].method, graph.nodes[node].returns);
+        match property[row] {
+            Row::True => true,
+            Row::False => false,
+            Row::In(wanted) => method == wanted,
+            Row::NotIn(shunned) => method != shunned,
+            Row::Return => returns,
+            Row::NotReturn => !returns,
+            Row::And(a, b) => before[node][a] && before[node][b],
+            Row::Or(a, b) => before[node][a] || before[node][b],
+            Row::Box { label, row } => {
+                let mut edges = graph.edges.iter();
+                edges.all(|e| (e.from, e.label) != (node, label) || before[e.to][row])
+            }
+        }
+    };
+    let rows = |node| (0..property.len()).map(|row| value(node, row)).collect();
+    (0..graph.nodes.len()).map(rows).collect()
+}
+
+fn pairs(graph: &Graph, property: &[Row]) -> impl Iterator<Item = (usize, usize)> {
+    let rows = property.len();
+    (0..graph.nodes.len()).flat_map(move |node| (0..rows).map(move |row| (node, row)))
+}
+
+/// Causes as four fields of a sheet record.
+fn naive_causes(
+    graph: &Graph,
+    property: &[Row],
+    ranks: &Ranks,
+    (node, row): (usize, usize),
+) -> [usize; 4] {
+    match property[row] {
+        Row::And(a, b) => {
+            let false_rows = [a, b].into_iter().filter(|&row| ranks[node][row].is_some());
+            let cause = false_rows.min_by_key(|&row| ranks[node][row]).expect("a false operand");
+            [node, cause, 0, 255]
+        }
+        Row::Or(a, b) => [node, a, node, b],
+        Row::Box { label, row } => {
+            let edges = graph.edges.iter().filter(|e| (e.from, e.label) == (node, label));
+            let targets = edges.map(|e| (ranks[e.to][row], e.to)).filter(|t| t.0.is_some());
+            [targets.min().expect("a false target").1, row, 0, 255]
+        }
+        _ => [0, 255, 0, 255],
+    }
+}
+
+fn naive_sheet(graph: &Graph, property: &[Row], ranks: &Ranks, entry: usize) -> Vec<u8> {
+    let mut listed = vec![(entry, 0)];
+    let mut queue = VecDeque::from([(entry, 0)]);
+    let mut bytes = Vec::new();
+    while let Some(pair) = queue.pop_front() {
+        let causes = naive_causes(graph, property, ranks, pair);
+        bytes.extend([pair.0, pair.1].iter().chain(&causes).map(|&field| field as u8));
+        for cause in [(causes[0], causes[1]), (causes[2], causes[3])] {
+            if cause != (0, 255) && !listed.contains(&cause) {
+                listed.push(cause);
+                queue.push_back(cause);
+            }
+        }
+    }
+    bytes
+}
+
+#[test]
+fn ranks_agree_with_levels() {
+    let mut random = Random::new(1);
+    let mut verdicts = [0; 2];
+    for round in 0..60_000 {
+        let graph_file = generate::graph(&mut random, Size::Small);
+        let size = if round % 8 == 0 { Size::Large } else { Size::Small };
+        let property_file = generate::property(&mut random, size);
+        let graph = check_graph(&graph_file, LIMITS).expect("a valid graph");
+        let property = check_property(&property_file, LIMITS).expect("a valid property");
+        let ranks = naive_ranks(&graph, &property);
+        let failing = graph.entries().find(|&entry| ranks[entry][0].is_some());
+        let expected = failing.map_or(said(1, &[], vec![]), |entry| {
+            let sheet = naive_sheet(&graph, &property, &ranks, entry);
+            said(2, &[sheet.len() as u64 / 6], sheet)
+        });
+        assert_eq!(
+            judge(&graph_file, &property_file),
+            expected,
+            "{graph_file:?} {property_file:?}"
+        );
+        verdicts[usize::from(failing.is_some())] += 1;
+    }
+    assert!(verdicts.iter().all(|&times| times > 5_000), "{verdicts:?}");
+}
