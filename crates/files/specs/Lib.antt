@@ -14,4 +14,5 @@ pub mod Outcome
 pub mod FileKind
 pub mod Checking
 pub mod Cells
+pub mod Line
 pub mod Access

@@ -1,10 +1,11 @@
-// Writing records of six bytes into a lent buffer: of files, trails and sheets.
+// Writing into a lent buffer: records of six bytes, of files, trails, sheets and what is shown; and lines of a relation.
 ghost use mathlib.Core.Path.{_≡_};
 ghost use mathlib.Core.List.{List, [], _∷_};
 ghost use Prim.Native.Nat.{_+_, _*_, _≤_};
 ghost use lib.ListN.{length};
 ghost use Rattle.files.specs.Record.{six};
-ghost use Rattle.files.specs.Cells.{put-at};
+ghost use Rattle.files.specs.Cells.{put-at, has-bit};
+ghost use Rattle.files.specs.Line.{relation-line};
 use crate::record::Record;
 
 // Stores six bytes as record i.
@@ -36,4 +37,20 @@ pub fn put_record(out: &mut [u8], i: usize, r: Record)
         r.fourth,
         r.fifth,
     );
+}
+
+// The length of a relation's line: a bit for each of 256 nodes.
+pub const LINE: usize = 32;
+
+// Stores the row of 256 bits from `base` of `rows` on as line g.
+pub fn put_line(out: &mut [u8], g: usize, rows: &[u8], base: usize)
+    requires { ⌜ (32 * g + 32 ≤ length (now out)) × (base + 32 ≤ length (now rows)) ⌝ }
+    ensures { λ _. ⌜ now (out .exit) ≡ put-at (now (out .entry)) (32 * g) (relation-line (has-bit (now (rows .entry)) base)) ⌝ }
+{
+    let at = LINE * g;
+    let mut i = 0;
+    while i < LINE {
+        out[at + i] = rows[base + i];
+        i += 1;
+    }
 }

@@ -2,14 +2,13 @@
 use mathlib.Core.Path.{_≡_}
 use mathlib.Core.Bool.{Bool, true, not, _&&_}
 use mathlib.Core.List.{List, List·Memᴰ}
-use Prim.Native.Nat.{ℕ, zero, suc, _*_, _<_}
+use Prim.Native.Nat.{ℕ, zero, suc, _<_}
 use lib.Dec.{T, eqb, ltb}
 use Rattle.files.specs.Basics.Tests.{imp, same, all, any, upto}
 use Rattle.files.specs.Basics.Lists.{each, span}
-use Rattle.files.specs.Basics.Tables.{table}
-use Rattle.files.specs.Basics.Binary.{value}
 use Rattle.files.specs.Basics.Least.{least}
 use Rattle.files.specs.Graph.{Node, Edge, Graph, size, node}
+use Rattle.files.specs.Line.{relation-line}
 pub mod Laws
 pub mod Examples
 
@@ -63,13 +62,6 @@ uncovered G H = least (λ (g : ℕ). (node G g) .entry && not (covered G H g)) (
 
 -- ---- the relation's bytes
 
--- "32 bytes per node g of the first graph"
-abbrev pub line-length : ℕ
-line-length = 32
-
--- "node h is bit weight 2^(h mod 8) of byte h/8 rounded down, unused bits 0"
-abbrev pub relation-line : (ℕ → Bool) → List ℕ
-relation-line v = table (λ k. value (table v (8 * k) 8)) 0 32
-
+-- "The largest relation is written, under either verdict, as 32 bytes per node g of the first graph"
 pub relation-bytes : Graph → Graph → List ℕ
 relation-bytes G H = each (λ (g : ℕ). relation-line (related G H g)) (span 0 (size G))

@@ -12,7 +12,7 @@ use lib.Bits.{bitOr, bitAnd, or-shr, or-mod, and-shr, and-mod, or-zero-r, and-ze
 use lib.Dec.{eqb, eqb→eq, eqb-refl, not-T}
 use lib.ListN.{length, getD, set, take, drop, length-set, List·getD-append}
 use lib.Pow.{shl-exact}
-use lib.Seq.{getD-set-same, getD-set-other, set-out, getD-take, getD-drop, getD-append-add, length-take-le, sets-eq, length-sets}
+use lib.Seq.{getD-set-same, getD-set-other, set-out, getD-take, getD-drop, getD-append-add, length-take-le, sets-eq, length-sets, paste, paste-suc, take-length}
 use Rattle.files.specs.Basics.Tests.{one, one-true, one-false, all, all-e, upto, upto-i, and-l, and-r}
 use Rattle.files.specs.Cells.{little, put-little, cell, put-cell, has-bit, put-bit, drop-bit, put-at}
 
@@ -290,3 +290,12 @@ drop-bit-is l base h = refl
 pub put-at-is : (l : List ℕ) (p : ℕ) (xs : List ℕ) → put-at l p xs ≡ take p l ++ xs ++ drop (p + length xs) l
 unfolding put-at
 put-at-is l p xs = refl
+
+-- one more byte of a copy
+pub copy-on : (out₀ src out : List ℕ) (at i x : ℕ) → at + i < length out₀ → i < length src → getD src i 0 ≡ x → out ≡ paste out₀ at src i
+    → set out (at + i) x ≡ paste out₀ at src (i + 1)
+copy-on out₀ src out at i x h k e f = rw (f, ← e, add-one) (paste-suc out₀ at src i 0 h k)
+
+-- a copy of the whole
+pub copy-all : (out₀ src out : List ℕ) (at i : ℕ) → i ≡ length src → out ≡ paste out₀ at src i → out ≡ put-at out₀ at src
+copy-all out₀ src out at i e f = f ∙ rw (e, take-length, put-at-is)

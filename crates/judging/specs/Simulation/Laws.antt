@@ -13,10 +13,12 @@ use Rattle.files.specs.Basics.Binary.{value, bit, value-bit}
 use Rattle.files.specs.Basics.Least.{least-passes, least-before, least-lt}
 use Rattle.files.specs.Basics.Lists.{each, span, length-each, getD-each}
 use Rattle.files.specs.Basics.Settle.{Below, settled}
-use Rattle.files.specs.Basics.Tables.{table, length-table, getD-table, length-span, getD-span}
+use Rattle.files.specs.Basics.Tables.{table, getD-table, length-span, getD-span}
 use Rattle.files.specs.Basics.Tests.{imp, imp-i, imp-e, and-l, and-r, and-i, same, same→eq, same-refl, all, all-i, all-e, any-i, any-e, upto, upto-i, upto-e, grid, grid-i, length-grid, eq-eqb, one, not-all, not-imp, not-and, not-not}
 use Rattle.files.specs.Graph.{Node, Edge, Graph, size, node, Flow}
-use Rattle.judging.specs.Simulation.{Simulation, Simulates, alike, matching, keeps, refined, related, covered, simulates, uncovered, relation-line, relation-bytes}
+use Rattle.files.specs.Line.{relation-line}
+use Rattle.files.specs.Line.Laws.{line-size}
+use Rattle.judging.specs.Simulation.{Simulation, Simulates, alike, matching, keeps, refined, related, covered, simulates, uncovered, relation-bytes}
 
 alike-e : (a b : Node) → T (alike a b) → (b .method ≡ a .method) × (b .ret ≡ a .ret)
 unfolding alike
@@ -221,9 +223,6 @@ module _ (G H : Graph) where
       (least-lt lacks (size G) (a .0) h p, and-l ((node G (uncovered G H)) .entry) (not (covered G H (uncovered G H))) c, and-r ((node G (uncovered G H)) .entry) (not (covered G H (uncovered G H))) c)
 
 -- ---- the bytes of the relation
-
-line-size : (v : ℕ → Bool) → length (relation-line v) ≡ 32
-line-size v = length-table (λ k. value (table v (8 * k) 8)) 0 32
 
 -- bit h of a line
 line-bit : (v : ℕ → Bool) (h : ℕ) → h < 256 → bit (getD (relation-line v) (h / 8) 0) (h % 8) ≡ one (v h)

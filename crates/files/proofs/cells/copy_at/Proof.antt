@@ -1,11 +1,10 @@
-use mathlib.Core.Path.{_≡_, _∙_}
+use mathlib.Core.Path.{_≡_, refl}
 use Prim.Native.Nat.{_≤_, _-_}
-use native.Mathlib.Numerals.{add-one}
 use native.Mathlib.Omega.{arith}
 use lib.ListN.{length, length-set}
-use lib.Seq.{paste, paste-zero, paste-suc, take-length}
+use lib.Seq.{paste, paste-zero}
 use borrow.Author.Needs.{needs}
-use Rattle.files.specs.Cells.Laws.{put-at-is}
+use Rattle.files.specs.Cells.Laws.{copy-on, copy-all}
 use Rattle.files.proofs.cells.copy_at.Statement.{statement}
 use Rattle.files.proofs.cells.copy_at.Tie as tie
 
@@ -37,15 +36,15 @@ loop-again : tie.Need-loop-again Inv-loop μ-loop
 loop-again c =
     let l = c .before .before .loop in
     let a = c .before .before .before .args in
-    (omega arith, simp length-set (omega arith), rw (l .inv .2, add-one) (paste-suc (a .dst .now) (a .at) (a .src .now) (l .i) 0 (omega arith) (omega arith)))
+    (omega arith, simp length-set (omega arith), copy-on (a .dst .now) (a .src .now) (l .dst) (a .at) (l .i) _ (omega arith) (omega arith) refl (l .inv .2))
 
 same-length : tie.Need-same-length Inv-loop μ-loop
 same-length c = search needs
 
 returns : tie.Need-returns Inv-loop μ-loop
 returns c =
-    let e : c .before .loop .i ≡ length (c .before .before .args .src .now) = omega arith in
-    c .before .loop .inv .2 ∙ rw (e, take-length, put-at-is)
+    let a = c .before .before .args in
+    copy-all (a .dst .now) (a .src .now) (c .before .loop .dst) (a .at) (c .before .loop .i) (omega arith) (c .before .loop .inv .2)
 
 pub copy-at-spec : {M : Type 1} → statement M
 copy-at-spec =
