@@ -7,6 +7,8 @@ use types.Run.{OneOf, miss}
 use denote.Enum.Declared.{tagOf}
 use Rattle.files.specs.declared.record.Parsed.{Parsed}
 use Rattle.files.specs.declared.record.Parsed.the-variants.{Node, Edge, Row, Rule, Interface, Wrong, Other}
+use Rattle.files.specs.Interface.{Interface as Sets}
+use Rattle.files.specs.Sides.{foreign-node, foreign-call}
 use Rattle.files.specs.Checking.{is-wrong, edge-out, edges-out, rule-out, rules-out, past-of, method-of, crossing-of, is-or-of}
 use Rattle.files.proofs.record.Parsed
 
@@ -111,6 +113,24 @@ no-or (Rule q v m n p) k = refl
 no-or (Interface p q) k = refl
 no-or Wrong k = refl
 no-or Other k = refl
+
+pub no-foreign-node : (I : Sets) (x : Parsed) → OneOf but-node (tagOf Parsed.the-type x) → false ≡ foreign-node I x
+no-foreign-node I (Node m r e) k = absurd (miss but-node 0 tt k)
+no-foreign-node I (Edge f l t) k = refl
+no-foreign-node I (Row o a b) k = refl
+no-foreign-node I (Rule q v m n s) k = refl
+no-foreign-node I (Interface p q) k = refl
+no-foreign-node I Wrong k = refl
+no-foreign-node I Other k = refl
+
+pub no-foreign-call : (I : Sets) (x : Parsed) → OneOf but-edge (tagOf Parsed.the-type x) → false ≡ foreign-call I x
+no-foreign-call I (Node m r e) k = refl
+no-foreign-call I (Edge f l t) k = absurd (miss but-edge 1 tt k)
+no-foreign-call I (Row o a b) k = refl
+no-foreign-call I (Rule q v m n s) k = refl
+no-foreign-call I (Interface p q) k = refl
+no-foreign-call I Wrong k = refl
+no-foreign-call I Other k = refl
 
 -- ---- a record that is known to read as one kind does not read as another
 

@@ -5,7 +5,7 @@ use mathlib.Core.Option.{Option, none, some}
 use Prim.Native.Nat.{ℕ, zero, suc, _+_, _-_, _%_}
 use lib.Dec.{leb, ltb, eqb}
 use lib.ListN.{length}
-use Rattle.files.specs.Basics.First.{first-where}
+use Rattle.files.specs.Basics.First.{first-where, first-or}
 use Rattle.files.specs.Basics.Lexical.{before}
 use Rattle.files.specs.Basics.Tables.{tally}
 use Rattle.files.specs.declared.record.Limits.{Limits}
@@ -131,10 +131,6 @@ offends n k l b i =
     (cond (eqb n 7) (past-of b (parsed-at l i)) (crossing-of l b (parsed-at l i)))))
 
 -- ---- the steps
-
-abbrev pub first-or : Option ℕ → ℕ → ℕ
-first-or none n = n
-first-or (some i) n = i
 
 -- the first record at which number n offends, or the count of records
 pub first-offending : ℕ → Kind → List ℕ → ℕ → ℕ

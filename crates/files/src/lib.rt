@@ -9,3 +9,4 @@ pub mod property;
 pub mod record;
 pub mod refusal;
 pub mod rules;
+pub mod sides;

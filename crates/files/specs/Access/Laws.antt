@@ -35,7 +35,7 @@ use Rattle.files.specs.declared.record.Parsed.the-variants.{Node as Node
 
 -- ---- what a record of an accepted file reads as
 
-not-wrong : (k : Kind) (l : List ℕ) → AcceptedAs k l → (i : ℕ) → i < count l → T (not (wrong (record-at l i)))
+pub not-wrong : (k : Kind) (l : List ℕ) → AcceptedAs k l → (i : ℕ) → i < count l → T (not (wrong (record-at l i)))
 not-wrong k l a i h = not-T (wrong (record-at l i)) (λ t. none-applies (a .limits) k l (a .accepted) 3 i (h, (says-wrong (record-at l i)) .say t))
 
 module _ (l : List ℕ) (a : AcceptedAs graph l) where

@@ -1,0 +1,26 @@
+use Rattle.files.proofs.Tags.{no-foreign-call}
+use borrow.Author.Needs.{needs}
+use Rattle.files.proofs.sides.foreign_call.Statement.{statement}
+use Rattle.files.proofs.sides.foreign_call.Tie as tie
+use Rattle.files.proofs.sides.foreign_call.Reads as reads
+use Rattle.files.proofs.sides.foreign_call.Lts as lts
+use Rattle.files.proofs.interface.requires_method.Reads as requires-method-reads
+
+-- src/sides.rt:31:24
+enum-known-p : tie.Need-enum-known-p
+enum-known-p c = search needs
+
+-- src/sides.rt:32:9
+returns : tie.Need-returns
+returns c = no-foreign-call _ (c .before .before .args .p) (c .match .keys2)
+
+-- src/sides.rt:34:20
+requires-method-requires : tie.Need-requires-method-requires
+requires-method-requires c κs = search needs
+
+-- src/sides.rt:27:1
+returns-2 : tie.Need-returns-2
+returns-2 c = rw (c .before .before .p .given .1, c .requires-method .ensures)
+
+pub foreign-call-spec : {M : Type 1} → statement M
+foreign-call-spec = tie.close (tie.spec enum-known-p returns requires-method-requires returns-2)

@@ -1,0 +1,26 @@
+use Rattle.files.proofs.Tags.{no-foreign-node}
+use borrow.Author.Needs.{needs}
+use Rattle.files.proofs.sides.foreign_node.Statement.{statement}
+use Rattle.files.proofs.sides.foreign_node.Tie as tie
+use Rattle.files.proofs.sides.foreign_node.Reads as reads
+use Rattle.files.proofs.sides.foreign_node.Lts as lts
+use Rattle.files.proofs.interface.provides.Reads as provides-reads
+
+-- src/sides.rt:20:24
+enum-known-p : tie.Need-enum-known-p
+enum-known-p c = search needs
+
+-- src/sides.rt:21:9
+returns : tie.Need-returns
+returns c = no-foreign-node _ (c .before .before .args .p) (c .match .keys2)
+
+-- src/sides.rt:23:6
+provides-requires : tie.Need-provides-requires
+provides-requires c κs = search needs
+
+-- src/sides.rt:16:1
+returns-2 : tie.Need-returns-2
+returns-2 c = rw (c .before .before .p .given .1, c .provides .ensures)
+
+pub foreign-node-spec : {M : Type 1} → statement M
+foreign-node-spec = tie.close (tie.spec enum-known-p returns provides-requires returns-2)

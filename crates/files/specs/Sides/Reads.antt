@@ -1,0 +1,42 @@
+-- Refusal 9 on records as they read: in an accepted graph the two tests agree, and a scan finds the first record that is not of the interface.
+use mathlib.Core.Path.{_≡_, sym, ap, _∙_}
+use mathlib.Core.Bool.{true, false}
+use mathlib.Core.List.{List}
+use mathlib.Core.Option.{Option, none, some}
+use Prim.Native.Nat.{ℕ, suc, _<_}
+use native.Mathlib.Decide.{decLt}
+use native.Mathlib.Omega.{arith}
+use Rattle.files.specs.Basics.First.{first-where, first-same, first-hit}
+use Rattle.files.specs.Record.{record-at, count, parsed}
+use Rattle.files.specs.Record.Laws.{parsed-node, parsed-edge}
+use Rattle.files.specs.Interface.{Interface}
+use Rattle.files.specs.Refusal.{graph, nodes-of}
+use Rattle.files.specs.Decode.Graphs.{is-node, is-edge}
+use Rattle.files.specs.Access.{AcceptedAs}
+use Rattle.files.specs.Access.Laws.{not-wrong}
+use Rattle.files.specs.Sides.{foreign, foreign-of, first-foreign, first-foreign-record}
+
+module _ (I : Interface) (l : List ℕ) (a : AcceptedAs graph l) where
+  reads : (i : ℕ) → i < count l → foreign-of I (parsed (record-at l i)) ≡ foreign I l i
+  reads i h = go (decLt i (nodes-of l))
+    where
+      go : Dec (i < nodes-of l) → foreign-of I (parsed (record-at l i)) ≡ foreign I l i
+      go (yes b) =
+          let k = is-node (a .limits) l (a .accepted) i b in
+          rw (parsed-node (record-at l i) (not-wrong graph l a i h) k, k)
+      go (no b) =
+          let k = is-edge (a .limits) l (a .accepted) i (omega arith) h in
+          rw (parsed-edge (record-at l i) (not-wrong graph l a i h) k, k)
+
+  same : first-where (λ i. foreign-of I (parsed (record-at l i))) (count l) ≡ first-foreign I l
+  unfolding first-foreign
+  same = first-same (λ i. foreign-of I (parsed (record-at l i))) (foreign I l) (count l) reads
+
+  pub foreign-at : (i : ℕ) → i < count l → first-where (λ i. foreign-of I (parsed (record-at l i))) i ≡ none → foreign-of I (parsed (record-at l i)) ≡ true → first-foreign-record I l ≡ i
+  unfolding first-foreign-record
+  foreign-at i h e t =
+      rw (← same, first-hit (λ i. foreign-of I (parsed (record-at l i))) (count l) i h e (rw t tt))
+
+  pub foreign-never : first-where (λ i. foreign-of I (parsed (record-at l i))) (count l) ≡ none → first-foreign-record I l ≡ count l
+  unfolding first-foreign-record
+  foreign-never e = rw (← same, e)

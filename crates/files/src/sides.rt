@@ -1,0 +1,60 @@
+// Refusal 9 of an accepted graph and an accepted interface: the first record of the graph that is not of the interface.
+ghost use mathlib.Core.Path.{_≡_};
+ghost use Prim.Native.Nat.{_+_, _*_, _≤_};
+ghost use lib.ListN.{length};
+ghost use Rattle.files.specs.Checking.{parsed-at};
+ghost use Rattle.files.specs.Decode.{decode-interface};
+ghost use Rattle.files.specs.Sides.{foreign-node, foreign-call, foreign-of, first-foreign-record};
+ghost use Rattle.files.specs.Access.{GraphFile, InterfaceFile};
+use crate::interface::provides;
+use crate::interface::requires_method;
+use crate::parse::parse;
+use crate::record::Parsed;
+use crate::record::Record;
+
+// A node whose method is not provided.
+fn foreign_node(p: Parsed, interface: &[u8]) -> bool
+    requires { ⌜ InterfaceFile (now interface) ⌝ }
+    ensures { λ r. ⌜ r ≡ foreign-node (decode-interface (now (interface .entry))) p ⌝ }
+{
+    let Parsed::Node { method, .. } = p else {
+        return false;
+    };
+    !provides(interface, method)
+}
+
+// An edge that calls a method that is not required.
+fn foreign_call(p: Parsed, interface: &[u8]) -> bool
+    requires { ⌜ InterfaceFile (now interface) ⌝ }
+    ensures { λ r. ⌜ r ≡ foreign-call (decode-interface (now (interface .entry))) p ⌝ }
+{
+    let Parsed::Edge { label, .. } = p else {
+        return false;
+    };
+    (0 < label) & !requires_method(interface, label)
+}
+
+// Record i is not of the interface.
+fn foreign(graph: &[u8], i: usize, interface: &[u8]) -> bool
+    requires { ⌜ (InterfaceFile (now interface)) × (6 * i + 6 ≤ length (now graph)) ⌝ }
+    ensures { λ r. ⌜ r ≡ foreign-of (decode-interface (now (interface .entry))) (parsed-at (now (graph .entry)) i) ⌝ }
+{
+    let p = parse(graph, i);
+    foreign_node(p, interface) | foreign_call(p, interface)
+}
+
+// The first record of the graph that is not of the interface, or the count of records.
+pub fn first_foreign(graph: &[u8], interface: &[u8]) -> usize
+    requires { ⌜ (GraphFile (now graph)) × (InterfaceFile (now interface)) ⌝ }
+    ensures { λ r. ⌜ r ≡ first-foreign-record (decode-interface (now (interface .entry))) (now (graph .entry)) ⌝ }
+{
+    let n = graph.len() / Record::LEN;
+    let mut i = 0;
+    while i < n {
+        if foreign(graph, i, interface) {
+            return i;
+        }
+        i += 1;
+    }
+    n
+}
