@@ -3,7 +3,7 @@ ghost use mathlib.Core.Path.{_≡_};
 ghost use Rattle.files.specs.Limits.{desk};
 ghost use Rattle.files.specs.Refusal.{graph, property, rules, interface};
 ghost use Rattle.files.specs.Checking.{checked};
-ghost use Rattle.exports.specs.Face.{refused-face, verdict-face, checked-face};
+ghost use Rattle.exports.specs.Boundary.{refused-numbers, verdict-numbers, checked-numbers};
 use files::check::Checked;
 use files::record::Limits;
 use files::refusal::Refusal;
@@ -20,7 +20,7 @@ pub struct Answer {
 }
 
 fn refused(r: Refusal) -> Answer
-    ensures { λ a. ⌜ a ≡ refused-face r ⌝ }
+    ensures { λ a. ⌜ a ≡ refused-numbers r ⌝ }
 {
     Answer {
         verdict: 0,
@@ -33,7 +33,7 @@ fn refused(r: Refusal) -> Answer
 }
 
 fn checked_answer(c: Checked) -> Answer
-    ensures { λ a. ⌜ a ≡ checked-face c ⌝ }
+    ensures { λ a. ⌜ a ≡ checked-numbers c ⌝ }
 {
     match c {
         Checked::Accepted { nodes, records } => Answer {
@@ -51,7 +51,7 @@ fn checked_answer(c: Checked) -> Answer
 // Checks a graph file as the file of position 1.
 #[no_mangle]
 pub extern "C" fn tintboulder_check_graph(file: &[u8]) -> Answer
-    ensures { λ a. ⌜ a ≡ checked-face (checked desk graph (now (file .entry)) 1) ⌝ }
+    ensures { λ a. ⌜ a ≡ checked-numbers (checked desk graph (now (file .entry)) 1) ⌝ }
 {
     checked_answer(files::check::check_graph(file, 1, Limits::desk()))
 }
@@ -59,7 +59,7 @@ pub extern "C" fn tintboulder_check_graph(file: &[u8]) -> Answer
 // Checks a property file.
 #[no_mangle]
 pub extern "C" fn tintboulder_check_property(file: &[u8]) -> Answer
-    ensures { λ a. ⌜ a ≡ checked-face (checked desk property (now (file .entry)) 1) ⌝ }
+    ensures { λ a. ⌜ a ≡ checked-numbers (checked desk property (now (file .entry)) 1) ⌝ }
 {
     checked_answer(files::check::check_property(file, 1, Limits::desk()))
 }
@@ -67,7 +67,7 @@ pub extern "C" fn tintboulder_check_property(file: &[u8]) -> Answer
 // Checks a rule file.
 #[no_mangle]
 pub extern "C" fn tintboulder_check_rules(file: &[u8]) -> Answer
-    ensures { λ a. ⌜ a ≡ checked-face (checked desk rules (now (file .entry)) 1) ⌝ }
+    ensures { λ a. ⌜ a ≡ checked-numbers (checked desk rules (now (file .entry)) 1) ⌝ }
 {
     checked_answer(files::check::check_rules(file, 1, Limits::desk()))
 }
@@ -75,7 +75,7 @@ pub extern "C" fn tintboulder_check_rules(file: &[u8]) -> Answer
 // Checks an interface file.
 #[no_mangle]
 pub extern "C" fn tintboulder_check_interface(file: &[u8]) -> Answer
-    ensures { λ a. ⌜ a ≡ checked-face (checked desk interface (now (file .entry)) 1) ⌝ }
+    ensures { λ a. ⌜ a ≡ checked-numbers (checked desk interface (now (file .entry)) 1) ⌝ }
 {
     checked_answer(files::check::check_interface(file, 1, Limits::desk()))
 }

@@ -6,14 +6,14 @@ use Rattle.files.specs.declared.refusal.Refusal.{Refusal}
 use Rattle.exports.specs.declared.Answer.{Answer}
 
 -- verdict 0: the refusal's number, then file and record
-abbrev pub refused-face : Refusal → Answer
-refused-face r = record { verdict = 0; number = r .number; first = r .file; second = r .«record»; third = 0; fourth = 0 }
+abbrev pub refused-numbers : Refusal → Answer
+refused-numbers r = record { verdict = 0; number = r .number; first = r .file; second = r .«record»; third = 0; fourth = 0 }
 
 -- a verdict with its values
-abbrev pub verdict-face : ℕ → ℕ → ℕ → ℕ → ℕ → Answer
-verdict-face v a b c d = record { verdict = v; number = 0; first = a; second = b; third = c; fourth = d }
+abbrev pub verdict-numbers : ℕ → ℕ → ℕ → ℕ → ℕ → Answer
+verdict-numbers v a b c d = record { verdict = v; number = 0; first = a; second = b; third = c; fourth = d }
 
 -- a file accepted is verdict 1 with its nodes and its records
-abbrev pub checked-face : Checked → Answer
-checked-face (Accepted nodes records) = verdict-face 1 nodes records 0 0
-checked-face (Refused r) = refused-face r
+abbrev pub checked-numbers : Checked → Answer
+checked-numbers (Accepted nodes records) = verdict-numbers 1 nodes records 0 0
+checked-numbers (Refused r) = refused-numbers r
