@@ -2,7 +2,7 @@
 use mathlib.Core.Path.{_≡_}
 use mathlib.Core.Bool.{Bool, true, not, _&&_}
 use mathlib.Core.List.{List, List·Memᴰ}
-use Prim.Native.Nat.{ℕ, zero, suc, _<_}
+use Prim.Native.Nat.{ℕ, zero, suc, _*_, _<_}
 use lib.Dec.{T, eqb, ltb}
 use Rattle.files.specs.Basics.Tests.{imp, same, all, any, upto}
 use Rattle.files.specs.Basics.Lists.{each, span}
