@@ -11,6 +11,7 @@ use Rattle.files.specs.Graph.{Graph, Edge, size, node}
 use Rattle.files.specs.Property.{Row, always, never, returns, not-returns, in-method, not-in-method, both, either, box, row, obliged}
 pub mod Laws
 pub mod Ranks
+pub mod Onward
 pub mod Sheet
 pub mod Examples
 

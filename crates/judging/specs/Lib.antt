@@ -1,4 +1,6 @@
+pub mod Chains
 pub mod Levels
+pub mod Ranking
 pub mod Simulation
 pub mod Judge
 pub mod Compare
