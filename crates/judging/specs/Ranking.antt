@@ -1,7 +1,7 @@
 -- Ranks in a lent buffer, as they are found level by level: the rank of each pair that is false, and a queue of these pairs in the order of their ranks.
 use mathlib.Core.Path.{_≡_}
 use mathlib.Core.Logic.{_⊎_}
-use mathlib.Core.Bool.{Bool, not, cond}
+use mathlib.Core.Bool.{Bool, not, cond, _&&_, _||_}
 use mathlib.Core.List.{List}
 use Prim.Native.Nat.{ℕ, suc, _+_, _*_, _-_, _≤_, _<_}
 use lib.Dec.{T, eqb}
@@ -15,9 +15,10 @@ use Rattle.files.specs.Property.{Row, row}
 use Rattle.files.specs.Record.{count}
 use Rattle.files.specs.Refusal.{nodes-of}
 use Rattle.judging.specs.declared.shape.Shape.{Shape}
-use Rattle.judging.specs.Chains.{Index}
+use Rattle.judging.specs.Chains.{Index, named, is-row}
 use Rattle.judging.specs.Levels.{level, holds, rank}
 use Rattle.judging.specs.Levels.Onward.{Leans, first-false}
+pub mod Stores
 pub mod Laws
 
 -- the files are accepted, their counts are the shape's, and fit the buffer's strides
@@ -56,6 +57,14 @@ tail-after w tail g r = cond (eqb (rank-at w g r) 0) (suc tail) tail
 abbrev pub ranked : List ℕ → ℕ → ℕ
 ranked w n = tally (λ (p : ℕ). not (eqb (cell w 0 2 p) 0)) (32 * n)
 
+-- whether a row without operands is false of a node, by its operator and method and the node's method and return flag
+abbrev pub leaf-false : ℕ → ℕ → ℕ → Bool → Bool
+leaf-false o a m f = eqb o 2 || (eqb o 3 && not (eqb m a)) || (eqb o 4 && eqb m a) || (eqb o 5 && not f) || (eqb o 6 && f)
+
+-- a row names row r
+abbrev pub Names : Row → ℕ → Type 0
+Names x r = (i : ℕ) × T (is-row (named x i) r)
+
 module _ (G : Graph) (P : List Row) where
   -- place i of the queue holds a pair that is false at level k
   pub record Queued (k : ℕ) (w : List ℕ) (i : ℕ) : Type 0 where
@@ -68,7 +77,7 @@ module _ (G : Graph) (P : List Row) where
 
   -- its rank is that of level k, or it turned false at level k + 1 and has rank k + 1 already
   abbrev pub RankBy : ℕ → List ℕ → ℕ → ℕ → Type 0
-  RankBy k w g r = (rank-at w g r ≡ first-false G P k g r) ⊎ (T (level G P k g r) × (T (not (level G P (suc k) g r)) × (rank-at w g r ≡ suc k)))
+  RankBy k w g r = (rank-at w g r ≡ first-false G P k g r) ⊎ (T (level G P k g r) × T (not (level G P (suc k) g r)) × (rank-at w g r ≡ suc k))
 
   -- while level k + 1 is found: ranks up to k are there, rank k + 1 only where it belongs; `tail` pairs have a rank, and stand in the queue
   pub record Finding (k tail : ℕ) (w : List ℕ) : Type 0 where
@@ -83,7 +92,7 @@ module _ (G : Graph) (P : List Row) where
   pub record Grew (k tail tail′ : ℕ) (w w′ : List ℕ) : Type 0 where
     pub finding : Finding k tail′ w′
     pub longer : tail ≤ tail′
-    pub given-kept : (g r : ℕ) → Given w g r → Given w′ g r
+    pub given-kept : (g r : ℕ) → g < size G → r < length P → Given w g r → Given w′ g r
     pub queue-kept : (i : ℕ) → i < tail → queue-at w′ i ≡ queue-at w i
     pub new-queued : (g r : ℕ) → g < size G → r < length P → Given w′ g r → Given w g r ⊎ ((i : ℕ) × (tail ≤ i) × (i < tail′) × (queue-at w′ i ≡ pair g r))
 
