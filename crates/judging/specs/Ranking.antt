@@ -19,6 +19,7 @@ use Rattle.judging.specs.Chains.{Index, named, is-row}
 use Rattle.judging.specs.Levels.{level, holds, rank}
 use Rattle.judging.specs.Levels.Onward.{Leans, first-false}
 pub mod Stores
+pub mod Files
 pub mod Laws
 
 -- the files are accepted, their counts are the shape's, and fit the buffer's strides

@@ -11,8 +11,8 @@ use lib.Dec.{T, eqb, eqb→eq, eqb-refl}
 use lib.ListN.{length, getD}
 use Rattle.files.specs.Basics.Tests.{eq-eqb}
 use Rattle.files.specs.Cells.{cell, put-cell}
-use Rattle.files.specs.Cells.Laws.{length-put-cell, cell-same, cell-apart, cell-other, cell-agree}
-use Rattle.judging.specs.Chains.{last-where, Chained, linked}
+use Rattle.files.specs.Cells.Laws.{length-put-cell, byte-outside, cell-same, cell-apart, cell-other, cell-agree, cell-two}
+use Rattle.judging.specs.Chains.{last-where, Chained, linked, Outside}
 
 -- ---- the last number that passes
 
@@ -49,6 +49,36 @@ module _ (w w′ : List ℕ) (heads nexts : ℕ) (p : ℕ → ℕ → Bool) (key
   pub chained-same : ((k : ℕ) → k < keys → cell w′ heads 2 k ≡ cell w heads 2 k) → ((j : ℕ) → j < items → cell w′ nexts 2 j ≡ cell w nexts 2 j)
       → Chained w heads nexts p keys items → Chained w′ heads nexts p keys items
   chained-same f g c = record { heads-are = λ k h. f k h ∙ c .heads-are k h; nexts-are = λ k j hk hj t. g j hj ∙ c .nexts-are k j hk hj t }
+
+-- bytes that are zero make cells that are zero
+pub cell-zero : (w : List ℕ) (base i : ℕ) → ((q : ℕ) → base ≤ q → getD w q 0 ≡ 0) → cell w base 2 i ≡ 0
+cell-zero w base i f = omega (arith, cell-two w base i, f (base + 2 * i) (omega arith), f (base + 2 * i + 1) (omega arith))
+
+-- no item yet
+pub chained-none : (w : List ℕ) (heads nexts : ℕ) (p : ℕ → ℕ → Bool) (keys : ℕ) → ((q : ℕ) → heads ≤ q → getD w q 0 ≡ 0) → Chained w heads nexts p keys 0
+chained-none w heads nexts p keys f = record { heads-are = λ k h. cell-zero w heads k f; nexts-are = λ k j hk hj t. absurd (not-suc-le-zero hj) }
+
+-- what is written after both parts of a chain leaves it as it is
+pub chained-kept : (w w′ : List ℕ) (heads nexts : ℕ) (p : ℕ → ℕ → Bool) (keys items a b : ℕ) → heads + 2 * keys ≤ a → nexts + 2 * items ≤ a → Outside a b w w′
+    → Chained w heads nexts p keys items → Chained w′ heads nexts p keys items
+chained-kept w w′ heads nexts p keys items a b h n o =
+    chained-same w w′ heads nexts p keys items
+    (λ k l. cell-agree w′ w heads 2 k (λ q x y. o q (inl (omega arith))))
+    (λ j l. cell-agree w′ w nexts 2 j (λ q x y. o q (inl (omega arith))))
+
+-- ---- one item, stored
+
+pub linked-is : (w : List ℕ) (heads nexts key item : ℕ) → linked w heads nexts key item ≡ put-cell (put-cell w nexts 2 item (cell w heads 2 key)) heads 2 key (suc item)
+unfolding linked
+linked-is w heads nexts key item = refl
+
+pub linked-outside : (w : List ℕ) (heads nexts key item a b : ℕ) → a ≤ heads → heads + 2 * key + 2 ≤ b → a ≤ nexts → nexts + 2 * item + 2 ≤ b
+    → Outside a b w (linked w heads nexts key item)
+unfolding linked
+linked-outside w heads nexts key item a b h k n m q (inl l) =
+    byte-outside (put-cell w nexts 2 item (cell w heads 2 key)) heads 2 key (suc item) q (inl (omega arith)) ∙ byte-outside w nexts 2 item (cell w heads 2 key) q (inl (omega arith))
+linked-outside w heads nexts key item a b h k n m q (inr l) =
+    byte-outside (put-cell w nexts 2 item (cell w heads 2 key)) heads 2 key (suc item) q (inr (omega arith)) ∙ byte-outside w nexts 2 item (cell w heads 2 key) q (inr (omega arith))
 
 -- ---- one item more
 

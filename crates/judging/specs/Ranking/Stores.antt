@@ -200,13 +200,16 @@ module _ (G : Graph) (P : List Row) (flow : Flow G) (wf : Property P) (few-nodes
 
       grew-one : Grew G P k tail (suc tail) w after × Given after g r
       unfolding after
-      grew-one = (record {
-        finding = found-after;
-        longer = omega arith;
-        given-kept = λ u q hu hq x e. old u q hu hq x e (ℕ-discrete (pair g r) (pair u q));
-        queue-kept = λ i h. queue-there w tail (pair g r) k in-ranks in-queue (f .room) (f .low) i h;
-        new-queued = λ u q hu hq x. new u q hu hq x (ℕ-discrete (pair g r) (pair u q));
-      }, λ e. omega (arith, here))
+      grew-one = (
+        record {
+          finding = found-after;
+          longer = omega arith;
+          given-kept = λ u q hu hq x e. old u q hu hq x e (ℕ-discrete (pair g r) (pair u q));
+          queue-kept = λ i h. queue-there w tail (pair g r) k in-ranks in-queue (f .room) (f .low) i h;
+          new-queued = λ u q hu hq x. new u q hu hq x (ℕ-discrete (pair g r) (pair u q));
+        },
+        λ e. omega (arith, here),
+      )
         where
           old : (u q : ℕ) → u < size G → q < length P → Given w u q → rank-at (pushed w tail (pair g r) k) u q ≡ 0 → Dec (pair g r ≡ pair u q) → ⊥
           old u q hu hq x e (yes d) = omega (arith, here, ap (cell (pushed w tail (pair g r) k) 0 2) d)

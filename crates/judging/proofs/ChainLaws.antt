@@ -1,0 +1,173 @@
+-- For the code that builds the chains: the row that a record names, a list of zeros, and one edge or place more.
+use mathlib.Core.Path.{_≡_, refl, sym, ap, subst, _∙_}
+use mathlib.Core.Logic.{inl, inr}
+use mathlib.Core.Bool.{Bool, true, false, not, cond}
+use mathlib.Core.List.{List}
+use mathlib.Core.Option.{Option, none, some}
+use Prim.Native.Nat.{ℕ, _+_, _*_, _/_, _%_, _≤_, _<_}
+use native.Mathlib.Decide.{ℕ-discrete, decLt}
+use native.Mathlib.Numerals.{add-one}
+use native.Mathlib.Omega.{arith}
+use lib.Dec.{eqb}
+use lib.ListN.{length, getD, replicate, getD-replicate, List·getD-eq-default}
+use borrow.Author.Tests.{eq-eqb, ne-eqb}
+use Rattle.files.specs.Basics.Lists.{index-e}
+use Rattle.files.specs.Graph.{size, no-edge}
+use Rattle.files.specs.Property.{Row, always, never, returns, not-returns, in-method, not-in-method, both, either, box, row}
+use Rattle.files.specs.Access.{row-held}
+use Rattle.files.specs.Cells.{cell, put-cell}
+use Rattle.files.specs.Decode.{decode-graph, decode-property}
+use Rattle.files.specs.Decode.Graphs.{decoded-flow}
+use Rattle.files.specs.declared.property.PropertyRow.{PropertyRow}
+use Rattle.files.specs.declared.property.RowAt.{RowAt}
+use Rattle.files.specs.declared.property.RowAt.the-variants.{Is as RowIs}
+use Rattle.judging.specs.declared.shape.Shape.{Shape}
+use Rattle.judging.specs.Chains.{Chained, Outside, linked, into, uses, named, named-or, is-row, operand-of, Index}
+use Rattle.judging.specs.Chains.Laws.{chained-none, chained-kept, linked-is, linked-outside, chain-more, chain-skip}
+use Rattle.judging.specs.Ranking.{Ready}
+use Rattle.judging.specs.Ranking.Files.{size-is, edges-is, rows-is}
+use Rattle.judging.proofs.HeldLaws.{held-row}
+
+-- ---- one item, stored by two stores
+
+pub linked-by : (w once twice : List ℕ) (heads nexts key item held : ℕ) → held ≡ cell w heads 2 key → once ≡ put-cell w nexts 2 item held → twice ≡ put-cell once heads 2 key (item + 1)
+    → twice ≡ linked w heads nexts key item
+linked-by w once twice heads nexts key item held a b c = c ∙ rw (b, a, add-one) (sym (linked-is w heads nexts key item))
+
+-- ---- the row that a record names
+
+operand-is : (x : Row) (i n : ℕ) → operand-of ((row-held x) .operator) ((row-held x) .a) ((row-held x) .b) i n ≡ named-or (named x i) n
+operand-is always i n = refl
+operand-is never i n = refl
+operand-is returns i n = refl
+operand-is not-returns i n = refl
+operand-is (in-method a) i n = refl
+operand-is (not-in-method a) i n = refl
+operand-is (both a b) i n = refl
+operand-is (either a b) i n = refl
+operand-is (box l b) i n = go (eqb i 0)
+  where
+    go : (c : Bool) → cond (not c) b n ≡ named-or (cond c none (some b)) n
+    go true = refl
+    go false = refl
+
+-- what the operands of row v, read as u, name
+pub row-names : (x : RowAt) (u : PropertyRow) (v : Row) (i n r : ℕ) → x ≡ RowIs u → x ≡ RowIs (row-held v) → r ≡ operand-of (u .operator) (u .a) (u .b) i n → r ≡ named-or (named v i) n
+row-names x u v i n r p q e = e ∙ ap (λ (y : PropertyRow). operand-of (y .operator) (y .a) (y .b) i n) (held-row x u v p q) ∙ operand-is v i n
+
+-- ---- bytes
+
+-- every byte of a list of zeros is zero, and so is what is read past its end
+pub zero-byte : (w : List ℕ) → w ≡ replicate (length w) 0 → (q : ℕ) → getD w q 0 ≡ 0
+zero-byte w e q = go (decLt q (length w))
+  where
+    go : Dec (q < length w) → getD w q 0 ≡ 0
+    go (yes h) = ap (λ (l : List ℕ). getD l q 0) e ∙ getD-replicate {A = ℕ} (length w) q 0 0 h
+    go (no h) = List·getD-eq-default w 0 (omega arith)
+
+same-test : (m n : ℕ) → eqb m n ≡ eqb n m
+same-test m n = go (ℕ-discrete m n)
+  where
+    go : Dec (m ≡ n) → eqb m n ≡ eqb n m
+    go (yes e) = eq-eqb m n e ∙ sym (eq-eqb n m (sym e))
+    go (no f) = ne-eqb m n f ∙ sym (ne-eqb n m (λ e. f (sym e)))
+
+module _ (s : Shape) (g p : List ℕ) (ready : Ready s g p) where
+  -- ---- edges
+
+  abbrev to-of : ℕ → ℕ
+  to-of e = (getD ((decode-graph g) .edges) e no-edge) .to
+
+  pub to-below : (e : ℕ) → e < s .edges → to-of e < size (decode-graph g)
+  to-below e h =
+      (decoded-flow (ready .graph-file .limits) g (ready .graph-file .accepted)) .to-node (getD ((decode-graph g) .edges) e no-edge)
+      (index-e no-edge ((decode-graph g) .edges) e (omega (arith, edges-is s g p ready)))
+
+  module _ (w : List ℕ) (e key : ℕ) (is : key ≡ to-of e) (h : e < s .edges) where
+    -- where the edge is linked
+    pub key-below : key < 256
+    key-below = omega (arith, is, to-below e h, size-is s g p ready, ready .few-nodes)
+
+    edge-linked : 41664 ≤ length w → Chained w 32768 33280 (into (decode-graph g)) (size (decode-graph g)) e
+        → Chained (linked w 32768 33280 key e) 32768 33280 (into (decode-graph g)) (size (decode-graph g)) (e + 1)
+    edge-linked room c =
+        subst (Chained (linked w 32768 33280 key e) 32768 33280 (into (decode-graph g)) (size (decode-graph g))) (sym (add-one e))
+        (chain-more w 32768 33280 (into (decode-graph g)) (size (decode-graph g)) e key
+        (omega (arith, is, to-below e h))
+        (omega (arith, size-is s g p ready, ready .few-nodes))
+        (omega (arith, ready .few-edges))
+        (omega (arith, ready .few-edges))
+        (λ k l. same-test (to-of e) k ∙ ap (eqb k) (sym is))
+        c)
+
+    edge-outside : Outside 32768 41472 w (linked w 32768 33280 key e)
+    edge-outside =
+        linked-outside w 32768 33280 key e 32768 41472 (omega arith) (omega (arith, key-below)) (omega arith) (omega (arith, ready .few-edges))
+
+    -- one edge more
+    pub edge-on : (w₀ w′ : List ℕ) → 41664 ≤ length w → Chained w 32768 33280 (into (decode-graph g)) (size (decode-graph g)) e → Outside 32768 41472 w₀ w → w′ ≡ linked w 32768 33280 key e
+        → Chained w′ 32768 33280 (into (decode-graph g)) (size (decode-graph g)) (e + 1) × Outside 32768 41472 w₀ w′
+    edge-on w₀ w′ room c o d =
+        subst (λ (v : List ℕ). Chained v 32768 33280 (into (decode-graph g)) (size (decode-graph g)) (e + 1) × Outside 32768 41472 w₀ v) (sym d)
+        (edge-linked room c, λ q x. edge-outside q x ∙ o q x)
+
+  -- ---- places
+
+  module _ (w : List ℕ) (j key : ℕ) (h : j < 2 * s .rows) (c : Chained w 41472 41536 (uses (decode-property p)) (s .rows) j) where
+    abbrev P : List Row
+    P = decode-property p
+
+    place-linked : 41664 ≤ length w → key ≡ named-or (named (row P (j / 2)) (j % 2)) (s .rows) → key < s .rows
+        → Chained (linked w 41472 41536 key j) 41472 41536 (uses P) (s .rows) (j + 1)
+    place-linked room e l =
+        subst (Chained (linked w 41472 41536 key j) 41472 41536 (uses P) (s .rows)) (sym (add-one j))
+        (chain-more w 41472 41536 (uses P) (s .rows) j key l
+        (omega (arith, ready .few-rows))
+        (omega (arith, ready .few-rows))
+        (omega (arith, ready .few-rows))
+        (λ k m. only (named (row P (j / 2)) (j % 2)) e k)
+        c)
+      where
+        only : (o : Option ℕ) → key ≡ named-or o (s .rows) → (k : ℕ) → is-row o k ≡ eqb k key
+        only none e k = absurd (omega arith)
+        only (some q) e k = same-test q k ∙ ap (eqb k) (sym e)
+
+    place-outside : key < s .rows → Outside 41472 41664 w (linked w 41472 41536 key j)
+    place-outside l =
+        linked-outside w 41472 41536 key j 41472 41664 (omega arith) (omega (arith, ready .few-rows)) (omega arith) (omega (arith, ready .few-rows))
+
+    -- a place that names a row
+    pub place-on : (w′ : List ℕ) → 41664 ≤ length w → key ≡ named-or (named (row P (j / 2)) (j % 2)) (s .rows) → key < s .rows → w′ ≡ linked w 41472 41536 key j
+        → Chained w′ 41472 41536 (uses P) (s .rows) (j + 1) × Outside 41472 41664 w w′
+    place-on w′ room e l d =
+        subst (λ (v : List ℕ). Chained v 41472 41536 (uses P) (s .rows) (j + 1) × Outside 41472 41664 w v) (sym d) (place-linked room e l, place-outside l)
+
+    -- a place that names none
+    pub place-skipped : key ≡ named-or (named (row P (j / 2)) (j % 2)) (s .rows) → s .rows ≤ key → Chained w 41472 41536 (uses P) (s .rows) (j + 1)
+    place-skipped e l =
+        subst (Chained w 41472 41536 (uses P) (s .rows)) (sym (add-one j)) (chain-skip w 41472 41536 (uses P) (s .rows) j (λ k m. skips (named (row P (j / 2)) (j % 2)) e k m) c)
+      where
+        skips : (o : Option ℕ) → key ≡ named-or o (s .rows) → (k : ℕ) → k < s .rows → is-row o k ≡ false
+        skips none e k m = refl
+        skips (some q) e k m = ne-eqb q k (λ d. omega arith)
+
+  -- ---- both chains
+
+  -- nothing stands after the chains of edges
+  pub places-none : (w₀ w : List ℕ) → w₀ ≡ replicate (length w₀) 0 → Outside 32768 41472 w₀ w → Chained w 41472 41536 (uses (decode-property p)) (s .rows) 0
+  places-none w₀ w z o = chained-none w 41472 41536 (uses (decode-property p)) (s .rows) (λ q l. o q (inr l) ∙ zero-byte w₀ z q)
+
+  pub edges-none : (w : List ℕ) → w ≡ replicate (length w) 0 → Chained w 32768 33280 (into (decode-graph g)) (size (decode-graph g)) 0
+  edges-none w z = chained-none w 32768 33280 (into (decode-graph g)) (size (decode-graph g)) (λ q l. zero-byte w z q)
+
+  pub indexed : (w w′ : List ℕ) → Chained w 32768 33280 (into (decode-graph g)) (size (decode-graph g)) (length ((decode-graph g) .edges)) → Outside 41472 41664 w w′
+      → Chained w′ 41472 41536 (uses (decode-property p)) (s .rows) (2 * s .rows) → Index (decode-graph g) (decode-property p) w′
+  indexed w w′ c o d = record {
+    by-node = chained-kept w w′ 32768 33280 (into (decode-graph g)) (size (decode-graph g)) (length ((decode-graph g) .edges)) 41472 41664 (omega (arith, size-is s g p ready, ready .few-nodes)) (omega (arith, edges-is s g p ready, ready .few-edges)) o c;
+    by-row = subst (λ (n : ℕ). Chained w′ 41472 41536 (uses (decode-property p)) n (2 * n)) (sym (rows-is s g p ready)) d;
+  }
+
+-- a byte outside both chains
+pub outside-both : (w₀ w w′ : List ℕ) → Outside 32768 41472 w₀ w → Outside 41472 41664 w w′ → Outside 32768 41664 w₀ w′
+outside-both w₀ w w′ f g q (inl h) = g q (inl (omega arith)) ∙ f q (inl h)
+outside-both w₀ w w′ f g q (inr h) = g q (inr h) ∙ f q (inr (omega arith))

@@ -1,0 +1,109 @@
+// The chains of judging: edges by the node they lead to, operands by the row they name. `index` states that both stand in the lent buffer.
+ghost use mathlib.Core.Path.{_≡_};
+ghost use Prim.Native.Nat.{_+_, _*_, _/_, _%_, _≤_, _<_};
+ghost use lib.ListN.{length, getD, replicate};
+ghost use Rattle.files.specs.Graph.{size, no-edge};
+ghost use Rattle.files.specs.Property.{row};
+ghost use Rattle.files.specs.Decode.{decode-graph, decode-property};
+ghost use Rattle.judging.specs.Chains.{Chained, Outside, linked, into, uses, named, named-or, operand-of, Index};
+ghost use Rattle.judging.specs.Ranking.{Ready};
+use crate::shape::Shape;
+use files::cells::get16;
+use files::cells::put16;
+use files::graph::EdgeAt;
+use files::graph::edge_at;
+use files::property::RowAt;
+use files::property::row_at;
+
+// Puts an item at the head of a key's chain.
+fn link(work: &mut [u8], heads: usize, nexts: usize, key: usize, item: usize)
+    requires { ⌜ (heads + 2 * key + 2 ≤ length (now work)) × ((nexts + 2 * item + 2 ≤ length (now work)) × (item < 65535)) ⌝ }
+    ensures { λ _. ⌜ now (work .exit) ≡ linked (now (work .entry)) heads nexts key item ⌝ }
+{
+    let before = get16(work, heads, key);
+    put16(work, nexts, item, before);
+    put16(work, heads, key, (item + 1) as u16);
+}
+
+// The node that edge e leads to.
+fn edge_target(graph: &[u8], property: &[u8], s: Shape, e: usize) -> usize
+    requires { ⌜ (Ready s (now graph) (now property)) × (e < s .edges) ⌝ }
+    ensures { λ r. ⌜ r ≡ (getD ((decode-graph (now (graph .entry))) .edges) e no-edge) .to ⌝ }
+{
+    let EdgeAt::Is(edge) = edge_at(graph, s.nodes, e, 0) else {
+        return 0;
+    };
+    edge.to
+}
+
+// Operand i of a row, or n: 7 and 8 take rows a and b, 9 takes row b.
+fn operand(operator: u8, a: u8, b: u8, i: usize, n: usize) -> usize
+    ensures { λ r. ⌜ r ≡ operand-of operator a b i n ⌝ }
+{
+    if (operator == 7) | (operator == 8) {
+        if i == 0 {
+            return a as usize;
+        }
+        return b as usize;
+    }
+    if (operator == 9) & !(i == 0) {
+        return b as usize;
+    }
+    n
+}
+
+// The row that place j names: place 2 q + i is operand i of row q. `s.rows` where it names none.
+fn row_named(graph: &[u8], property: &[u8], s: Shape, j: usize) -> usize
+    requires { ⌜ (Ready s (now graph) (now property)) × (j < 2 * s .rows) ⌝ }
+    ensures { λ r. ⌜ r ≡ named-or (named (row (decode-property (now (property .entry))) (j / 2)) (j % 2)) (s .rows) ⌝ }
+{
+    let RowAt::Is(row) = row_at(property, j / 2, 0) else {
+        return s.rows;
+    };
+    operand(row.operator, row.a, row.b, j % 2, s.rows)
+}
+
+// Links every edge to the node that it leads to.
+fn link_edges(graph: &[u8], property: &[u8], s: Shape, work: &mut [u8])
+    requires { ⌜ (Ready s (now graph) (now property)) × ((now work ≡ replicate (length (now work)) 0) × (41664 ≤ length (now work))) ⌝ }
+    ensures { λ _. ⌜ (Chained (now (work .exit)) 32768 33280 (into (decode-graph (now (graph .entry)))) (size (decode-graph (now (graph .entry)))) (length ((decode-graph (now (graph .entry))) .edges))) × (Outside 32768 41472 (now (work .entry)) (now (work .exit))) ⌝ }
+{
+    let mut e = 0;
+    while e < s.edges {
+        let to = edge_target(graph, property, s, e);
+        link(work, Shape::NODE_HEADS, Shape::NODE_NEXTS, to, e);
+        e += 1;
+    }
+}
+
+// Links place j to the row that it names, if any.
+fn link_place(graph: &[u8], property: &[u8], s: Shape, work: &mut [u8], j: usize)
+    requires { ⌜ (Ready s (now graph) (now property)) × ((j < 2 * s .rows) × ((41664 ≤ length (now work)) × (Chained (now work) 41472 41536 (uses (decode-property (now property))) (s .rows) j))) ⌝ }
+    ensures { λ _. ⌜ (Chained (now (work .exit)) 41472 41536 (uses (decode-property (now (property .entry)))) (s .rows) (j + 1)) × (Outside 41472 41664 (now (work .entry)) (now (work .exit))) ⌝ }
+{
+    let key = row_named(graph, property, s, j);
+    if key < s.rows {
+        link(work, Shape::ROW_HEADS, Shape::ROW_NEXTS, key, j);
+    }
+}
+
+// Links every operand to the row that it names.
+fn link_places(graph: &[u8], property: &[u8], s: Shape, work: &mut [u8])
+    requires { ⌜ (Ready s (now graph) (now property)) × ((41664 ≤ length (now work)) × (Chained (now work) 41472 41536 (uses (decode-property (now property))) (s .rows) 0)) ⌝ }
+    ensures { λ _. ⌜ (Chained (now (work .exit)) 41472 41536 (uses (decode-property (now (property .entry)))) (s .rows) (2 * s .rows)) × (Outside 41472 41664 (now (work .entry)) (now (work .exit))) ⌝ }
+{
+    let mut j = 0;
+    while j < 2 * s.rows {
+        link_place(graph, property, s, work, j);
+        j += 1;
+    }
+}
+
+// Builds both chains in a buffer that is zero; the bytes before them stay zero.
+pub fn index(graph: &[u8], property: &[u8], s: Shape, work: &mut [u8])
+    requires { ⌜ (Ready s (now graph) (now property)) × ((now work ≡ replicate (length (now work)) 0) × (41664 ≤ length (now work))) ⌝ }
+    ensures { λ _. ⌜ (Index (decode-graph (now (graph .entry))) (decode-property (now (property .entry))) (now (work .exit))) × (Outside 32768 41664 (now (work .entry)) (now (work .exit))) ⌝ }
+{
+    link_edges(graph, property, s, work);
+    link_places(graph, property, s, work);
+}
