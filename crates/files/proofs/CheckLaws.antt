@@ -11,15 +11,15 @@ use Rattle.files.specs.Basics.Tests.{one}
 use Rattle.files.specs.Basics.Tables.{tally, tally-le}
 use Rattle.files.specs.Basics.First.{first-where, first-miss}
 use Rattle.files.specs.Record.{kind-at, count, part}
-use Rattle.files.specs.Refusal.{edge-before, Kind, graph, property, rules, interface, of-kind, nodes-of, missing}
-use Rattle.files.specs.Checking.{parsed-at, edges-out, rules-out, disordered-at, bound-with, bound-of, number-step, first-offending, over, checked, from-two, from-five, from-seven}
+use Rattle.files.specs.Refusal.{edge-before, Kind, graph, property, rules, interface, missing}
+use Rattle.files.specs.Checking.{parsed-at, edges-out, rules-out, disordered-at, counts, counted, nodes-in, nodes-with, bound-with, bound-of, missing-with, number-step, first-offending, over, checked, from-two, from-five, from-seven}
 use lib.ListN.{length, take, drop}
 use borrow.Author.Tests.{lt-ltb, le-ltb}
 use Rattle.files.specs.Outcome.{refusal-at}
 use Rattle.files.specs.declared.check.Checked.{Checked}
 use Rattle.files.specs.declared.check.Checked.the-variants.{Accepted, Refused}
 use Rattle.files.specs.declared.record.Limits.{Limits}
-use Rattle.files.specs.Checking.Laws.{from-five-is, from-one-is, checked-steps}
+use Rattle.files.specs.Checking.Laws.{counted-is, from-five-is, from-one-is, checked-steps}
 use Rattle.files.specs.Record.Laws.{part-length}
 
 pub edge-before-at : (l : List ℕ) (i : ℕ) → (i ≡ 0 → ⊥) → eqb (kind-at l (i - 1)) 2 ≡ edge-before l i
@@ -47,17 +47,29 @@ scan-on p i e f = let q : i + 1 ≡ suc i = omega arith in ap (first-where p) q 
 
 -- ---- bounds and steps
 
-pub bound-is : (k : Kind) (l : List ℕ) (n c : ℕ) → n ≡ nodes-of l → c ≡ count l → bound-with k n c ≡ bound-of k l
-bound-is graph l n c e f = e
-bound-is property l n c e f = f
-bound-is rules l n c e f = f
-bound-is interface l n c e f = f
+pub counted-le : (k : Kind) (l : List ℕ) → counted k l ≤ count l
+counted-le k l = rw (counted-is k l) (tally-le (counts k l) (count l))
+
+pub bound-is : (k : Kind) (l : List ℕ) (c : ℕ) → c ≡ counted k l → bound-with k c (count l) ≡ bound-of k l
+bound-is k l c e = ap (λ (x : ℕ). bound-with k x (count l)) e
 
 pub bound-fits : (k : Kind) (l : List ℕ) → 6 * bound-of k l ≤ length l
-bound-fits graph l = omega (arith, tally-le (of-kind l 1) (count l))
+bound-fits graph l = omega (arith, counted-le graph l)
 bound-fits property l = omega arith
 bound-fits rules l = omega arith
 bound-fits interface l = omega arith
+
+pub nodes-are : (k : Kind) (l : List ℕ) (c : ℕ) → c ≡ counted k l → nodes-with k c ≡ nodes-in k l
+nodes-are graph l c e = e ∙ counted-is graph l
+nodes-are property l c e = refl
+nodes-are rules l c e = refl
+nodes-are interface l c e = refl
+
+pub missing-is : (k : Kind) (l : List ℕ) → missing-with k (count l) ≡ missing k l
+missing-is graph l = refl
+missing-is property l = refl
+missing-is rules l = refl
+missing-is interface l = refl
 
 pub step-taken : (n : ℕ) (k : Kind) (l : List ℕ) (b first position i : ℕ) (rest : Checked) → i ≡ first-offending n k l b → i < count l
     → Refused (refusal-at n position (first + i)) ≡ number-step n k l b first position rest

@@ -21,13 +21,20 @@ pub mod Laws
 
 -- ---- what checking answers, by the file's refusal
 
-abbrev pub checked-by : List ℕ → ℕ → Option (ℕ × ℕ) → Checked
-checked-by l position none = Accepted (nodes-of l) (count l)
-checked-by l position (some x) = Refused (refusal-at (x .0) position (x .1))
+-- the nodes of a file; only a graph has nodes
+abbrev pub nodes-in : Kind → List ℕ → ℕ
+nodes-in graph l = nodes-of l
+nodes-in property l = 0
+nodes-in rules l = 0
+nodes-in interface l = 0
+
+abbrev pub checked-by : Kind → List ℕ → ℕ → Option (ℕ × ℕ) → Checked
+checked-by k l position none = Accepted (nodes-in k l) (count l)
+checked-by k l position (some x) = Refused (refusal-at (x .0) position (x .1))
 
 -- "its lowest number among 1..8", with the file's position
 pub checked : Limits → Kind → List ℕ → ℕ → Checked
-checked L k l position = checked-by l position (refusal L k l)
+checked L k l position = checked-by k l position (refusal L k l)
 
 -- ---- tests on records as they read
 
@@ -141,32 +148,53 @@ abbrev pub number-step : ℕ → Kind → List ℕ → ℕ → ℕ → ℕ → C
 number-step n k l b first position rest =
     cond (ltb (first-offending n k l b) (count l)) (Refused (refusal-at n position (first + first-offending n k l b))) rest
 
--- of nodes and records, the number that bounds what records name
+-- whether number 5 counts record i apart: a node of a graph, an or-row of a property
+abbrev pub counts : Kind → List ℕ → ℕ → Bool
+counts graph l i = of-kind l 1 i
+counts property l i = is-or-of (parsed-at l i)
+counts rules l i = false
+counts interface l i = false
+
+pub counted : Kind → List ℕ → ℕ
+counted k l = tally (counts k l) (count l)
+
+-- the nodes among so many records that number 5 counted; only a graph has nodes
+abbrev pub nodes-with : Kind → ℕ → ℕ
+nodes-with graph c = c
+nodes-with property c = 0
+nodes-with rules c = 0
+nodes-with interface c = 0
+
+-- of n records, c of them counted apart, the number that bounds what records name
 abbrev pub bound-with : Kind → ℕ → ℕ → ℕ
-bound-with graph n c = n
-bound-with property n c = c
-bound-with rules n c = c
-bound-with interface n c = c
+bound-with graph c n = c
+bound-with property c n = n
+bound-with rules c n = n
+bound-with interface c n = n
 
 -- how many there are: what an edge may name is a node, what a row may name is a row
 abbrev pub bound-of : Kind → List ℕ → ℕ
-bound-of graph l = nodes-of l
-bound-of property l = count l
-bound-of rules l = count l
-bound-of interface l = count l
-
-abbrev pub ors-at : List ℕ → ℕ
-ors-at l = tally (λ i. is-or-of (parsed-at l i)) (count l)
+bound-of k l = bound-with k (counted k l) (count l)
 
 -- 5, where no kind is out of place: all records but the nodes are edges
+abbrev pub over-with : Limits → Kind → ℕ → ℕ → Bool
+over-with L graph c n = ltb (L .nodes) c || ltb (L .edges) (n - c)
+over-with L property c n = ltb (L .rows) n || ltb (L .ors) c
+over-with L rules c n = false
+over-with L interface c n = false
+
 abbrev pub over : Limits → Kind → List ℕ → Bool
-over L graph l = ltb (L .nodes) (nodes-of l) || ltb (L .edges) (count l - nodes-of l)
-over L property l = ltb (L .rows) (count l) || ltb (L .ors) (ors-at l)
-over L rules l = false
-over L interface l = false
+over L k l = over-with L k (counted k l) (count l)
+
+-- 6, of n records
+abbrev pub missing-with : Kind → ℕ → Bool
+missing-with graph n = false
+missing-with property n = eqb n 0
+missing-with rules n = false
+missing-with interface n = eqb n 0
 
 pub from-eight : Kind → List ℕ → ℕ → ℕ → Checked
-from-eight k l first position = number-step 8 k l (bound-of k l) first position (Accepted (nodes-of l) (count l))
+from-eight k l first position = number-step 8 k l (bound-of k l) first position (Accepted (nodes-in k l) (count l))
 
 pub from-seven : Kind → List ℕ → ℕ → ℕ → Checked
 from-seven k l first position = number-step 7 k l (bound-of k l) first position (from-eight k l first position)

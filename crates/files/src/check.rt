@@ -8,9 +8,9 @@ ghost use Prim.Native.Nat.{_+_, _*_, _/_, _≤_, _<_};
 ghost use lib.ListN.{length};
 ghost use Rattle.files.specs.Basics.Lexical.{before};
 ghost use Rattle.files.specs.Record.{record-at, part, takes-rows};
-ghost use Rattle.files.specs.Refusal.{graph, property, rules, interface, edge-before, misplaced, nodes-of, missing};
+ghost use Rattle.files.specs.Refusal.{graph, property, rules, interface, edge-before, misplaced};
 ghost use Rattle.files.specs.FileKind.{kind-of};
-ghost use Rattle.files.specs.Checking.{checked, parsed-at, is-wrong, edges-out, rules-out, disordered-at, past-of, method-of, crossing-of, is-or-of, ors-at, offends, first-offending, bound-with, over, from-eight, from-seven, from-five, from-four, from-three, from-two};
+ghost use Rattle.files.specs.Checking.{checked, parsed-at, is-wrong, edges-out, rules-out, disordered-at, past-of, method-of, crossing-of, is-or-of, counts, counted, offends, first-offending, nodes-with, bound-with, over-with, missing-with, from-eight, from-seven, from-five, from-four, from-three, from-two};
 use crate::parse::kind_at;
 use crate::parse::parse;
 use crate::record::Limits;
@@ -236,21 +236,6 @@ fn first_offending(number: u8, kind: FileKind, records: &[u8], bound: usize) -> 
     n
 }
 
-// How many records are nodes.
-fn count_nodes(records: &[u8]) -> usize
-    ensures { λ r. ⌜ r ≡ nodes-of (now (records .entry)) ⌝ }
-{
-    let n = records.len() / Record::LEN;
-    let mut i = 0;
-    let mut nodes = 0;
-    while i < n {
-        let node = kind_at(records, i) == Record::NODE;
-        nodes += node as usize;
-        i += 1;
-    }
-    nodes
-}
-
 fn is_or(p: Parsed) -> bool
     ensures { λ r. ⌜ r ≡ is-or-of p ⌝ }
 {
@@ -260,87 +245,109 @@ fn is_or(p: Parsed) -> bool
     operator == 8
 }
 
-// How many rows have operator 8.
-fn count_ors(records: &[u8]) -> usize
-    ensures { λ r. ⌜ r ≡ ors-at (now (records .entry)) ⌝ }
-{
-    let n = records.len() / Record::LEN;
-    let mut i = 0;
-    let mut ors = 0;
-    while i < n {
-        let p = parse(records, i);
-        let or = is_or(p);
-        ors += or as usize;
-        i += 1;
-    }
-    ors
-}
-
-// How many there are of what records name: nodes in a graph, rows in a property.
-fn bound(kind: FileKind, nodes: usize, records: usize) -> usize
-    ensures { λ r. ⌜ r ≡ bound-with (kind-of kind) nodes records ⌝ }
+// Whether number 5 counts record i apart.
+fn counts(kind: FileKind, records: &[u8], i: usize) -> bool
+    requires { ⌜ 6 * i + 6 ≤ length (now records) ⌝ }
+    ensures { λ r. ⌜ r ≡ counts (kind-of kind) (now (records .entry)) i ⌝ }
 {
     match kind {
-        FileKind::Graph => nodes,
-        FileKind::Property => records,
-        FileKind::Rules => records,
-        FileKind::Interface => records,
-    }
-}
-
-// The steps from number 8 on.
-fn from_eight(kind: FileKind, records: &[u8], first: usize, position: u8, nodes: usize) -> Checked
-    requires { ⌜ (nodes ≡ nodes-of (now records)) × (first + length (now records) < 18446744073709551616) ⌝ }
-    ensures { λ r. ⌜ r ≡ from-eight (kind-of kind) (now (records .entry)) first position ⌝ }
-{
-    let n = records.len() / Record::LEN;
-    let most = bound(kind, nodes, n);
-    let i = first_offending(8, kind, records, most);
-    if i < n {
-        return Checked::Refused(Refusal::at(8, position, first + i));
-    }
-    Checked::Accepted {
-        nodes: nodes,
-        records: n,
-    }
-}
-
-// The steps from number 7 on.
-fn from_seven(kind: FileKind, records: &[u8], first: usize, position: u8, nodes: usize) -> Checked
-    requires { ⌜ (nodes ≡ nodes-of (now records)) × (first + length (now records) < 18446744073709551616) ⌝ }
-    ensures { λ r. ⌜ r ≡ from-seven (kind-of kind) (now (records .entry)) first position ⌝ }
-{
-    let n = records.len() / Record::LEN;
-    let most = bound(kind, nodes, n);
-    let i = first_offending(7, kind, records, most);
-    if i < n {
-        return Checked::Refused(Refusal::at(7, position, first + i));
-    }
-    from_eight(kind, records, first, position, nodes)
-}
-
-// 5: a limit is passed. Where no kind is out of place, all records of a graph but the nodes are edges.
-fn over(limits: Limits, kind: FileKind, records: &[u8], nodes: usize) -> bool
-    requires { ⌜ nodes ≡ nodes-of (now records) ⌝ }
-    ensures { λ r. ⌜ r ≡ over limits (kind-of kind) (now (records .entry)) ⌝ }
-{
-    let n = records.len() / Record::LEN;
-    match kind {
-        FileKind::Graph => (limits.nodes < nodes) | (limits.edges < n - nodes),
+        FileKind::Graph => kind_at(records, i) == Record::NODE,
         FileKind::Property => {
-            let ors = count_ors(records);
-            (limits.rows < n) | (limits.ors < ors)
+            let p = parse(records, i);
+            is_or(p)
         }
         FileKind::Rules => false,
         FileKind::Interface => false,
     }
 }
 
-// 6: a property without rows, an interface file without a record.
-fn missing(kind: FileKind, records: &[u8]) -> bool
-    ensures { λ r. ⌜ r ≡ missing (kind-of kind) (now (records .entry)) ⌝ }
+// How many records number 5 counts apart: nodes of a graph, or-rows of a property. One pass.
+fn count(kind: FileKind, records: &[u8]) -> usize
+    ensures { λ r. ⌜ r ≡ counted (kind-of kind) (now (records .entry)) ⌝ }
 {
     let n = records.len() / Record::LEN;
+    let mut i = 0;
+    let mut apart = 0;
+    while i < n {
+        let this = counts(kind, records, i);
+        apart += this as usize;
+        i += 1;
+    }
+    apart
+}
+
+// How many there are of what records name: nodes in a graph, rows in a property.
+fn bound(kind: FileKind, apart: usize, records: usize) -> usize
+    ensures { λ r. ⌜ r ≡ bound-with (kind-of kind) apart records ⌝ }
+{
+    match kind {
+        FileKind::Graph => apart,
+        FileKind::Property => records,
+        FileKind::Rules => records,
+        FileKind::Interface => records,
+    }
+}
+
+// The nodes among so many records that number 5 counted.
+fn nodes(kind: FileKind, apart: usize) -> usize
+    ensures { λ r. ⌜ r ≡ nodes-with (kind-of kind) apart ⌝ }
+{
+    match kind {
+        FileKind::Graph => apart,
+        FileKind::Property => 0,
+        FileKind::Rules => 0,
+        FileKind::Interface => 0,
+    }
+}
+
+// The steps from number 8 on.
+fn from_eight(kind: FileKind, records: &[u8], first: usize, position: u8, apart: usize) -> Checked
+    requires { ⌜ (apart ≡ counted (kind-of kind) (now records)) × (first + length (now records) < 18446744073709551616) ⌝ }
+    ensures { λ r. ⌜ r ≡ from-eight (kind-of kind) (now (records .entry)) first position ⌝ }
+{
+    let n = records.len() / Record::LEN;
+    let most = bound(kind, apart, n);
+    let i = first_offending(8, kind, records, most);
+    if i < n {
+        return Checked::Refused(Refusal::at(8, position, first + i));
+    }
+    Checked::Accepted {
+        nodes: nodes(kind, apart),
+        records: n,
+    }
+}
+
+// The steps from number 7 on.
+fn from_seven(kind: FileKind, records: &[u8], first: usize, position: u8, apart: usize) -> Checked
+    requires { ⌜ (apart ≡ counted (kind-of kind) (now records)) × (first + length (now records) < 18446744073709551616) ⌝ }
+    ensures { λ r. ⌜ r ≡ from-seven (kind-of kind) (now (records .entry)) first position ⌝ }
+{
+    let n = records.len() / Record::LEN;
+    let most = bound(kind, apart, n);
+    let i = first_offending(7, kind, records, most);
+    if i < n {
+        return Checked::Refused(Refusal::at(7, position, first + i));
+    }
+    from_eight(kind, records, first, position, apart)
+}
+
+// 5: a limit is passed, by n records of which so many are counted apart. Where no kind is out of place, all records of a graph but the nodes are edges.
+fn over(limits: Limits, kind: FileKind, apart: usize, n: usize) -> bool
+    requires { ⌜ apart ≤ n ⌝ }
+    ensures { λ r. ⌜ r ≡ over-with limits (kind-of kind) apart n ⌝ }
+{
+    match kind {
+        FileKind::Graph => (limits.nodes < apart) | (limits.edges < n - apart),
+        FileKind::Property => (limits.rows < n) | (limits.ors < apart),
+        FileKind::Rules => false,
+        FileKind::Interface => false,
+    }
+}
+
+// 6: a property without rows, an interface file without a record.
+fn missing(kind: FileKind, n: usize) -> bool
+    ensures { λ r. ⌜ r ≡ missing-with (kind-of kind) n ⌝ }
+{
     match kind {
         FileKind::Graph => false,
         FileKind::Property => n == 0,
@@ -354,14 +361,15 @@ fn from_five(limits: Limits, kind: FileKind, records: &[u8], first: usize, posit
     requires { ⌜ first + length (now records) < 18446744073709551616 ⌝ }
     ensures { λ r. ⌜ r ≡ from-five limits (kind-of kind) (now (records .entry)) first position ⌝ }
 {
-    let nodes = count_nodes(records);
-    if over(limits, kind, records, nodes) {
+    let n = records.len() / Record::LEN;
+    let apart = count(kind, records);
+    if over(limits, kind, apart, n) {
         return Checked::Refused(Refusal::at(5, position, 0));
     }
-    if missing(kind, records) {
+    if missing(kind, n) {
         return Checked::Refused(Refusal::at(6, position, 0));
     }
-    from_seven(kind, records, first, position, nodes)
+    from_seven(kind, records, first, position, apart)
 }
 
 // The steps from number 4 on.

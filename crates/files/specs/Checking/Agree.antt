@@ -12,7 +12,7 @@ use Rattle.files.specs.Basics.First.{first-where, Finds, first-never}
 use Rattle.files.specs.Basics.Lexical.{before}
 use Rattle.files.specs.Basics.Says.{says-eq, says-sure}
 use Rattle.files.specs.Basics.Tables.{tally-le, tally-same}
-use Rattle.files.specs.Checking.{parsed-at, is-wrong, edges-out, rules-out, disordered-at, past-of, method-of, crossing-of, is-or-of, bound-of, over}
+use Rattle.files.specs.Checking.{parsed-at, is-wrong, edges-out, rules-out, disordered-at, past-of, method-of, crossing-of, is-or-of, counted, bound-of, over}
 use Rattle.files.specs.Decode.Graphs.{either-kind, nodes-first, edges-rest}
 use Rattle.files.specs.Record.{record-at, count, kind-at, wrong, parsed}
 use Rattle.files.specs.Record.Laws.{parsed-wrong, parsed-node, parsed-edge, parsed-row, parsed-rule, parsed-interface, parsed-other}
@@ -105,6 +105,7 @@ or-same : (r : Record) → Reads property r → is-or-of (parsed r) ≡ eqb (r .
 or-same r a = rw a
 
 over-same : (L : Limits) (k : Kind) (l : List ℕ) → InPlace k l → Right l → over L k l ≡ passed L k l
+unfolding counted
 over-same L graph l p w = ap (λ (n : ℕ). ltb (L .nodes) (nodes-of l) || ltb (L .edges) n) (sym (edges-rest l p))
 over-same L property l p w = ap (λ (n : ℕ). ltb (L .rows) (count l) || ltb (L .ors) n) (tally-same _ _ (count l) (λ i h. or-same (record-at l i) (reads property l p w i h)))
 over-same L rules l p w = refl
@@ -113,6 +114,7 @@ over-same L interface l p w = refl
 -- ---- 7: numbers past the last
 
 past-same : (k : Kind) (l : List ℕ) (i : ℕ) → Reads k (record-at l i) → past-of (bound-of k l) (parsed-at l i) ≡ past k l i
+unfolding counted
 past-same graph l i (inl a) = rw (a .1, a .0)
 past-same graph l i (inr a) = rw (a .1, a .0)
 past-same property l i a = rw a
@@ -136,6 +138,7 @@ method-same : (l : List ℕ) → InPlace graph l → Right l → (g : ℕ) → g
 method-same l p w g h = ap method-of (parsed-node (record-at l g) (w g (omega (arith, tally-le (of-kind l 1) (count l)))) (nodes-first l p g h))
 
 crossing-same : (k : Kind) (l : List ℕ) → InPlace k l → Right l → (i : ℕ) → Reads k (record-at l i) → crossing-of l (bound-of k l) (parsed-at l i) ≡ crossing k l i
+unfolding counted
 crossing-same graph l p w i (inl a) = rw (a .1, a .0)
 crossing-same graph l p w i (inr a) =
     rw (a .1, a .0) (differ-same (λ g. method-of (parsed-at l g)) (method-at l) (nodes-of l) ((record-at l i) .first) ((record-at l i) .third) (method-same l p w))

@@ -9,11 +9,12 @@ use native.Mathlib.Omega.{arith}
 use lib.Dec.{T, eqb}
 use lib.ListN.{length}
 use Rattle.files.specs.Basics.First.{first-where, whole, pick, Finds, first-finds, first-hit, first-same}
-use Rattle.files.specs.Checking.{checked-by, checked, parsed-at, is-wrong, disordered-at, past-of, crossing-of, offends, first-or, first-offending, number-step, bound-of, over, from-one, from-two, from-three, from-four, from-five, from-seven, from-eight}
+use Rattle.files.specs.Basics.Tables.{tally}
+use Rattle.files.specs.Checking.{nodes-in, checked-by, checked, parsed-at, is-wrong, disordered-at, past-of, crossing-of, offends, first-or, first-offending, counts, counted, number-step, bound-of, over, from-one, from-two, from-three, from-four, from-five, from-seven, from-eight}
 use Rattle.files.specs.Checking.Agree.{wrong-same, four-agrees, five-agrees, seven-agrees, eight-agrees}
 use Rattle.files.specs.Outcome.{refusal-at}
 use Rattle.files.specs.Record.{record-at, count, wrong}
-use Rattle.files.specs.Refusal.{Kind, nodes-of, misplaced, disordered, passed, missing, past, crossing, refusal}
+use Rattle.files.specs.Refusal.{Kind, misplaced, disordered, passed, missing, past, crossing, refusal}
 use Rattle.files.specs.Refusal.Laws.{refusal-is, findings-are}
 use Rattle.files.specs.declared.check.Checked.{Checked}
 use Rattle.files.specs.declared.check.Checked.the-variants.{Accepted, Refused}
@@ -47,7 +48,7 @@ pub from-seven-is : (k : Kind) (l : List ℕ) (first position : ℕ) → from-se
 unfolding from-seven
 from-seven-is k l first position = refl
 
-pub from-eight-is : (k : Kind) (l : List ℕ) (first position : ℕ) → from-eight k l first position ≡ number-step 8 k l (bound-of k l) first position (Accepted (nodes-of l) (count l))
+pub from-eight-is : (k : Kind) (l : List ℕ) (first position : ℕ) → from-eight k l first position ≡ number-step 8 k l (bound-of k l) first position (Accepted (nodes-in k l) (count l))
 unfolding from-eight
 from-eight-is k l first position = refl
 
@@ -60,7 +61,11 @@ pub first-offending-is : (n : ℕ) (k : Kind) (l : List ℕ) (b : ℕ) → first
 unfolding first-offending
 first-offending-is n k l b = refl
 
-pub checked-is : (L : Limits) (k : Kind) (l : List ℕ) (position : ℕ) → checked L k l position ≡ checked-by l position (refusal L k l)
+pub counted-is : (k : Kind) (l : List ℕ) → counted k l ≡ tally (counts k l) (count l)
+unfolding counted
+counted-is k l = refl
+
+pub checked-is : (L : Limits) (k : Kind) (l : List ℕ) (position : ℕ) → checked L k l position ≡ checked-by k l position (refusal L k l)
 unfolding checked
 checked-is L k l position = refl
 
@@ -78,11 +83,11 @@ offending-none n k l b e = found-is n k l b none e
 -- ---- what an accepted file answers
 
 -- what checking accepts has no refusal, and the counts are its nodes and its records
-pub accepted-counts : (L : Limits) (k : Kind) (l : List ℕ) (position n c : ℕ) → checked L k l position ≡ Accepted n c → (refusal L k l ≡ none) × (n ≡ nodes-of l) × (c ≡ count l)
+pub accepted-counts : (L : Limits) (k : Kind) (l : List ℕ) (position n c : ℕ) → checked L k l position ≡ Accepted n c → (refusal L k l ≡ none) × (n ≡ nodes-in k l) × (c ≡ count l)
 unfolding checked
 accepted-counts L k l position n c e = go (refusal L k l) e
   where
-    go : (o : Option (ℕ × ℕ)) → checked-by l position o ≡ Accepted n c → (o ≡ none) × (n ≡ nodes-of l) × (c ≡ count l)
+    go : (o : Option (ℕ × ℕ)) → checked-by k l position o ≡ Accepted n c → (o ≡ none) × (n ≡ nodes-in k l) × (c ≡ count l)
     go none q = (refl, cc, cc)
     go (some x) q = let z : _≡_ {A = ℕ} 0 1 = cc in absurd (omega arith)
 
@@ -102,13 +107,13 @@ abbrev from-fourth : Limits → Kind → List ℕ → List (Option ℕ)
 from-fourth L k l = first-where (disordered k l) (count l) ∷ from-fifth L k l
 
 -- a step of the whole file, and one that looks at each record
-whole-step : (l : List ℕ) (position n : ℕ) (ms : List (Option ℕ)) (rest : Checked) (b : Bool) → (b ≡ false → rest ≡ checked-by l position (pick (suc n) ms))
-    → cond b (Refused (refusal-at n position 0)) rest ≡ checked-by l position (pick n (whole b ∷ ms))
-whole-step l position n ms rest true f = refl
-whole-step l position n ms rest false f = f refl
+whole-step : (k : Kind) (l : List ℕ) (position n : ℕ) (ms : List (Option ℕ)) (rest : Checked) (b : Bool) → (b ≡ false → rest ≡ checked-by k l position (pick (suc n) ms))
+    → cond b (Refused (refusal-at n position 0)) rest ≡ checked-by k l position (pick n (whole b ∷ ms))
+whole-step k l position n ms rest true f = refl
+whole-step k l position n ms rest false f = f refl
 
 scan-step : (k : Kind) (l : List ℕ) (position n : ℕ) (ms : List (Option ℕ)) (rest : Checked) (b : ℕ) (m : Option ℕ) → first-where (offends n k l b) (count l) ≡ m
-    → (m ≡ none → rest ≡ checked-by l position (pick (suc n) ms)) → number-step n k l b 0 position rest ≡ checked-by l position (pick n (m ∷ ms))
+    → (m ≡ none → rest ≡ checked-by k l position (pick (suc n) ms)) → number-step n k l b 0 position rest ≡ checked-by k l position (pick n (m ∷ ms))
 scan-step k l position n ms rest b none e f = rw (offending-none n k l b e, le-ltb (count l) (count l) (omega arith)) (f refl)
 scan-step k l position n ms rest b (some i) e f = rw (found-is n k l b (some i) e, lt-ltb i (count l) below, zero-add i)
   where
@@ -139,35 +144,35 @@ module _ (k : Kind) (l : List ℕ) (two : first-where (misplaced k l) (count l) 
   eight-finds = first-same (offends 8 k l (bound-of k l)) (crossing k l) (count l) (eight-agrees k l two three)
 
   -- the steps from each number on, where 2 and 3 find nothing
-  eight-on : (position : ℕ) → from-eight k l 0 position ≡ checked-by l position (pick 8 (from-eighth k l))
+  eight-on : (position : ℕ) → from-eight k l 0 position ≡ checked-by k l position (pick 8 (from-eighth k l))
   eight-on position = from-eight-is k l 0 position ∙ scan-step k l position 8 [] _ (bound-of k l) _ eight-finds (λ e. refl)
 
-  seven-on : (position : ℕ) → from-seven k l 0 position ≡ checked-by l position (pick 7 (from-seventh k l))
+  seven-on : (position : ℕ) → from-seven k l 0 position ≡ checked-by k l position (pick 7 (from-seventh k l))
   seven-on position = from-seven-is k l 0 position ∙ scan-step k l position 7 (from-eighth k l) _ (bound-of k l) _ seven-finds (λ e. eight-on position)
 
-  five-on : (L : Limits) (position : ℕ) → from-five L k l 0 position ≡ checked-by l position (pick 5 (from-fifth L k l))
+  five-on : (L : Limits) (position : ℕ) → from-five L k l 0 position ≡ checked-by k l position (pick 5 (from-fifth L k l))
   five-on L position =
       from-five-is L k l 0 position ∙ ap (λ (b : Bool). cond b (Refused (refusal-at 5 position 0)) six) (five-agrees k l two three L)
-      ∙ whole-step l position 5 (whole (missing k l) ∷ from-seventh k l) six (passed L k l) (λ e. whole-step l position 6 (from-seventh k l) _ (missing k l) (λ f. seven-on position))
+      ∙ whole-step k l position 5 (whole (missing k l) ∷ from-seventh k l) six (passed L k l) (λ e. whole-step k l position 6 (from-seventh k l) _ (missing k l) (λ f. seven-on position))
     where
       six : Checked
       six = cond (missing k l) (Refused (refusal-at 6 position 0)) (from-seven k l 0 position)
 
-  four-on : (L : Limits) (position : ℕ) → from-four L k l 0 position ≡ checked-by l position (pick 4 (from-fourth L k l))
+  four-on : (L : Limits) (position : ℕ) → from-four L k l 0 position ≡ checked-by k l position (pick 4 (from-fourth L k l))
   four-on L position = from-four-is L k l 0 position ∙ scan-step k l position 4 (from-fifth L k l) _ 0 _ four-finds (λ e. five-on L position)
 
 -- the steps that the code takes come to the file's refusal
 pub checked-steps : (L : Limits) (k : Kind) (l : List ℕ) (position : ℕ) → from-one L k l position ≡ checked L k l position
-checked-steps L k l position = one-on ∙ ap (λ (ms : List (Option ℕ)). checked-by l position (pick 1 ms)) (sym (findings-are L k l)) ∙ ap (checked-by l position) (sym (refusal-is L k l)) ∙ sym (checked-is L k l position)
+checked-steps L k l position = one-on ∙ ap (λ (ms : List (Option ℕ)). checked-by k l position (pick 1 ms)) (sym (findings-are L k l)) ∙ ap (checked-by k l position) (sym (refusal-is L k l)) ∙ sym (checked-is L k l position)
   where
     thirds : List (Option ℕ)
     thirds = first-where (λ i. wrong (record-at l i)) (count l) ∷ from-fourth L k l
 
-    three-on : first-where (misplaced k l) (count l) ≡ none → from-three L k l 0 position ≡ checked-by l position (pick 3 thirds)
+    three-on : first-where (misplaced k l) (count l) ≡ none → from-three L k l 0 position ≡ checked-by k l position (pick 3 thirds)
     three-on two = from-three-is L k l 0 position ∙ scan-step k l position 3 (from-fourth L k l) _ 0 _ (three-finds k l) (λ three. four-on k l two three L position)
 
-    two-on : from-two L k l 0 position ≡ checked-by l position (pick 2 (first-where (misplaced k l) (count l) ∷ thirds))
+    two-on : from-two L k l 0 position ≡ checked-by k l position (pick 2 (first-where (misplaced k l) (count l) ∷ thirds))
     two-on = from-two-is L k l 0 position ∙ scan-step k l position 2 thirds _ 0 _ (two-finds k l) three-on
 
-    one-on : from-one L k l position ≡ checked-by l position (pick 1 (whole (not (eqb (length l % 6) 0)) ∷ first-where (misplaced k l) (count l) ∷ thirds))
-    one-on = from-one-is L k l position ∙ whole-step l position 1 (first-where (misplaced k l) (count l) ∷ thirds) _ (not (eqb (length l % 6) 0)) (λ e. two-on)
+    one-on : from-one L k l position ≡ checked-by k l position (pick 1 (whole (not (eqb (length l % 6) 0)) ∷ first-where (misplaced k l) (count l) ∷ thirds))
+    one-on = from-one-is L k l position ∙ whole-step k l position 1 (first-where (misplaced k l) (count l) ∷ thirds) _ (not (eqb (length l % 6) 0)) (λ e. two-on)

@@ -7,7 +7,7 @@ use Rattle.files.specs.declared.check.Checked.the-variants.{Accepted, Re
 use Rattle.files.specs.Record.{count}
 use Rattle.files.specs.Checking.{first-offending, bound-of, from-three, from-four, from-five, from-seven, from-eight}
 use Rattle.files.specs.Checking.Laws.{from-two-is, from-three-is, from-four-is, from-five-is, from-seven-is, from-eight-is}
-use Rattle.files.proofs.CheckLaws.{bound-is, bound-fits, step-taken, step-left}
+use Rattle.files.proofs.CheckLaws.{bound-is, bound-fits, nodes-are, step-taken, step-left}
 use borrow.Author.Needs.{needs}
 use Rattle.files.proofs.check.from_eight.Statement.{statement}
 use Rattle.files.proofs.check.from_eight.Tie as tie
@@ -15,6 +15,7 @@ use Rattle.files.proofs.check.from_eight.Reads as reads
 use Rattle.files.proofs.check.from_eight.Lts as lts
 use Rattle.files.proofs.check.bound.Reads as bound-reads
 use Rattle.files.proofs.check.first_offending.Reads as first-offending-reads
+use Rattle.files.proofs.check.nodes.Reads as nodes-reads
 use Rattle.files.proofs.refusal.Refusal.at.Reads as at-reads
 
 -- src/check.rt:297:9
@@ -23,7 +24,7 @@ bound-requires c κs = search needs
 
 -- src/check.rt:298:9
 first-offending-requires : tie.Need-first-offending-requires
-first-offending-requires c κs = omega (arith, (c .bound .ensures ∙ bound-is (kind-of (c .before .before .args .kind)) (c .before .before .args .records .now) (c .before .before .args .nodes) (length (c .before .before .args .records .now) / 6) (c .before .before .pre .0) refl), bound-fits (kind-of (c .before .before .args .kind)) (c .before .before .args .records .now))
+first-offending-requires c κs = omega (arith, (c .bound .ensures ∙ bound-is (kind-of (c .before .before .args .kind)) (c .before .before .args .records .now) (c .before .before .args .apart) (c .before .before .pre .0)), bound-fits (kind-of (c .before .before .args .kind)) (c .before .before .args .records .now))
 
 -- src/check.rt:300:58
 add-at : tie.Need-add-at
@@ -35,13 +36,17 @@ at-requires c κs = search needs
 
 -- src/check.rt:300:9
 returns : tie.Need-returns
-returns c = ap Refused (c .at .ensures) ∙ step-taken 8 (kind-of (c .before .before .before .before .before .args .kind)) (c .before .before .before .before .before .args .records .now) (bound-of (kind-of (c .before .before .before .before .before .args .kind)) (c .before .before .before .before .before .args .records .now)) (c .before .before .before .before .before .args .first) (c .before .before .before .before .before .args .position) (c .before .before .first-offending .result) _ (c .before .before .first-offending .ensures ∙ ap (first-offending 8 (kind-of (c .before .before .before .before .before .args .kind)) (c .before .before .before .before .before .args .records .now)) (c .before .before .before .bound .ensures ∙ bound-is (kind-of (c .before .before .before .before .before .args .kind)) (c .before .before .before .before .before .args .records .now) (c .before .before .before .before .before .args .nodes) (length (c .before .before .before .before .before .args .records .now) / 6) (c .before .before .before .before .before .pre .0) refl)) (c .before .if1 .taken) ∙ sym (from-eight-is (kind-of (c .before .before .before .before .before .args .kind)) (c .before .before .before .before .before .args .records .now) (c .before .before .before .before .before .args .first) (c .before .before .before .before .before .args .position))
+returns c = ap Refused (c .at .ensures) ∙ step-taken 8 (kind-of (c .before .before .before .before .before .args .kind)) (c .before .before .before .before .before .args .records .now) (bound-of (kind-of (c .before .before .before .before .before .args .kind)) (c .before .before .before .before .before .args .records .now)) (c .before .before .before .before .before .args .first) (c .before .before .before .before .before .args .position) (c .before .before .first-offending .result) _ (c .before .before .first-offending .ensures ∙ ap (first-offending 8 (kind-of (c .before .before .before .before .before .args .kind)) (c .before .before .before .before .before .args .records .now)) (c .before .before .before .bound .ensures ∙ bound-is (kind-of (c .before .before .before .before .before .args .kind)) (c .before .before .before .before .before .args .records .now) (c .before .before .before .before .before .args .apart) (c .before .before .before .before .before .pre .0))) (c .before .if1 .taken) ∙ sym (from-eight-is (kind-of (c .before .before .before .before .before .args .kind)) (c .before .before .before .before .before .args .records .now) (c .before .before .before .before .before .args .first) (c .before .before .before .before .before .args .position))
 
 -- src/check.rt:292:1
+nodes-requires : tie.Need-nodes-requires
+nodes-requires c κs = search needs
+
+--
 returns-2 : tie.Need-returns-2
-returns-2 c = ap (λ (x : ℕ). Accepted x (count (c .before .before .before .before .args .records .now))) (c .before .before .before .before .pre .0) ∙ step-left 8 (kind-of (c .before .before .before .before .args .kind)) (c .before .before .before .before .args .records .now) (bound-of (kind-of (c .before .before .before .before .args .kind)) (c .before .before .before .before .args .records .now)) (c .before .before .before .before .args .first) (c .before .before .before .before .args .position) (c .before .first-offending .result) _ (c .before .first-offending .ensures ∙ ap (first-offending 8 (kind-of (c .before .before .before .before .args .kind)) (c .before .before .before .before .args .records .now)) (c .before .before .bound .ensures ∙ bound-is (kind-of (c .before .before .before .before .args .kind)) (c .before .before .before .before .args .records .now) (c .before .before .before .before .args .nodes) (length (c .before .before .before .before .args .records .now) / 6) (c .before .before .before .before .pre .0) refl)) (c .if1 .left) ∙ sym (from-eight-is (kind-of (c .before .before .before .before .args .kind)) (c .before .before .before .before .args .records .now) (c .before .before .before .before .args .first) (c .before .before .before .before .args .position))
+returns-2 c = ap (λ (x : ℕ). Accepted x (count (c .before .before .before .before .before .args .records .now))) (c .nodes .ensures ∙ nodes-are (kind-of (c .before .before .before .before .before .args .kind)) (c .before .before .before .before .before .args .records .now) (c .before .before .before .before .before .args .apart) (c .before .before .before .before .before .pre .0)) ∙ step-left 8 (kind-of (c .before .before .before .before .before .args .kind)) (c .before .before .before .before .before .args .records .now) (bound-of (kind-of (c .before .before .before .before .before .args .kind)) (c .before .before .before .before .before .args .records .now)) (c .before .before .before .before .before .args .first) (c .before .before .before .before .before .args .position) (c .before .before .first-offending .result) _ (c .before .before .first-offending .ensures ∙ ap (first-offending 8 (kind-of (c .before .before .before .before .before .args .kind)) (c .before .before .before .before .before .args .records .now)) (c .before .before .before .bound .ensures ∙ bound-is (kind-of (c .before .before .before .before .before .args .kind)) (c .before .before .before .before .before .args .records .now) (c .before .before .before .before .before .args .apart) (c .before .before .before .before .before .pre .0))) (c .before .if1 .left) ∙ sym (from-eight-is (kind-of (c .before .before .before .before .before .args .kind)) (c .before .before .before .before .before .args .records .now) (c .before .before .before .before .before .args .first) (c .before .before .before .before .before .args .position))
 
 pub from-eight-spec : {M : Type 1} → statement M
 from-eight-spec =
     tie.close
-    (tie.spec bound-requires first-offending-requires add-at at-requires returns returns-2)
+    (tie.spec bound-requires first-offending-requires add-at at-requires returns nodes-requires returns-2)

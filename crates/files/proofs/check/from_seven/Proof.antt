@@ -24,7 +24,7 @@ bound-requires c κs = search needs
 
 -- src/check.rt:312:9
 first-offending-requires : tie.Need-first-offending-requires
-first-offending-requires c κs = omega (arith, (c .bound .ensures ∙ bound-is (kind-of (c .before .before .args .kind)) (c .before .before .args .records .now) (c .before .before .args .nodes) (length (c .before .before .args .records .now) / 6) (c .before .before .pre .0) refl), bound-fits (kind-of (c .before .before .args .kind)) (c .before .before .args .records .now))
+first-offending-requires c κs = omega (arith, (c .bound .ensures ∙ bound-is (kind-of (c .before .before .args .kind)) (c .before .before .args .records .now) (c .before .before .args .apart) (c .before .before .pre .0)), bound-fits (kind-of (c .before .before .args .kind)) (c .before .before .args .records .now))
 
 -- src/check.rt:314:58
 add-at : tie.Need-add-at
@@ -36,7 +36,7 @@ at-requires c κs = search needs
 
 -- src/check.rt:314:9
 returns : tie.Need-returns
-returns c = ap Refused (c .at .ensures) ∙ step-taken 7 (kind-of (c .before .before .before .before .before .args .kind)) (c .before .before .before .before .before .args .records .now) (bound-of (kind-of (c .before .before .before .before .before .args .kind)) (c .before .before .before .before .before .args .records .now)) (c .before .before .before .before .before .args .first) (c .before .before .before .before .before .args .position) (c .before .before .first-offending .result) _ (c .before .before .first-offending .ensures ∙ ap (first-offending 7 (kind-of (c .before .before .before .before .before .args .kind)) (c .before .before .before .before .before .args .records .now)) (c .before .before .before .bound .ensures ∙ bound-is (kind-of (c .before .before .before .before .before .args .kind)) (c .before .before .before .before .before .args .records .now) (c .before .before .before .before .before .args .nodes) (length (c .before .before .before .before .before .args .records .now) / 6) (c .before .before .before .before .before .pre .0) refl)) (c .before .if1 .taken) ∙ sym (from-seven-is (kind-of (c .before .before .before .before .before .args .kind)) (c .before .before .before .before .before .args .records .now) (c .before .before .before .before .before .args .first) (c .before .before .before .before .before .args .position))
+returns c = ap Refused (c .at .ensures) ∙ step-taken 7 (kind-of (c .before .before .before .before .before .args .kind)) (c .before .before .before .before .before .args .records .now) (bound-of (kind-of (c .before .before .before .before .before .args .kind)) (c .before .before .before .before .before .args .records .now)) (c .before .before .before .before .before .args .first) (c .before .before .before .before .before .args .position) (c .before .before .first-offending .result) _ (c .before .before .first-offending .ensures ∙ ap (first-offending 7 (kind-of (c .before .before .before .before .before .args .kind)) (c .before .before .before .before .before .args .records .now)) (c .before .before .before .bound .ensures ∙ bound-is (kind-of (c .before .before .before .before .before .args .kind)) (c .before .before .before .before .before .args .records .now) (c .before .before .before .before .before .args .apart) (c .before .before .before .before .before .pre .0))) (c .before .if1 .taken) ∙ sym (from-seven-is (kind-of (c .before .before .before .before .before .args .kind)) (c .before .before .before .before .before .args .records .now) (c .before .before .before .before .before .args .first) (c .before .before .before .before .before .args .position))
 
 -- src/check.rt:316:5
 from-eight-requires : tie.Need-from-eight-requires
@@ -44,7 +44,7 @@ from-eight-requires c κs = search needs
 
 -- src/check.rt:306:1
 returns-2 : tie.Need-returns-2
-returns-2 c = c .from-eight .ensures ∙ step-left 7 (kind-of (c .before .before .before .before .before .args .kind)) (c .before .before .before .before .before .args .records .now) (bound-of (kind-of (c .before .before .before .before .before .args .kind)) (c .before .before .before .before .before .args .records .now)) (c .before .before .before .before .before .args .first) (c .before .before .before .before .before .args .position) (c .before .before .first-offending .result) (from-eight (kind-of (c .before .before .before .before .before .args .kind)) (c .before .before .before .before .before .args .records .now) (c .before .before .before .before .before .args .first) (c .before .before .before .before .before .args .position)) (c .before .before .first-offending .ensures ∙ ap (first-offending 7 (kind-of (c .before .before .before .before .before .args .kind)) (c .before .before .before .before .before .args .records .now)) (c .before .before .before .bound .ensures ∙ bound-is (kind-of (c .before .before .before .before .before .args .kind)) (c .before .before .before .before .before .args .records .now) (c .before .before .before .before .before .args .nodes) (length (c .before .before .before .before .before .args .records .now) / 6) (c .before .before .before .before .before .pre .0) refl)) (c .before .if1 .left) ∙ sym (from-seven-is (kind-of (c .before .before .before .before .before .args .kind)) (c .before .before .before .before .before .args .records .now) (c .before .before .before .before .before .args .first) (c .before .before .before .before .before .args .position))
+returns-2 c = c .from-eight .ensures ∙ step-left 7 (kind-of (c .before .before .before .before .before .args .kind)) (c .before .before .before .before .before .args .records .now) (bound-of (kind-of (c .before .before .before .before .before .args .kind)) (c .before .before .before .before .before .args .records .now)) (c .before .before .before .before .before .args .first) (c .before .before .before .before .before .args .position) (c .before .before .first-offending .result) (from-eight (kind-of (c .before .before .before .before .before .args .kind)) (c .before .before .before .before .before .args .records .now) (c .before .before .before .before .before .args .first) (c .before .before .before .before .before .args .position)) (c .before .before .first-offending .ensures ∙ ap (first-offending 7 (kind-of (c .before .before .before .before .before .args .kind)) (c .before .before .before .before .before .args .records .now)) (c .before .before .before .bound .ensures ∙ bound-is (kind-of (c .before .before .before .before .before .args .kind)) (c .before .before .before .before .before .args .records .now) (c .before .before .before .before .before .args .apart) (c .before .before .before .before .before .pre .0))) (c .before .if1 .left) ∙ sym (from-seven-is (kind-of (c .before .before .before .before .before .args .kind)) (c .before .before .before .before .before .args .records .now) (c .before .before .before .before .before .args .first) (c .before .before .before .before .before .args .position))
 
 pub from-seven-spec : {M : Type 1} → statement M
 from-seven-spec =

@@ -1,52 +1,44 @@
 use mathlib.Core.Path.{refl}
 use native.Mathlib.Omega.{arith}
-use Rattle.files.specs.Basics.Tables.{tally-le}
-use Rattle.files.specs.Refusal.{of-kind}
-use Rattle.files.specs.Record.{count}
 use borrow.Author.Needs.{needs}
 use Rattle.files.proofs.check.over.Statement.{statement}
 use Rattle.files.proofs.check.over.Tie as tie
 use Rattle.files.proofs.check.over.Reads as reads
 use Rattle.files.proofs.check.over.Lts as lts
-use Rattle.files.proofs.check.count_ors.Reads as count-ors-reads
 
--- src/check.rt:326:29
+-- src/check.rt:340:29
 enum-told : tie.Need-enum-told
 enum-told c = search needs
 
--- src/check.rt:326:69
+-- src/check.rt:340:69
 sub-result : tie.Need-sub-result
-sub-result c = omega (arith, c .before .before .before .before .pre, tally-le (of-kind (c .before .before .before .before .args .records .now) 1) (count (c .before .before .before .before .args .records .now)))
+sub-result c = omega (arith, c .before .before .before .pre)
 
--- src/check.rt:328:17
+-- src/check.rt:341:32
 enum-told-2 : tie.Need-enum-told-2
 enum-told-2 c = search needs
 
--- src/check.rt:328:17
-count-ors-requires : tie.Need-count-ors-requires
-count-ors-requires c κs = search needs
-
--- src/check.rt:331:28
+-- src/check.rt:342:28
 enum-told-3 : tie.Need-enum-told-3
 enum-told-3 c = search needs
 
--- src/check.rt:332:32
+-- src/check.rt:343:32
 enum-told-4 : tie.Need-enum-told-4
 enum-told-4 c = search needs
 
--- src/check.rt:320:1
+-- src/check.rt:335:1
 returns : tie.Need-returns
-returns c = rw (c .before .before .enum-told .given .1, c .before .before .before .before .before .pre) refl
+returns c = rw (c .before .before .enum-told .given .1) refl
 
--- src/check.rt:320:1
+-- src/check.rt:335:1
 returns-2 : tie.Need-returns-2
-returns-2 c = rw (c .before .before .before .enum-told2 .given .1, c .before .before .count-ors .ensures) refl
+returns-2 c = rw (c .before .before .enum-told2 .given .1) refl
 
--- src/check.rt:320:1
+-- src/check.rt:335:1
 returns-3 : tie.Need-returns-3
 returns-3 c = search needs
 
--- src/check.rt:320:1
+-- src/check.rt:335:1
 returns-4 : tie.Need-returns-4
 returns-4 c = search needs
 
@@ -57,7 +49,6 @@ over-spec =
     enum-told
     sub-result
     enum-told-2
-    count-ors-requires
     enum-told-3
     enum-told-4
     returns
