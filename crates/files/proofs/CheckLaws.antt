@@ -1,25 +1,28 @@
 -- What the tests on a record and the one before it say, for the code that reads record i - 1.
 use mathlib.Core.Path.{_≡_, refl, sym, ap, ap₂, _∙_}
-use mathlib.Core.Bool.{Bool, false, _||_, true}
+use mathlib.Core.Bool.{Bool, false, true, cond, _||_}
 use mathlib.Core.Option.{Option, none}
 use mathlib.Core.List.{List}
 use Prim.Native.Nat.{ℕ, zero, suc, _+_, _-_, _*_, _≤_, _<_, _%_}
 use native.Mathlib.Nat.{add-comm}
 use native.Mathlib.Omega.{arith}
-use lib.Dec.{eqb}
+use native.Mathlib.Numerals.{add-one}
+use lib.Dec.{ltb, eqb}
 use Rattle.files.specs.Basics.Tests.{one}
 use Rattle.files.specs.Basics.Tables.{tally, tally-le}
 use Rattle.files.specs.Basics.First.{first-where, first-miss}
 use Rattle.files.specs.Record.{kind-at, count, part}
 use Rattle.files.specs.Refusal.{edge-before, Kind, graph, property, rules, interface, missing}
-use Rattle.files.specs.Checking.{parsed-at, edges-out, rules-out, disordered-at, counts, counted, nodes-in, nodes-with, bound-with, bound-of, missing-with, number-step, first-offending, over, checked, from-two, from-five, from-seven}
+use Rattle.files.specs.Checking.{parsed-at, edges-out, rules-out, disordered-at, counts, counted, nodes-in, nodes-with, bound-with, bound-of, missing-with, scanned, unless, first-offending, over, checked, from-two, from-five, from-seven}
 use lib.ListN.{length, take, drop}
 use borrow.Author.Tests.{lt-ltb, le-ltb}
 use Rattle.files.specs.Outcome.{refusal-at}
 use Rattle.files.specs.declared.check.Checked.{Checked}
 use Rattle.files.specs.declared.check.Checked.the-variants.{Accepted, Refused}
+use Rattle.files.specs.declared.check.Found.{Found}
+use Rattle.files.specs.declared.check.Found.the-variants.{Nothing, At}
 use Rattle.files.specs.declared.record.Limits.{Limits}
-use Rattle.files.specs.Checking.Laws.{counted-is, from-five-is, from-one-is, checked-steps}
+use Rattle.files.specs.Checking.Laws.{counted-is, scanned-none, scanned-more, from-seven-is, from-five-is, from-two-is, from-one-is, checked-steps}
 use Rattle.files.specs.Record.Laws.{part-length}
 
 pub edge-before-at : (l : List ℕ) (i : ℕ) → (i ≡ 0 → ⊥) → eqb (kind-at l (i - 1)) 2 ≡ edge-before l i
@@ -45,7 +48,7 @@ tally-more p i n b e f =
 pub scan-on : (p : ℕ → Bool) (i : ℕ) → first-where p i ≡ none → p i ≡ false → first-where p (i + 1) ≡ none
 scan-on p i e f = let q : i + 1 ≡ suc i = omega arith in ap (first-where p) q ∙ first-miss p i e f
 
--- ---- bounds and steps
+-- ---- what number 5 counts, and what follows from it
 
 pub counted-le : (k : Kind) (l : List ℕ) → counted k l ≤ count l
 counted-le k l = rw (counted-is k l) (tally-le (counts k l) (count l))
@@ -71,15 +74,40 @@ missing-is property l = refl
 missing-is rules l = refl
 missing-is interface l = refl
 
-pub step-taken : (n : ℕ) (k : Kind) (l : List ℕ) (b first position i : ℕ) (rest : Checked) → i ≡ first-offending n k l b → i < count l
-    → Refused (refusal-at n position (first + i)) ≡ number-step n k l b first position rest
-step-taken n k l b first position i rest e h = rw (← e, lt-ltb i (count l) h) refl
+-- ---- a scan from a number on, up to `past`
 
-pub step-left : (n : ℕ) (k : Kind) (l : List ℕ) (b first position i : ℕ) (rest : Checked) → i ≡ first-offending n k l b → count l ≤ i
-    → rest ≡ number-step n k l b first position rest
-step-left n k l b first position i rest e h = rw (← e, le-ltb i (count l) h) refl
+module _ (k : Kind) (l : List ℕ) (b first position : ℕ) where
+  more : (past n : ℕ) → n < past → past - n ≡ suc (past - (n + 1))
+  more past n h = omega arith
+
+  next : (past n : ℕ) → n < past → scanned (past - n) n k l b first position ≡ cond (ltb (first-offending n k l b) (count l)) (At (refusal-at n position (first + first-offending n k l b))) (scanned (past - (n + 1)) (suc n) k l b first position)
+  next past n h = ap (λ (m : ℕ). scanned m n k l b first position) (more past n h) ∙ scanned-more (past - (n + 1)) n k l b first position
+
+  pub scanned-found : (past n i : ℕ) → n < past → i ≡ first-offending n k l b → i < count l
+      → At (refusal-at n position (first + i)) ≡ scanned (past - n) n k l b first position
+  scanned-found past n i h e f = rw (next past n h, ← e, lt-ltb i (count l) f) refl
+
+  pub scanned-on : (past n i : ℕ) → n < past → i ≡ first-offending n k l b → count l ≤ i
+      → scanned (past - (n + 1)) (n + 1) k l b first position ≡ scanned (past - n) n k l b first position
+  scanned-on past n i h e f = rw (next past n h, ← e, le-ltb i (count l) f, add-one) refl
+
+  pub scanned-past : (past n : ℕ) → past ≤ n → Nothing ≡ scanned (past - n) n k l b first position
+  scanned-past past n h = let e : past - n ≡ 0 = omega arith in rw (e, scanned-none) refl
+
+-- ---- the steps
+
+-- what the scan of numbers 7 and 8 found, with what number 5 counted
+pub seven-scan : (k : Kind) (l : List ℕ) (first position c b : ℕ) (f : Found) → c ≡ counted k l → b ≡ bound-with k c (count l) → f ≡ scanned 2 7 k l b first position
+    → unless f (Accepted (nodes-with k c) (count l)) ≡ from-seven k l first position
+seven-scan k l first position c b f e h g =
+    ap₂ (λ (x : Found) (n : ℕ). unless x (Accepted n (count l))) (g ∙ ap (λ (m : ℕ). scanned 2 7 k l m first position) (h ∙ bound-is k l c e)) (nodes-are k l c e)
+    ∙ sym (from-seven-is k l first position)
 
 module _ (L : Limits) (k : Kind) (l : List ℕ) (first position : ℕ) where
+  -- what the scan of numbers 2 to 4 found
+  pub two-scan : (f : Found) → f ≡ scanned 3 2 k l 0 first position → unless f (from-five L k l first position) ≡ from-two L k l first position
+  two-scan f g = ap (λ (x : Found). unless x (from-five L k l first position)) g ∙ sym (from-two-is L k l first position)
+
   pub five-over : over L k l ≡ true → Refused (refusal-at 5 position 0) ≡ from-five L k l first position
   five-over e = rw (from-five-is, e) refl
 

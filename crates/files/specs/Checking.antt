@@ -13,6 +13,8 @@ use Rattle.files.specs.declared.record.Parsed.{Parsed}
 use Rattle.files.specs.declared.record.Parsed.the-variants.{Node, Edge, Row, Rule, Interface, Wrong, Other}
 use Rattle.files.specs.declared.check.Checked.{Checked}
 use Rattle.files.specs.declared.check.Checked.the-variants.{Accepted, Refused}
+use Rattle.files.specs.declared.check.Found.{Found}
+use Rattle.files.specs.declared.check.Found.the-variants.{Nothing, At}
 use Rattle.files.specs.Record.{record-at, count, takes-rows, parsed}
 use Rattle.files.specs.Refusal.{Kind, graph, property, rules, interface, of-kind, nodes-of, misplaced, missing, refusal}
 use Rattle.files.specs.Outcome.{refusal-at}
@@ -143,10 +145,16 @@ offends n k l b i =
 pub first-offending : ℕ → Kind → List ℕ → ℕ → ℕ
 first-offending n k l b = first-or (first-where (offends n k l b) (count l)) (count l)
 
--- refused by number n at its first record, which is record `first + i` of the file; or else what follows
-abbrev pub number-step : ℕ → Kind → List ℕ → ℕ → ℕ → ℕ → Checked → Checked
-number-step n k l b first position rest =
-    cond (ltb (first-offending n k l b) (count l)) (Refused (refusal-at n position (first + first-offending n k l b))) rest
+-- of `many` numbers from n on, the first that offends, at its first record, which is record `first + i` of the file
+pub scanned : ℕ → ℕ → Kind → List ℕ → ℕ → ℕ → ℕ → Found
+scanned zero n k l b first position = Nothing
+scanned (suc many) n k l b first position =
+    cond (ltb (first-offending n k l b) (count l)) (At (refusal-at n position (first + first-offending n k l b))) (scanned many (suc n) k l b first position)
+
+-- what a scan found is the refusal; where it found nothing the rest says
+abbrev pub unless : Found → Checked → Checked
+unless Nothing rest = rest
+unless (At r) rest = Refused r
 
 -- whether number 5 counts record i apart: a node of a graph, an or-row of a property
 abbrev pub counts : Kind → List ℕ → ℕ → Bool
@@ -193,24 +201,15 @@ missing-with property n = eqb n 0
 missing-with rules n = false
 missing-with interface n = eqb n 0
 
-pub from-eight : Kind → List ℕ → ℕ → ℕ → Checked
-from-eight k l first position = number-step 8 k l (bound-of k l) first position (Accepted (nodes-in k l) (count l))
-
 pub from-seven : Kind → List ℕ → ℕ → ℕ → Checked
-from-seven k l first position = number-step 7 k l (bound-of k l) first position (from-eight k l first position)
+from-seven k l first position = unless (scanned 2 7 k l (bound-of k l) first position) (Accepted (nodes-in k l) (count l))
 
 pub from-five : Limits → Kind → List ℕ → ℕ → ℕ → Checked
 from-five L k l first position =
     cond (over L k l) (Refused (refusal-at 5 position 0)) (cond (missing k l) (Refused (refusal-at 6 position 0)) (from-seven k l first position))
 
-pub from-four : Limits → Kind → List ℕ → ℕ → ℕ → Checked
-from-four L k l first position = number-step 4 k l 0 first position (from-five L k l first position)
-
-pub from-three : Limits → Kind → List ℕ → ℕ → ℕ → Checked
-from-three L k l first position = number-step 3 k l 0 first position (from-four L k l first position)
-
 pub from-two : Limits → Kind → List ℕ → ℕ → ℕ → Checked
-from-two L k l first position = number-step 2 k l 0 first position (from-three L k l first position)
+from-two L k l first position = unless (scanned 3 2 k l 0 first position) (from-five L k l first position)
 
 -- the steps of a whole file
 pub from-one : Limits → Kind → List ℕ → ℕ → Checked

@@ -4,13 +4,13 @@ ghost use mathlib.Core.Path.{_≡_};
 ghost use mathlib.Core.List.{List, [], _∷_};
 ghost use mathlib.Core.Bool.{_&&_, _||_};
 ghost use lib.Dec.{eqb, leb};
-ghost use Prim.Native.Nat.{_+_, _*_, _/_, _≤_, _<_};
+ghost use Prim.Native.Nat.{_+_, _-_, _*_, _/_, _≤_, _<_};
 ghost use lib.ListN.{length};
 ghost use Rattle.files.specs.Basics.Lexical.{before};
 ghost use Rattle.files.specs.Record.{record-at, part, takes-rows};
 ghost use Rattle.files.specs.Refusal.{graph, property, rules, interface, edge-before, misplaced};
 ghost use Rattle.files.specs.FileKind.{kind-of};
-ghost use Rattle.files.specs.Checking.{checked, parsed-at, is-wrong, edges-out, rules-out, disordered-at, past-of, method-of, crossing-of, is-or-of, counts, counted, offends, first-offending, nodes-with, bound-with, over-with, missing-with, from-eight, from-seven, from-five, from-four, from-three, from-two};
+ghost use Rattle.files.specs.Checking.{checked, parsed-at, is-wrong, edges-out, rules-out, disordered-at, past-of, method-of, crossing-of, is-or-of, counts, counted, offends, first-offending, nodes-with, bound-with, over-with, missing-with, scanned, from-seven, from-five, from-two};
 use crate::parse::kind_at;
 use crate::parse::parse;
 use crate::record::Limits;
@@ -30,6 +30,12 @@ pub enum FileKind {
 pub enum Checked {
     Accepted { nodes: usize, records: usize },
     Refused(Refusal),
+}
+
+// What a scan found: nothing, or a refusal.
+pub enum Found {
+    Nothing,
+    At(Refusal),
 }
 
 // Whether (a, b, c) comes strictly before (x, y, z).
@@ -245,6 +251,31 @@ fn is_or(p: Parsed) -> bool
     operator == 8
 }
 
+// The first of the numbers from `low` up to `past` that offends somewhere, at its first record.
+fn scan(
+    low: u8,
+    past: u8,
+    kind: FileKind,
+    records: &[u8],
+    bound: usize,
+    first: usize,
+    position: u8,
+) -> Found
+    requires { ⌜ (low ≤ past) × ((6 * bound ≤ length (now records)) × (first + length (now records) < 18446744073709551616)) ⌝ }
+    ensures { λ r. ⌜ r ≡ scanned (past - low) low (kind-of kind) (now (records .entry)) bound first position ⌝ }
+{
+    let n = records.len() / Record::LEN;
+    let mut number = low;
+    while number < past {
+        let i = first_offending(number, kind, records, bound);
+        if i < n {
+            return Found::At(Refusal::at(number, position, first + i));
+        }
+        number += 1;
+    }
+    Found::Nothing
+}
+
 // Whether number 5 counts record i apart.
 fn counts(kind: FileKind, records: &[u8], i: usize) -> bool
     requires { ⌜ 6 * i + 6 ≤ length (now records) ⌝ }
@@ -300,23 +331,6 @@ fn nodes(kind: FileKind, apart: usize) -> usize
     }
 }
 
-// The steps from number 8 on.
-fn from_eight(kind: FileKind, records: &[u8], first: usize, position: u8, apart: usize) -> Checked
-    requires { ⌜ (apart ≡ counted (kind-of kind) (now records)) × (first + length (now records) < 18446744073709551616) ⌝ }
-    ensures { λ r. ⌜ r ≡ from-eight (kind-of kind) (now (records .entry)) first position ⌝ }
-{
-    let n = records.len() / Record::LEN;
-    let most = bound(kind, apart, n);
-    let i = first_offending(8, kind, records, most);
-    if i < n {
-        return Checked::Refused(Refusal::at(8, position, first + i));
-    }
-    Checked::Accepted {
-        nodes: nodes(kind, apart),
-        records: n,
-    }
-}
-
 // The steps from number 7 on.
 fn from_seven(kind: FileKind, records: &[u8], first: usize, position: u8, apart: usize) -> Checked
     requires { ⌜ (apart ≡ counted (kind-of kind) (now records)) × (first + length (now records) < 18446744073709551616) ⌝ }
@@ -324,11 +338,13 @@ fn from_seven(kind: FileKind, records: &[u8], first: usize, position: u8, apart:
 {
     let n = records.len() / Record::LEN;
     let most = bound(kind, apart, n);
-    let i = first_offending(7, kind, records, most);
-    if i < n {
-        return Checked::Refused(Refusal::at(7, position, first + i));
+    match scan(7, 9, kind, records, most, first, position) {
+        Found::At(refusal) => Checked::Refused(refusal),
+        Found::Nothing => Checked::Accepted {
+            nodes: nodes(kind, apart),
+            records: n,
+        },
     }
-    from_eight(kind, records, first, position, apart)
 }
 
 // 5: a limit is passed, by n records of which so many are counted apart. Where no kind is out of place, all records of a graph but the nodes are edges.
@@ -372,43 +388,15 @@ fn from_five(limits: Limits, kind: FileKind, records: &[u8], first: usize, posit
     from_seven(kind, records, first, position, apart)
 }
 
-// The steps from number 4 on.
-fn from_four(limits: Limits, kind: FileKind, records: &[u8], first: usize, position: u8) -> Checked
-    requires { ⌜ first + length (now records) < 18446744073709551616 ⌝ }
-    ensures { λ r. ⌜ r ≡ from-four limits (kind-of kind) (now (records .entry)) first position ⌝ }
-{
-    let n = records.len() / Record::LEN;
-    let i = first_offending(4, kind, records, 0);
-    if i < n {
-        return Checked::Refused(Refusal::at(4, position, first + i));
-    }
-    from_five(limits, kind, records, first, position)
-}
-
-// The steps from number 3 on.
-fn from_three(limits: Limits, kind: FileKind, records: &[u8], first: usize, position: u8) -> Checked
-    requires { ⌜ first + length (now records) < 18446744073709551616 ⌝ }
-    ensures { λ r. ⌜ r ≡ from-three limits (kind-of kind) (now (records .entry)) first position ⌝ }
-{
-    let n = records.len() / Record::LEN;
-    let i = first_offending(3, kind, records, 0);
-    if i < n {
-        return Checked::Refused(Refusal::at(3, position, first + i));
-    }
-    from_four(limits, kind, records, first, position)
-}
-
 // The steps from number 2 on, of records that start at record `first` of the file.
 fn from_two(limits: Limits, kind: FileKind, records: &[u8], first: usize, position: u8) -> Checked
     requires { ⌜ first + length (now records) < 18446744073709551616 ⌝ }
     ensures { λ r. ⌜ r ≡ from-two limits (kind-of kind) (now (records .entry)) first position ⌝ }
 {
-    let n = records.len() / Record::LEN;
-    let i = first_offending(2, kind, records, 0);
-    if i < n {
-        return Checked::Refused(Refusal::at(2, position, first + i));
+    match scan(2, 5, kind, records, 0, first, position) {
+        Found::At(refusal) => Checked::Refused(refusal),
+        Found::Nothing => from_five(limits, kind, records, first, position),
     }
-    from_three(limits, kind, records, first, position)
 }
 
 // Checks a whole file.

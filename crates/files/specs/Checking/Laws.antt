@@ -3,14 +3,14 @@ use mathlib.Core.Path.{_≡_, refl, sym, ap, subst, _∙_}
 use mathlib.Core.Bool.{Bool, true, false, not, cond}
 use mathlib.Core.List.{List, [], _∷_}
 use mathlib.Core.Option.{Option, none, some}
-use Prim.Native.Nat.{ℕ, suc, _%_, _<_}
+use Prim.Native.Nat.{ℕ, suc, _+_, _%_, _<_}
 use native.Mathlib.Nat.{zero-add}
 use native.Mathlib.Omega.{arith}
-use lib.Dec.{T, eqb}
+use lib.Dec.{T, ltb, eqb}
 use lib.ListN.{length}
 use Rattle.files.specs.Basics.First.{first-where, whole, pick, Finds, first-finds, first-hit, first-same}
 use Rattle.files.specs.Basics.Tables.{tally}
-use Rattle.files.specs.Checking.{nodes-in, checked-by, checked, parsed-at, is-wrong, disordered-at, past-of, crossing-of, offends, first-or, first-offending, counts, counted, number-step, bound-of, over, from-one, from-two, from-three, from-four, from-five, from-seven, from-eight}
+use Rattle.files.specs.Checking.{nodes-in, checked-by, checked, parsed-at, is-wrong, disordered-at, past-of, crossing-of, offends, first-or, first-offending, scanned, unless, counts, counted, bound-of, over, from-one, from-two, from-five, from-seven}
 use Rattle.files.specs.Checking.Agree.{wrong-same, four-agrees, five-agrees, seven-agrees, eight-agrees}
 use Rattle.files.specs.Outcome.{refusal-at}
 use Rattle.files.specs.Record.{record-at, count, wrong}
@@ -18,6 +18,8 @@ use Rattle.files.specs.Refusal.{Kind, misplaced, disordered, passed, mis
 use Rattle.files.specs.Refusal.Laws.{refusal-is, findings-are}
 use Rattle.files.specs.declared.check.Checked.{Checked}
 use Rattle.files.specs.declared.check.Checked.the-variants.{Accepted, Refused}
+use Rattle.files.specs.declared.check.Found.{Found}
+use Rattle.files.specs.declared.check.Found.the-variants.{Nothing, At}
 use Rattle.files.specs.declared.record.Limits.{Limits}
 use borrow.Author.Tests.{lt-ltb, le-ltb}
 
@@ -27,30 +29,29 @@ pub from-one-is : (L : Limits) (k : Kind) (l : List ℕ) (position : ℕ) → fr
 unfolding from-one
 from-one-is L k l position = refl
 
-pub from-two-is : (L : Limits) (k : Kind) (l : List ℕ) (first position : ℕ) → from-two L k l first position ≡ number-step 2 k l 0 first position (from-three L k l first position)
+pub from-two-is : (L : Limits) (k : Kind) (l : List ℕ) (first position : ℕ)
+    → from-two L k l first position ≡ unless (scanned 3 2 k l 0 first position) (from-five L k l first position)
 unfolding from-two
 from-two-is L k l first position = refl
-
-pub from-three-is : (L : Limits) (k : Kind) (l : List ℕ) (first position : ℕ) → from-three L k l first position ≡ number-step 3 k l 0 first position (from-four L k l first position)
-unfolding from-three
-from-three-is L k l first position = refl
-
-pub from-four-is : (L : Limits) (k : Kind) (l : List ℕ) (first position : ℕ) → from-four L k l first position ≡ number-step 4 k l 0 first position (from-five L k l first position)
-unfolding from-four
-from-four-is L k l first position = refl
 
 pub from-five-is : (L : Limits) (k : Kind) (l : List ℕ) (first position : ℕ)
     → from-five L k l first position ≡ cond (over L k l) (Refused (refusal-at 5 position 0)) (cond (missing k l) (Refused (refusal-at 6 position 0)) (from-seven k l first position))
 unfolding from-five
 from-five-is L k l first position = refl
 
-pub from-seven-is : (k : Kind) (l : List ℕ) (first position : ℕ) → from-seven k l first position ≡ number-step 7 k l (bound-of k l) first position (from-eight k l first position)
+pub from-seven-is : (k : Kind) (l : List ℕ) (first position : ℕ)
+    → from-seven k l first position ≡ unless (scanned 2 7 k l (bound-of k l) first position) (Accepted (nodes-in k l) (count l))
 unfolding from-seven
 from-seven-is k l first position = refl
 
-pub from-eight-is : (k : Kind) (l : List ℕ) (first position : ℕ) → from-eight k l first position ≡ number-step 8 k l (bound-of k l) first position (Accepted (nodes-in k l) (count l))
-unfolding from-eight
-from-eight-is k l first position = refl
+pub scanned-none : (n : ℕ) (k : Kind) (l : List ℕ) (b first position : ℕ) → scanned 0 n k l b first position ≡ Nothing
+unfolding scanned
+scanned-none n k l b first position = refl
+
+pub scanned-more : (many n : ℕ) (k : Kind) (l : List ℕ) (b first position : ℕ)
+    → scanned (suc many) n k l b first position ≡ cond (ltb (first-offending n k l b) (count l)) (At (refusal-at n position (first + first-offending n k l b))) (scanned many (suc n) k l b first position)
+unfolding scanned
+scanned-more many n k l b first position = refl
 
 pub offends-is : (n : ℕ) (k : Kind) (l : List ℕ) (b i : ℕ)
     → offends n k l b i ≡ cond (eqb n 2) (misplaced k l i) (cond (eqb n 3) (is-wrong (parsed-at l i)) (cond (eqb n 4) (disordered-at l i) (cond (eqb n 7) (past-of b (parsed-at l i)) (crossing-of l b (parsed-at l i)))))
@@ -112,13 +113,20 @@ whole-step : (k : Kind) (l : List ℕ) (position n : ℕ) (ms : List (Option ℕ
 whole-step k l position n ms rest true f = refl
 whole-step k l position n ms rest false f = f refl
 
-scan-step : (k : Kind) (l : List ℕ) (position n : ℕ) (ms : List (Option ℕ)) (rest : Checked) (b : ℕ) (m : Option ℕ) → first-where (offends n k l b) (count l) ≡ m
-    → (m ≡ none → rest ≡ checked-by k l position (pick (suc n) ms)) → number-step n k l b 0 position rest ≡ checked-by k l position (pick n (m ∷ ms))
-scan-step k l position n ms rest b none e f = rw (offending-none n k l b e, le-ltb (count l) (count l) (omega arith)) (f refl)
-scan-step k l position n ms rest b (some i) e f = rw (found-is n k l b (some i) e, lt-ltb i (count l) below, zero-add i)
+scan-step : (k : Kind) (l : List ℕ) (position many n : ℕ) (ms : List (Option ℕ)) (rest : Checked) (b : ℕ) (m : Option ℕ) → first-where (offends n k l b) (count l) ≡ m
+    → (m ≡ none → unless (scanned many (suc n) k l b 0 position) rest ≡ checked-by k l position (pick (suc n) ms))
+    → unless (scanned (suc many) n k l b 0 position) rest ≡ checked-by k l position (pick n (m ∷ ms))
+scan-step k l position many n ms rest b none e f =
+    rw (scanned-more many n k l b 0 position, offending-none n k l b e, le-ltb (count l) (count l) (omega arith)) (f refl)
+scan-step k l position many n ms rest b (some i) e f =
+    rw (scanned-more many n k l b 0 position, found-is n k l b (some i) e, lt-ltb i (count l) below, zero-add i)
   where
     below : i < count l
     below = (subst (λ (o : Option ℕ). Finds o (λ j. (j < count l) × T (offends n k l b j))) e (first-finds (offends n k l b) (count l))) .0 .0
+
+-- a scan of no number leaves the rest
+scan-end : (k : Kind) (l : List ℕ) (position n b : ℕ) (rest : Checked) → unless (scanned 0 n k l b 0 position) rest ≡ rest
+scan-end k l position n b rest = ap (λ (x : Found). unless x rest) (scanned-none n k l b 0 position)
 
 -- each number that looks at records finds what the refusal's number finds
 module _ (k : Kind) (l : List ℕ) where
@@ -143,12 +151,14 @@ module _ (k : Kind) (l : List ℕ) (two : first-where (misplaced k l) (count l) 
   unfolding offends
   eight-finds = first-same (offends 8 k l (bound-of k l)) (crossing k l) (count l) (eight-agrees k l two three)
 
-  -- the steps from each number on, where 2 and 3 find nothing
-  eight-on : (position : ℕ) → from-eight k l 0 position ≡ checked-by k l position (pick 8 (from-eighth k l))
-  eight-on position = from-eight-is k l 0 position ∙ scan-step k l position 8 [] _ (bound-of k l) _ eight-finds (λ e. refl)
-
+  -- the steps from numbers 7 and 5 on, where 2 and 3 find nothing
   seven-on : (position : ℕ) → from-seven k l 0 position ≡ checked-by k l position (pick 7 (from-seventh k l))
-  seven-on position = from-seven-is k l 0 position ∙ scan-step k l position 7 (from-eighth k l) _ (bound-of k l) _ seven-finds (λ e. eight-on position)
+  seven-on position =
+      from-seven-is k l 0 position
+      ∙ scan-step k l position 1 7 (from-eighth k l) accepted (bound-of k l) _ seven-finds (λ e. scan-step k l position 0 8 [] accepted (bound-of k l) _ eight-finds (λ f. scan-end k l position 9 (bound-of k l) accepted))
+    where
+      accepted : Checked
+      accepted = Accepted (nodes-in k l) (count l)
 
   five-on : (L : Limits) (position : ℕ) → from-five L k l 0 position ≡ checked-by k l position (pick 5 (from-fifth L k l))
   five-on L position =
@@ -158,9 +168,6 @@ module _ (k : Kind) (l : List ℕ) (two : first-where (misplaced k l) (count l) 
       six : Checked
       six = cond (missing k l) (Refused (refusal-at 6 position 0)) (from-seven k l 0 position)
 
-  four-on : (L : Limits) (position : ℕ) → from-four L k l 0 position ≡ checked-by k l position (pick 4 (from-fourth L k l))
-  four-on L position = from-four-is L k l 0 position ∙ scan-step k l position 4 (from-fifth L k l) _ 0 _ four-finds (λ e. five-on L position)
-
 -- the steps that the code takes come to the file's refusal
 pub checked-steps : (L : Limits) (k : Kind) (l : List ℕ) (position : ℕ) → from-one L k l position ≡ checked L k l position
 checked-steps L k l position = one-on ∙ ap (λ (ms : List (Option ℕ)). checked-by k l position (pick 1 ms)) (sym (findings-are L k l)) ∙ ap (checked-by k l position) (sym (refusal-is L k l)) ∙ sym (checked-is L k l position)
@@ -168,11 +175,18 @@ checked-steps L k l position = one-on ∙ ap (λ (ms : List (Option ℕ)). check
     thirds : List (Option ℕ)
     thirds = first-where (λ i. wrong (record-at l i)) (count l) ∷ from-fourth L k l
 
-    three-on : first-where (misplaced k l) (count l) ≡ none → from-three L k l 0 position ≡ checked-by k l position (pick 3 thirds)
-    three-on two = from-three-is L k l 0 position ∙ scan-step k l position 3 (from-fourth L k l) _ 0 _ (three-finds k l) (λ three. four-on k l two three L position)
+    rest : Checked
+    rest = from-five L k l 0 position
+
+    four-on : first-where (misplaced k l) (count l) ≡ none → first-where (λ i. wrong (record-at l i)) (count l) ≡ none
+        → unless (scanned 1 4 k l 0 0 position) rest ≡ checked-by k l position (pick 4 (from-fourth L k l))
+    four-on two three = scan-step k l position 0 4 (from-fifth L k l) rest 0 _ (four-finds k l two three) (λ e. scan-end k l position 5 0 rest ∙ five-on k l two three L position)
+
+    three-on : first-where (misplaced k l) (count l) ≡ none → unless (scanned 2 3 k l 0 0 position) rest ≡ checked-by k l position (pick 3 thirds)
+    three-on two = scan-step k l position 1 3 (from-fourth L k l) rest 0 _ (three-finds k l) (four-on two)
 
     two-on : from-two L k l 0 position ≡ checked-by k l position (pick 2 (first-where (misplaced k l) (count l) ∷ thirds))
-    two-on = from-two-is L k l 0 position ∙ scan-step k l position 2 thirds _ 0 _ (two-finds k l) three-on
+    two-on = from-two-is L k l 0 position ∙ scan-step k l position 2 2 thirds rest 0 _ (two-finds k l) three-on
 
     one-on : from-one L k l position ≡ checked-by k l position (pick 1 (whole (not (eqb (length l % 6) 0)) ∷ first-where (misplaced k l) (count l) ∷ thirds))
     one-on = from-one-is L k l position ∙ whole-step k l position 1 (first-where (misplaced k l) (count l) ∷ thirds) _ (not (eqb (length l % 6) 0)) (λ e. two-on)

@@ -1,47 +1,50 @@
-use mathlib.Core.Path.{_≡_, refl, sym, ap, _∙_}
-use Prim.Native.Nat.{ℕ, _/_}
-use native.Mathlib.Omega.{arith}
-use lib.ListN.{length}
+use mathlib.Core.Path.{_≡_, _∙_}
 use Rattle.files.specs.FileKind.{kind-of}
-use Rattle.files.specs.declared.check.Checked.the-variants.{Accepted, Refused}
-use Rattle.files.specs.Record.{count}
-use Rattle.files.specs.Checking.{first-offending, bound-of, from-three, from-four, from-five, from-seven, from-eight}
-use Rattle.files.specs.Checking.Laws.{from-two-is, from-three-is, from-four-is, from-five-is, from-seven-is, from-eight-is}
-use Rattle.files.proofs.CheckLaws.{bound-is, bound-fits, step-taken, step-left}
+use Rattle.files.specs.Checking.{unless, from-five, from-two}
+use Rattle.files.proofs.CheckLaws.{two-scan}
 use borrow.Author.Needs.{needs}
 use Rattle.files.proofs.check.from_two.Statement.{statement}
 use Rattle.files.proofs.check.from_two.Tie as tie
 use Rattle.files.proofs.check.from_two.Reads as reads
 use Rattle.files.proofs.check.from_two.Lts as lts
-use Rattle.files.proofs.check.first_offending.Reads as first-offending-reads
-use Rattle.files.proofs.check.from_three.Reads as from-three-reads
-use Rattle.files.proofs.refusal.Refusal.at.Reads as at-reads
+use Rattle.files.proofs.check.from_five.Reads as from-five-reads
+use Rattle.files.proofs.check.scan.Reads as scan-reads
 
--- src/check.rt:396:9
-first-offending-requires : tie.Need-first-offending-requires
-first-offending-requires c κs = omega arith
+-- what the scan found decides the steps from number 2 on
+abbrev Said : tie.After-scan → Type 0
+Said c =
+    let a = c .before .before .args in
+    unless (c .scan .result) (from-five (a .limits) (kind-of (a .kind)) (a .records .now) (a .first) (a .position))
+    ≡ from-two (a .limits) (kind-of (a .kind)) (a .records .now) (a .first) (a .position)
 
--- src/check.rt:398:58
-add-at : tie.Need-add-at
-add-at c = omega (arith, c .before .before .before .pre)
+scan-said : (c : tie.After-scan) → Said c
+scan-said c = let a = c .before .before .args in two-scan (a .limits) (kind-of (a .kind)) (a .records .now) (a .first) (a .position) (c .scan .result) (c .scan .ensures)
 
--- src/check.rt:398:33
-at-requires : tie.Need-at-requires
-at-requires c κs = search needs
+-- src/check.rt:396:11
+scan-requires : tie.Need-scan-requires
+scan-requires c κs = search needs
 
--- src/check.rt:398:9
+-- src/check.rt:397:19
+enum-known-refusal : tie.Need-enum-known-refusal
+enum-known-refusal c = search needs
+
+-- src/check.rt:398:27
+enum-told : tie.Need-enum-told
+enum-told c = search needs
+
+-- src/check.rt:398:27
+from-five-requires : tie.Need-from-five-requires
+from-five-requires c κs = search needs
+
+-- src/check.rt:392:1
 returns : tie.Need-returns
-returns c = ap Refused (c .at .ensures) ∙ step-taken 2 (kind-of (c .before .before .before .before .args .kind)) (c .before .before .before .before .args .records .now) 0 (c .before .before .before .before .args .first) (c .before .before .before .before .args .position) (c .before .before .first-offending .result) (from-three (c .before .before .before .before .args .limits) (kind-of (c .before .before .before .before .args .kind)) (c .before .before .before .before .args .records .now) (c .before .before .before .before .args .first) (c .before .before .before .before .args .position)) (c .before .before .first-offending .ensures) (c .before .if1 .taken) ∙ sym (from-two-is (c .before .before .before .before .args .limits) (kind-of (c .before .before .before .before .args .kind)) (c .before .before .before .before .args .records .now) (c .before .before .before .before .args .first) (c .before .before .before .before .args .position))
+returns c = rw (c .before .refusal .given .1) at (scan-said (c .before .before .before))
 
--- src/check.rt:400:5
-from-three-requires : tie.Need-from-three-requires
-from-three-requires c κs = search needs
-
--- src/check.rt:391:1
+-- src/check.rt:392:1
 returns-2 : tie.Need-returns-2
-returns-2 c = c .from-three .ensures ∙ step-left 2 (kind-of (c .before .before .before .before .args .kind)) (c .before .before .before .before .args .records .now) 0 (c .before .before .before .before .args .first) (c .before .before .before .before .args .position) (c .before .before .first-offending .result) (from-three (c .before .before .before .before .args .limits) (kind-of (c .before .before .before .before .args .kind)) (c .before .before .before .before .args .records .now) (c .before .before .before .before .args .first) (c .before .before .before .before .args .position)) (c .before .before .first-offending .ensures) (c .before .if1 .left) ∙ sym (from-two-is (c .before .before .before .before .args .limits) (kind-of (c .before .before .before .before .args .kind)) (c .before .before .before .before .args .records .now) (c .before .before .before .before .args .first) (c .before .before .before .before .args .position))
+returns-2 c = c .from-five .ensures ∙ (rw (c .before .enum-told .given .1) at (scan-said (c .before .before .before)))
 
 pub from-two-spec : {M : Type 1} → statement M
 from-two-spec =
     tie.close
-    (tie.spec first-offending-requires add-at at-requires returns from-three-requires returns-2)
+    (tie.spec scan-requires enum-known-refusal enum-told from-five-requires returns returns-2)
