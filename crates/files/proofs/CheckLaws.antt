@@ -19,8 +19,8 @@ use borrow.Author.Tests.{lt-ltb, le-ltb}
 use Rattle.files.specs.Outcome.{refusal-at}
 use Rattle.files.specs.declared.check.Checked.{Checked}
 use Rattle.files.specs.declared.check.Checked.the-variants.{Accepted, Refused}
-use Rattle.files.specs.declared.check.Found.{Found}
-use Rattle.files.specs.declared.check.Found.the-variants.{Nothing, At}
+use Rattle.files.specs.declared.scan.Found.{Found}
+use Rattle.files.specs.declared.scan.Found.the-variants.{Nothing, At}
 use Rattle.files.specs.declared.record.Limits.{Limits}
 use Rattle.files.specs.Checking.Laws.{counted-is, scanned-none, scanned-more, from-seven-is, from-five-is, from-two-is, from-one-is, checked-steps}
 use Rattle.files.specs.Record.Laws.{part-length}

@@ -13,8 +13,8 @@ use Rattle.files.specs.declared.record.Parsed.{Parsed}
 use Rattle.files.specs.declared.record.Parsed.the-variants.{Node, Edge, Row, Rule, Interface, Wrong, Other}
 use Rattle.files.specs.declared.check.Checked.{Checked}
 use Rattle.files.specs.declared.check.Checked.the-variants.{Accepted, Refused}
-use Rattle.files.specs.declared.check.Found.{Found}
-use Rattle.files.specs.declared.check.Found.the-variants.{Nothing, At}
+use Rattle.files.specs.declared.scan.Found.{Found}
+use Rattle.files.specs.declared.scan.Found.the-variants.{Nothing, At}
 use Rattle.files.specs.Record.{record-at, count, takes-rows, parsed}
 use Rattle.files.specs.Refusal.{Kind, graph, property, rules, interface, of-kind, nodes-of, misplaced, missing, refusal}
 use Rattle.files.specs.Outcome.{refusal-at}

@@ -18,8 +18,8 @@ use Rattle.files.specs.Refusal.{Kind, misplaced, disordered, passed, mis
 use Rattle.files.specs.Refusal.Laws.{refusal-is, findings-are}
 use Rattle.files.specs.declared.check.Checked.{Checked}
 use Rattle.files.specs.declared.check.Checked.the-variants.{Accepted, Refused}
-use Rattle.files.specs.declared.check.Found.{Found}
-use Rattle.files.specs.declared.check.Found.the-variants.{Nothing, At}
+use Rattle.files.specs.declared.scan.Found.{Found}
+use Rattle.files.specs.declared.scan.Found.the-variants.{Nothing, At}
 use Rattle.files.specs.declared.record.Limits.{Limits}
 use borrow.Author.Tests.{lt-ltb, le-ltb}
 

@@ -11,7 +11,7 @@ use Rattle.files.proofs.check.from_five.Statement.{statement}
 use Rattle.files.proofs.check.from_five.Tie as tie
 use Rattle.files.proofs.check.from_five.Reads as reads
 use Rattle.files.proofs.check.from_five.Lts as lts
-use Rattle.files.proofs.check.count.Reads as count-reads
+use Rattle.files.proofs.scan.count.Reads as count-reads
 use Rattle.files.proofs.check.from_seven.Reads as from-seven-reads
 use Rattle.files.proofs.check.missing.Reads as missing-reads
 use Rattle.files.proofs.check.over.Reads as over-reads

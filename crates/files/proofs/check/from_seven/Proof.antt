@@ -13,7 +13,7 @@ use Rattle.files.proofs.check.from_seven.Reads as reads
 use Rattle.files.proofs.check.from_seven.Lts as lts
 use Rattle.files.proofs.check.bound.Reads as bound-reads
 use Rattle.files.proofs.check.nodes.Reads as nodes-reads
-use Rattle.files.proofs.check.scan.Reads as scan-reads
+use Rattle.files.proofs.scan.scan.Reads as scan-reads
 
 -- what the scan found decides the steps from number 7 on
 abbrev Said : tie.After-scan → Type 0

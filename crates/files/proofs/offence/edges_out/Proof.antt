@@ -1,0 +1,37 @@
+use Rattle.files.proofs.Tags.{no-first-edge, no-next-edge}
+use mathlib.Core.Path.{ap}
+use mathlib.Core.Bool.{not}
+use borrow.Author.Needs.{needs}
+use Rattle.files.proofs.offence.edges_out.Statement.{statement}
+use Rattle.files.proofs.offence.edges_out.Tie as tie
+use Rattle.files.proofs.offence.edges_out.Reads as reads
+use Rattle.files.proofs.offence.edges_out.Lts as lts
+use Rattle.files.proofs.offence.before3.Reads as before3-reads
+
+-- src/offence.rt:88:24
+enum-known-p : tie.Need-enum-known-p
+enum-known-p c = search needs
+
+-- src/offence.rt:89:9
+returns : tie.Need-returns
+returns c = no-first-edge (c .before .args .p) (c .before .args .q) (c .match .keys2)
+
+-- src/offence.rt:92:15
+enum-known-q : tie.Need-enum-known-q
+enum-known-q c = search needs
+
+-- src/offence.rt:96:9
+returns-2 : tie.Need-returns-2
+returns-2 c = rw (c .before .before .p .given .1) (no-next-edge _ _ _ (c .before .before .before .before .args .q) (c .match2 .keys2))
+
+-- src/offence.rt:98:6
+before3-requires : tie.Need-before3-requires
+before3-requires c κs = search needs
+
+-- src/offence.rt:85:1
+returns-3 : tie.Need-returns-3
+returns-3 c = rw (c .before .before .before .before .before .p .given .1, c .before .before .q .given .1) (ap not (c .before3 .ensures))
+
+pub edges-out-spec : {M : Type 1} → statement M
+edges-out-spec =
+    tie.close (tie.spec enum-known-p returns enum-known-q returns-2 before3-requires returns-3)

@@ -1,0 +1,22 @@
+use Rattle.files.proofs.Tags.{no-or}
+use mathlib.Core.Path.{_≡_, refl, sym, ap, ap₂, _∙_}
+use borrow.Author.Needs.{needs}
+use Rattle.files.proofs.offence.is_or.Statement.{statement}
+use Rattle.files.proofs.offence.is_or.Tie as tie
+use Rattle.files.proofs.offence.is_or.Reads as reads
+use Rattle.files.proofs.offence.is_or.Lts as lts
+
+-- src/offence.rt:256:23
+enum-known-p : tie.Need-enum-known-p
+enum-known-p c = search needs
+
+-- src/offence.rt:257:9
+returns : tie.Need-returns
+returns c = no-or (c .before .args .p) (c .match .keys2)
+
+-- src/offence.rt:253:1
+returns-2 : tie.Need-returns-2
+returns-2 c = rw (c .before .p .given .1) refl
+
+pub is-or-spec : {M : Type 1} → statement M
+is-or-spec = tie.close (tie.spec enum-known-p returns returns-2)

@@ -1,0 +1,72 @@
+use mathlib.Core.Path.{ap, _∙_}
+use Prim.Native.Nat.{ℕ}
+use lib.Dec.{eqb}
+use Rattle.files.specs.Checking.{is-or-of}
+use borrow.Author.Needs.{needs}
+use Rattle.files.proofs.scan.counts.Statement.{statement}
+use Rattle.files.proofs.scan.counts.Tie as tie
+use Rattle.files.proofs.scan.counts.Reads as reads
+use Rattle.files.proofs.scan.counts.Lts as lts
+use Rattle.files.proofs.offence.is_or.Reads as is-or-reads
+use Rattle.files.proofs.parse.kind_at.Reads as kind-at-reads
+use Rattle.files.proofs.parse.parse.Reads as parse-reads
+
+-- src/scan.rt:254:28
+enum-told : tie.Need-enum-told
+enum-told c = search needs
+
+-- src/scan.rt:254:28
+kind-at-requires : tie.Need-kind-at-requires
+kind-at-requires c κs = search needs
+
+-- src/scan.rt:256:17
+enum-told-2 : tie.Need-enum-told-2
+enum-told-2 c = search needs
+
+-- src/scan.rt:256:17
+parse-requires : tie.Need-parse-requires
+parse-requires c κs = search needs
+
+-- src/scan.rt:257:13
+is-or-requires : tie.Need-is-or-requires
+is-or-requires c κs = search needs
+
+-- src/scan.rt:259:28
+enum-told-3 : tie.Need-enum-told-3
+enum-told-3 c = search needs
+
+-- src/scan.rt:260:32
+enum-told-4 : tie.Need-enum-told-4
+enum-told-4 c = search needs
+
+-- src/scan.rt:249:1
+returns : tie.Need-returns
+returns c = rw (c .before .enum-told .given .1) (ap (λ (x : ℕ). eqb x 1) (c .kind-at .ensures))
+
+-- src/scan.rt:249:1
+returns-2 : tie.Need-returns-2
+returns-2 c = rw (c .before .before .enum-told2 .given .1) (c .is-or .ensures ∙ ap is-or-of (c .before .parse .ensures))
+
+-- src/scan.rt:249:1
+returns-3 : tie.Need-returns-3
+returns-3 c = search needs
+
+-- src/scan.rt:249:1
+returns-4 : tie.Need-returns-4
+returns-4 c = search needs
+
+pub counts-spec : {M : Type 1} → statement M
+counts-spec =
+    tie.close
+    (tie.spec
+    enum-told
+    kind-at-requires
+    enum-told-2
+    parse-requires
+    is-or-requires
+    enum-told-3
+    enum-told-4
+    returns
+    returns-2
+    returns-3
+    returns-4)
