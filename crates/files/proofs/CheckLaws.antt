@@ -1,7 +1,7 @@
--- What the tests on a record and the one before it say, for the code that reads record i - 1.
+-- What the code of a check asks for: tests on a record and the one before it, what number 5 counts, a scan of several numbers, the steps, and a part of a file.
 use mathlib.Core.Path.{_≡_, refl, sym, ap, ap₂, _∙_}
 use mathlib.Core.Bool.{Bool, false, true, cond, _||_}
-use mathlib.Core.Option.{Option, none}
+use mathlib.Core.Option.{none}
 use mathlib.Core.List.{List}
 use Prim.Native.Nat.{ℕ, zero, suc, _+_, _-_, _*_, _≤_, _<_, _%_}
 use native.Mathlib.Nat.{add-comm}
@@ -17,7 +17,6 @@ use Rattle.files.specs.Checking.{parsed-at, edges-out, rules-out, disord
 use lib.ListN.{length, take, drop}
 use borrow.Author.Tests.{lt-ltb, le-ltb}
 use Rattle.files.specs.Outcome.{refusal-at}
-use Rattle.files.specs.declared.check.Checked.{Checked}
 use Rattle.files.specs.declared.check.Checked.the-variants.{Accepted, Refused}
 use Rattle.files.specs.declared.scan.Found.{Found}
 use Rattle.files.specs.declared.scan.Found.the-variants.{Nothing, At}

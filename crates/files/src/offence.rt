@@ -1,7 +1,7 @@
 // Tests on one record of a file that is read as a graph, property, rules or interface: the numbers 2, 3, 4, 7 and 8, and the or-rows that number 5 counts.
 // States that `offends` is the definition's test of a number at a record.
 ghost use mathlib.Core.Path.{_≡_};
-ghost use mathlib.Core.List.{List, [], _∷_};
+ghost use mathlib.Core.List.{[], _∷_};
 ghost use mathlib.Core.Bool.{_&&_, _||_};
 ghost use lib.Dec.{eqb, leb};
 ghost use Prim.Native.Nat.{_+_, _*_, _≤_};

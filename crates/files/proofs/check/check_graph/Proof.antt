@@ -5,11 +5,11 @@ use Rattle.files.proofs.check.check_graph.Reads as reads
 use Rattle.files.proofs.check.check_graph.Lts as lts
 use Rattle.files.proofs.check.check.Reads as check-reads
 
--- src/check.rt:417:5
+-- src/check.rt:130:5
 check-requires : tie.Need-check-requires
 check-requires c κs = search needs
 
--- src/check.rt:414:1
+-- src/check.rt:127:1
 returns : tie.Need-returns
 returns c = c .check .ensures
 

@@ -5,11 +5,11 @@ use Rattle.files.proofs.check.check_interface.Reads as reads
 use Rattle.files.proofs.check.check_interface.Lts as lts
 use Rattle.files.proofs.check.check.Reads as check-reads
 
--- src/check.rt:438:5
+-- src/check.rt:151:5
 check-requires : tie.Need-check-requires
 check-requires c κs = search needs
 
--- src/check.rt:435:1
+-- src/check.rt:148:1
 returns : tie.Need-returns
 returns c = c .check .ensures
 

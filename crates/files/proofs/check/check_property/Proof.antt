@@ -5,11 +5,11 @@ use Rattle.files.proofs.check.check_property.Reads as reads
 use Rattle.files.proofs.check.check_property.Lts as lts
 use Rattle.files.proofs.check.check.Reads as check-reads
 
--- src/check.rt:424:5
+-- src/check.rt:137:5
 check-requires : tie.Need-check-requires
 check-requires c κs = search needs
 
--- src/check.rt:421:1
+-- src/check.rt:134:1
 returns : tie.Need-returns
 returns c = c .check .ensures
 

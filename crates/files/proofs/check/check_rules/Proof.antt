@@ -5,11 +5,11 @@ use Rattle.files.proofs.check.check_rules.Reads as reads
 use Rattle.files.proofs.check.check_rules.Lts as lts
 use Rattle.files.proofs.check.check.Reads as check-reads
 
--- src/check.rt:431:5
+-- src/check.rt:144:5
 check-requires : tie.Need-check-requires
 check-requires c κs = search needs
 
--- src/check.rt:428:1
+-- src/check.rt:141:1
 returns : tie.Need-returns
 returns c = c .check .ensures
 

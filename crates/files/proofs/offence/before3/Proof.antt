@@ -4,7 +4,7 @@ use Rattle.files.proofs.offence.before3.Tie as tie
 use Rattle.files.proofs.offence.before3.Reads as reads
 use Rattle.files.proofs.offence.before3.Lts as lts
 
--- src/offence.rt:35:1
+-- src/offence.rt:28:1
 returns : tie.Need-returns
 returns c = before-three (c .args .a) (c .args .b) (c .args .c) (c .args .x) (c .args .y) (c .args .z)
 

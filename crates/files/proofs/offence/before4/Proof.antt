@@ -4,7 +4,7 @@ use Rattle.files.proofs.offence.before4.Tie as tie
 use Rattle.files.proofs.offence.before4.Reads as reads
 use Rattle.files.proofs.offence.before4.Lts as lts
 
--- src/offence.rt:42:1
+-- src/offence.rt:35:1
 returns : tie.Need-returns
 returns c = before-four (c .args .a) (c .args .b) (c .args .c) (c .args .d) (c .args .w) (c .args .x) (c .args .y) (c .args .z)
 

@@ -9,35 +9,35 @@ use Rattle.files.proofs.offence.crossing.Lts as lts
 use Rattle.files.proofs.offence.method_of.Reads as method-of-reads
 use Rattle.files.proofs.parse.parse.Reads as parse-reads
 
--- src/offence.rt:186:41
+-- src/offence.rt:179:41
 parse-requires : tie.Need-parse-requires
 parse-requires c κs = search needs
 
--- src/offence.rt:186:24
+-- src/offence.rt:179:24
 enum-known-from : tie.Need-enum-known-from
 enum-known-from c = search needs
 
--- src/offence.rt:187:9
+-- src/offence.rt:180:9
 returns : tie.Need-returns
 returns c = rw (← c .before .parse .ensures) (no-crossing (c .before .before .before .args .records .now) (c .before .before .before .args .n) (c .before .parse .result) (c .match .keys2))
 
--- src/offence.rt:190:9
+-- src/offence.rt:183:9
 returns-2 : tie.Need-returns-2
 returns-2 c = rw (← c .before .before .before .before .parse .ensures, c .before .before .from .given .1, le-ltb _ _ (c .if1 .taken)) refl
 
--- src/offence.rt:193:9
+-- src/offence.rt:186:9
 returns-3 : tie.Need-returns-3
 returns-3 c = rw (← c .before .before .before .before .before .parse .ensures, c .before .before .before .from .given .1, lt-ltb _ _ (c .before .if1 .left), le-ltb _ _ (c .if2 .taken)) refl
 
--- src/offence.rt:195:9
+-- src/offence.rt:188:9
 method-of-requires : tie.Need-method-of-requires
 method-of-requires c κs = search needs
 
--- src/offence.rt:196:9
+-- src/offence.rt:189:9
 method-of-requires-2 : tie.Need-method-of-requires-2
 method-of-requires-2 c κs = search needs
 
--- src/offence.rt:182:1
+-- src/offence.rt:175:1
 returns-4 : tie.Need-returns-4
 returns-4 c = rw (← c .before .before .before .before .before .before .before .parse .ensures, c .before .before .before .before .before .from .given .1, lt-ltb _ _ (c .before .before .before .if1 .left), lt-ltb _ _ (c .before .before .if2 .left), ← c .method-of2 .ensures, ← c .before .method-of .ensures) refl
 

@@ -8,27 +8,27 @@ use Rattle.files.proofs.offence.edges_out.Reads as reads
 use Rattle.files.proofs.offence.edges_out.Lts as lts
 use Rattle.files.proofs.offence.before3.Reads as before3-reads
 
--- src/offence.rt:88:24
+-- src/offence.rt:81:24
 enum-known-p : tie.Need-enum-known-p
 enum-known-p c = search needs
 
--- src/offence.rt:89:9
+-- src/offence.rt:82:9
 returns : tie.Need-returns
 returns c = no-first-edge (c .before .args .p) (c .before .args .q) (c .match .keys2)
 
--- src/offence.rt:92:15
+-- src/offence.rt:85:15
 enum-known-q : tie.Need-enum-known-q
 enum-known-q c = search needs
 
--- src/offence.rt:96:9
+-- src/offence.rt:90:9
 returns-2 : tie.Need-returns-2
 returns-2 c = rw (c .before .before .p .given .1) (no-next-edge _ _ _ (c .before .before .before .before .args .q) (c .match2 .keys2))
 
--- src/offence.rt:98:6
+-- src/offence.rt:92:6
 before3-requires : tie.Need-before3-requires
 before3-requires c κs = search needs
 
--- src/offence.rt:85:1
+-- src/offence.rt:78:1
 returns-3 : tie.Need-returns-3
 returns-3 c = rw (c .before .before .before .before .before .p .given .1, c .before .before .q .given .1) (ap not (c .before3 .ensures))
 

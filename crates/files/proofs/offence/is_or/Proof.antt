@@ -6,15 +6,15 @@ use Rattle.files.proofs.offence.is_or.Tie as tie
 use Rattle.files.proofs.offence.is_or.Reads as reads
 use Rattle.files.proofs.offence.is_or.Lts as lts
 
--- src/offence.rt:256:23
+-- src/offence.rt:197:23
 enum-known-p : tie.Need-enum-known-p
 enum-known-p c = search needs
 
--- src/offence.rt:257:9
+-- src/offence.rt:198:9
 returns : tie.Need-returns
 returns c = no-or (c .before .args .p) (c .match .keys2)
 
--- src/offence.rt:253:1
+-- src/offence.rt:194:1
 returns-2 : tie.Need-returns-2
 returns-2 c = rw (c .before .p .given .1) refl
 

@@ -7,19 +7,19 @@ use Rattle.files.proofs.offence.method_of.Reads as reads
 use Rattle.files.proofs.offence.method_of.Lts as lts
 use Rattle.files.proofs.parse.parse.Reads as parse-reads
 
--- src/offence.rt:175:39
+-- src/offence.rt:168:39
 parse-requires : tie.Need-parse-requires
 parse-requires c κs = search needs
 
--- src/offence.rt:175:24
+-- src/offence.rt:168:24
 enum-known-method : tie.Need-enum-known-method
 enum-known-method c = search needs
 
--- src/offence.rt:176:9
+-- src/offence.rt:169:9
 returns : tie.Need-returns
 returns c = rw (← c .before .parse .ensures) (no-method (c .before .parse .result) (c .match .keys2))
 
--- src/offence.rt:171:1
+-- src/offence.rt:164:1
 returns-2 : tie.Need-returns-2
 returns-2 c = rw (← c .before .before .before .parse .ensures, c .before .method .given .1) refl
 

@@ -8,27 +8,27 @@ use Rattle.files.proofs.offence.rules_out.Reads as reads
 use Rattle.files.proofs.offence.rules_out.Lts as lts
 use Rattle.files.proofs.offence.before4.Reads as before4-reads
 
--- src/offence.rt:105:24
+-- src/offence.rt:100:9
 enum-known-p : tie.Need-enum-known-p
 enum-known-p c = search needs
 
--- src/offence.rt:106:9
+-- src/offence.rt:107:9
 returns : tie.Need-returns
 returns c = no-first-rule (c .before .args .p) (c .before .args .q) (c .match .keys2)
 
--- src/offence.rt:109:16
+-- src/offence.rt:110:16
 enum-known-q : tie.Need-enum-known-q
 enum-known-q c = search needs
 
--- src/offence.rt:115:9
+-- src/offence.rt:117:9
 returns-2 : tie.Need-returns-2
 returns-2 c = rw (c .before .before .p .given .1) (no-next-rule _ _ _ _ (c .before .before .before .before .args .q) (c .match2 .keys2))
 
--- src/offence.rt:117:6
+-- src/offence.rt:119:6
 before4-requires : tie.Need-before4-requires
 before4-requires c κs = search needs
 
--- src/offence.rt:102:1
+-- src/offence.rt:96:1
 returns-3 : tie.Need-returns-3
 returns-3 c = rw (c .before .before .before .before .before .p .given .1, c .before .before .q .given .1) (ap not (c .before4 .ensures))
 
