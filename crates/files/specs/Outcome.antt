@@ -64,6 +64,16 @@ abbrev pub work-after : Outcome → List ℕ → List ℕ
 work-after (refuses r) work = cond (eqb (r .number) 13) work (replicate (length work) 0)
 work-after (says s) work = replicate (length work) 0
 
+-- ---- what a call does, by its outcome: its answer, and what it leaves in the lent bytes
+
+pub record Answers (o : Outcome) (out out′ : List ℕ) (a : Answer) : Type 0 where
+  pub answer-is : a ≡ answer o
+  pub out-is : out′ ≡ out-after o out
+
+pub record Does (o : Outcome) (out work out′ work′ : List ℕ) (a : Answer) : Type 0 where
+  pub answers : Answers o out out′ a
+  pub work-is : work′ ≡ work-after o work
+
 -- ---- the order of refusals, computed
 
 -- one line of the published order: number, file, and the first record that offends, if any

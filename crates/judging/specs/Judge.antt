@@ -3,12 +3,13 @@ use mathlib.Core.Path.{_≡_}
 use mathlib.Core.Logic.{_↔_}
 use mathlib.Core.Bool.{cond}
 use mathlib.Core.List.{List, [], _∷_}
-use Prim.Native.Nat.{ℕ, _<_}
+use mathlib.Core.Option.{none}
+use Prim.Native.Nat.{ℕ, _≤_, _<_}
 use lib.ListN.{length}
 use Rattle.files.specs.declared.record.Limits.{Limits}
 use Rattle.files.specs.Graph.{Graph, Flow}
 use Rattle.files.specs.Property.{Row, Property}
-use Rattle.files.specs.Refusal.{graph, property}
+use Rattle.files.specs.Refusal.{graph, property, refusal}
 use Rattle.files.specs.Decode.{decode-graph, decode-property}
 use Rattle.files.specs.Outcome.{Said, Outcome, Answer, refused-answer, verdict-answer, Check, whole-check, file-checks, out-check, answered, Lines, whole-line, file-lines, out-line, short}
 use Rattle.judging.specs.declared.answers.Judged.{Judged}
@@ -21,7 +22,7 @@ pub mod Examples
 
 -- the published length of the work buffer
 abbrev pub judge-room : ℕ
-judge-room = 43012
+judge-room = 41664
 
 -- the paper's number and values for each case
 abbrev pub judged-answer : Judged → Answer
@@ -48,6 +49,27 @@ module _ (L : Limits) (g p : List ℕ) (out work : ℕ) where
 
   pub judged : Outcome
   judged = answered judge-checks judge-verdict
+
+-- the outcome from the graph's numbers on, from the property's on, and from 12 on, as the code comes to them
+abbrev pub from-graph : Limits → List ℕ → List ℕ → ℕ → Outcome
+from-graph L g p out =
+    let s = judge-said (decode-graph g) (decode-property p) in answered (file-checks L 1 graph g (file-checks L 2 property p (out-check out s))) s
+
+abbrev pub from-property : Limits → List ℕ → List ℕ → ℕ → Outcome
+from-property L g p out = let s = judge-said (decode-graph g) (decode-property p) in answered (file-checks L 2 property p (out-check out s)) s
+
+abbrev pub from-verdict : List ℕ → List ℕ → ℕ → Outcome
+from-verdict g p out = let s = judge-said (decode-graph g) (decode-property p) in answered (out-check out s) s
+
+-- a graph file within the limits
+abbrev pub GraphWithin : Limits → List ℕ → Type 0
+GraphWithin L g = refusal L graph g ≡ none
+
+-- limits within the strides of the lent buffer
+pub record Strides (L : Limits) : Type 0 where
+  pub nodes-fit : L .nodes ≤ 256
+  pub edges-fit : L .edges ≤ 4096
+  pub rows-fit : L .rows ≤ 32
 
 -- What a verdict of judging says: of a flow graph and a property, 1 exactly where the property is satisfied, and then nothing is written;
 -- 2 exactly where it is not, with the bytes of the fault sheet and the number of its records, and the sheet shows why.

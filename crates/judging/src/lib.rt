@@ -1,4 +1,5 @@
-// Judging a graph against a property, and comparing two graphs by simulation: the answers.
+// Judging a graph against a property, and comparing two graphs by simulation: the public calls.
 pub mod answers;
 pub mod chains;
+pub mod levels;
 pub mod shape;

@@ -23,6 +23,11 @@ impl Shape {
 
     pub const ROW_NEXTS: usize = 41536;
 
+    // Once all ranks are found the chains give way to a mark for each pair that the sheet lists, and to the first edge of each node.
+    pub const MARKS: usize = 32768;
+
+    pub const FIRSTS: usize = 33792;
+
     // The published length of the buffer.
     pub const ROOM: usize = 41664;
 }

@@ -279,3 +279,8 @@ module _ (G : Graph) (P : List Row) (flow : Flow G) (wf : Property P) where
       go : T (level G P (suc k) g r) ⊎ T (not (level G P (suc k) g r)) → rank-at w g r ≡ cond (holds G P g r) 0 (rank G P g r)
       go (inl t) = f .ranks g r hg hr ∙ first-true G P (suc k) g r t ∙ pick (holds G P g r) (steady G P flow wf (suc k) still g r hg hr t)
       go (inr t) = f .ranks g r hg hr ∙ first-rank G P (suc k) g r t ∙ leave (holds G P g r) (false-if G P flow wf g r (suc k) hg hr t)
+
+-- ranks that read the same are the same ranks
+pub ranked-kept : (G : Graph) (P : List Row) (w w′ : List ℕ) → size G ≤ 256 → length P ≤ 32 → ((j : ℕ) → j < 8192 → cell w′ 0 2 j ≡ cell w 0 2 j) → Ranked G P w → Ranked G P w′
+unfolding Ranked
+ranked-kept G P w w′ fn fr f x g r hg hr = f (pair g r) (omega arith) ∙ x g r hg hr

@@ -1,0 +1,78 @@
+use mathlib.Core.Path.{_≡_, refl, sym, ap, ap₂, subst, _∙_}
+use native.Mathlib.Omega.{arith}
+use Rattle.judging.proofs.HeldLaws.{held-node, held-edge, held-row}
+use Rattle.files.specs.Decode.{decode-graph, decode-property}
+use Rattle.files.specs.Graph.{node}
+use Rattle.files.specs.Property.{row}
+use Rattle.files.specs.declared.property.PropertyRow.{PropertyRow}
+use Rattle.files.specs.declared.graph.GraphNode.{GraphNode}
+use Rattle.judging.specs.Ranking.{leaf-false}
+use Rattle.judging.specs.Ranking.Files.{leaf-level}
+use borrow.Author.Needs.{needs}
+use Rattle.judging.proofs.levels.falls_alone.Statement.{statement}
+use Rattle.judging.proofs.levels.falls_alone.Tie as tie
+use Rattle.judging.proofs.levels.falls_alone.Reads as reads
+use Rattle.judging.proofs.levels.falls_alone.Lts as lts
+use Rattle.files.proofs.graph.node_at.Reads as node-at-reads
+use Rattle.files.proofs.property.row_at.Reads as row-at-reads
+use Rattle.judging.proofs.levels.leaf_false.Reads as leaf-false-reads
+
+-- src/levels.rt:67:25
+node-at-requires : tie.Need-node-at-requires
+node-at-requires c κs = search needs
+
+-- src/levels.rt:67:20
+enum-known-v : tie.Need-enum-known-v
+enum-known-v c = search needs
+
+-- src/levels.rt:68:9
+enum-told : tie.Need-enum-told
+enum-told c = search needs
+
+-- src/levels.rt:68:9
+returns : tie.Need-returns
+returns c = search needs
+
+-- src/levels.rt:70:24
+row-at-requires : tie.Need-row-at-requires
+row-at-requires c κs = search needs
+
+-- src/levels.rt:70:19
+enum-known-x : tie.Need-enum-known-x
+enum-known-x c = search needs
+
+-- src/levels.rt:71:9
+enum-told-2 : tie.Need-enum-told-2
+enum-told-2 c = search needs
+
+-- src/levels.rt:71:9
+returns-2 : tie.Need-returns-2
+returns-2 c = search needs
+
+-- src/levels.rt:73:5
+leaf-false-requires : tie.Need-leaf-false-requires
+leaf-false-requires c κs = search needs
+
+-- src/levels.rt:63:1
+returns-3 : tie.Need-returns-3
+returns-3 c = let a = c .before .before .before .before .before .before .before .before .before .before .before .args in
+    let v = held-node (c .before .before .before .before .before .before .before .before .node-at .result) _ (node (decode-graph (a .graph .now)) (a .g)) (c .before .before .before .before .before .before .v .given .1) (c .before .before .before .before .before .before .before .before .node-at .ensures) in
+    let x = held-row (c .before .before .before .before .row-at .result) _ (row (decode-property (a .property .now)) (a .r)) (c .before .before .x .given .1) (c .before .before .before .before .row-at .ensures) in
+    c .leaf-false .ensures
+    ∙ ap₂ (λ (u : PropertyRow) (n : GraphNode). leaf-false (u .operator) (u .a) (n .method) (n .returns)) x v
+    ∙ leaf-level (decode-graph (a .graph .now)) (decode-property (a .property .now)) (a .g) (a .r)
+
+pub falls-alone-spec : {M : Type 1} → statement M
+falls-alone-spec =
+    tie.close
+    (tie.spec
+    node-at-requires
+    enum-known-v
+    enum-told
+    returns
+    row-at-requires
+    enum-known-x
+    enum-told-2
+    returns-2
+    leaf-false-requires
+    returns-3)

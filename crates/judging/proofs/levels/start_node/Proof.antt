@@ -1,0 +1,80 @@
+use mathlib.Core.Path.{_≡_, refl, _∙_}
+use Prim.Native.Nat.{ℕ, _-_, _≤_, _<_}
+use native.Mathlib.Omega.{arith}
+use mathlib.Core.Bool.{not}
+use lib.Dec.{T}
+use lib.ListN.{length}
+use Rattle.files.specs.Decode.{decode-graph, decode-property}
+use Rattle.judging.specs.Levels.{level}
+use Rattle.judging.specs.Ranking.{Given, Grew}
+use Rattle.judging.specs.Ranking.Stores.{grew-none, grew-on}
+use Rattle.judging.proofs.LevelLaws.{below-more, node-in, row-in}
+use Rattle.judging.proofs.levels.start_node.Statement.{statement}
+use Rattle.judging.proofs.levels.start_node.Tie as tie
+
+abbrev Inv-loop : tie.InvT-loop
+Inv-loop graph property s work₀ tail g r₀ end₀ work r end = (r ≤ s .rows) × (length work ≡ length work₀) × (Grew (decode-graph graph) (decode-property property) 0 tail end work₀ work) × ((j : ℕ) → j < r → T (not (level (decode-graph graph) (decode-property property) 1 g j)) → Given work g j)
+
+abbrev μ-loop : tie.MeasureT-loop
+μ-loop graph property s work₀ tail g r₀ end₀ work r end = s .rows - r
+
+-- src/levels.rt:109:5
+loop-holds : tie.Need-loop-holds Inv-loop μ-loop
+loop-holds c =
+    let k = c .before .before .before in
+    let a = k .args in
+    (omega arith, refl, grew-none (decode-graph (a .graph .now)) (decode-property (a .property .now)) 0 (a .tail) (a .work .now) (k .pre .1 .1), λ j h. absurd (omega arith))
+
+-- src/levels.rt:110:9
+start-pair-requires : tie.Need-start-pair-requires Inv-loop μ-loop
+start-pair-requires c κs =
+    let k = c .before .before .before .before .before .before .before in
+    let l = c .before .before .before .loop in
+    (k .pre .0, (k .pre .1 .0, (c .before .if1 .taken, l .inv .2 .finding)))
+
+-- src/levels.rt:111:9
+add-r : tie.Need-add-r Inv-loop μ-loop
+add-r c = omega (arith, c .before .before .before .before .if1 .taken, c .before .before .before .before .before .before .before .before .before .before .pre .0 .few-rows)
+
+-- src/levels.rt:109:5
+loop-less : tie.Need-loop-less Inv-loop μ-loop
+loop-less c = omega (arith, c .before .before .before .before .if1 .taken)
+
+-- src/levels.rt:109:5
+loop-again : tie.Need-loop-again Inv-loop μ-loop
+loop-again c =
+    let k = c .before .before .before .before .before .before .before .before .before .before in
+    let a = k .args in
+    let l = c .before .before .before .before .before .before .loop in
+    let x = c .before .before .start-pair in (
+      omega (arith, c .before .before .before .before .if1 .taken),
+      x .kept .1 .1 .1 .0 ∙ l .inv .1,
+      grew-on (decode-graph (a .graph .now)) (decode-property (a .property .now)) 0 (a .tail) (l .end) (x .result) (a .work .now) (l .work) (x .last .1 .1 .1 .0) (l .inv .2) (x .ensures .0),
+      below-more (λ (j : ℕ). T (not (level (decode-graph (a .graph .now)) (decode-property (a .property .now)) 1 (a .g) j)) → Given (x .last .1 .1 .1 .0) (a .g) j) (l .r)
+          (λ j h t. x .ensures .0 .given-kept (a .g) j (node-in (a .s) (a .graph .now) (a .property .now) (k .pre .0) (a .g) (k .pre .1 .0)) (row-in (a .s) (a .graph .now) (a .property .now) (k .pre .0) j (omega (arith, h, c .before .before .before .before .if1 .taken))) (l .inv .3 j h t))
+          (x .ensures .1),
+    )
+
+-- src/levels.rt:96:1
+same-length : tie.Need-same-length Inv-loop μ-loop
+same-length c = c .before .before .loop .inv .1
+
+-- src/levels.rt:96:1
+returns : tie.Need-returns Inv-loop μ-loop
+returns c =
+    let l = c .before .before .loop in
+    (l .inv .2, λ j h t. l .inv .3 j (omega (arith, c .if1 .left, h)) t)
+
+pub start-node-spec : {M : Type 1} → statement M
+start-node-spec =
+    tie.close
+    (tie.spec
+    Inv-loop
+    μ-loop
+    loop-holds
+    start-pair-requires
+    add-r
+    loop-less
+    loop-again
+    same-length
+    returns)

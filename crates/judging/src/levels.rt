@@ -1,0 +1,273 @@
+// Levels on lent bytes: what is false by itself has rank 1; each next level pops the pairs of the level before from a queue and gives the next rank to what
+// turns false with them. `levels` states that all ranks are found. One level is one call of `level`.
+ghost use mathlib.Core.Path.{_≡_};
+ghost use mathlib.Core.Bool.{not, cond, _&&_};
+ghost use Prim.Native.Nat.{ℕ, suc, _+_, _*_, _≤_, _<_};
+ghost use lib.Dec.{T, eqb, leb};
+ghost use lib.ListN.{length, getD};
+ghost use Rattle.files.specs.Cells.{cell};
+ghost use Rattle.files.specs.Graph.{size, node, no-edge};
+ghost use Rattle.files.specs.Property.{row};
+ghost use Rattle.files.specs.Decode.{decode-graph, decode-property};
+ghost use Rattle.judging.specs.Chains.{into};
+ghost use Rattle.judging.specs.Levels.{level};
+ghost use Rattle.judging.specs.Ranking.{Ready, pair, rank-at, queue-at, Given, given, tail-after, Finding, Grew, RowDone, Done, Found, Ranked, Names, leaf-false};
+use crate::shape::Shape;
+use files::cells::get16;
+use files::cells::put16;
+use files::graph::EdgeAt;
+use files::graph::NodeAt;
+use files::graph::edge_at;
+use files::graph::node_at;
+use files::property::RowAt;
+use files::property::row_at;
+
+// Gives pair (g, r) rank k + 1 and puts it at the queue's end, unless it has a rank. The queue's end after it.
+fn give(work: &mut [u8], tail: usize, g: usize, r: usize, k: u16) -> usize
+    requires { ⌜ (pair g r < 8192) × ((rank-at (now work) g r ≡ 0 → tail < 8192) × ((41664 ≤ length (now work)) × (k ≤ 8192))) ⌝ }
+    ensures { λ t. ⌜ (t ≡ tail-after (now (work .entry)) tail g r) × (now (work .exit) ≡ given (now (work .entry)) tail g r k) ⌝ }
+{
+    let p = Shape::STRIDE * g + r;
+    if get16(work, 0, p) == 0 {
+        put16(work, 0, p, k + 1);
+        put16(work, Shape::QUEUE, tail, p as u16);
+        return tail + 1;
+    }
+    tail
+}
+
+// Whether pair (g, r) is false at level k, by its rank.
+fn is_false(work: &[u8], g: usize, r: usize, k: u16) -> bool
+    requires { ⌜ (pair g r < 8192) × (41664 ≤ length (now work)) ⌝ }
+    ensures { λ b. ⌜ b ≡ (leb 1 (rank-at (now (work .entry)) g r) && leb (rank-at (now (work .entry)) g r) k) ⌝ }
+{
+    let x = get16(work, 0, Shape::STRIDE * g + r);
+    (1 <= x) & (x <= k)
+}
+
+// ---- level 1
+
+// Whether a row without operands is false of a node, by its operator, its method, the node's method and its return flag.
+fn leaf_false(operator: u8, a: u8, method: u8, returns: bool) -> bool
+    ensures { λ b. ⌜ b ≡ leaf-false operator a method returns ⌝ }
+{
+    let at = method == a;
+    (operator == 2)
+        | ((operator == 3) & !at)
+        | ((operator == 4) & at)
+        | ((operator == 5) & !returns)
+        | ((operator == 6) & returns)
+}
+
+// Whether row r is false at node g by itself, which is at level 1.
+fn falls_alone(graph: &[u8], property: &[u8], s: Shape, g: usize, r: usize) -> bool
+    requires { ⌜ (Ready s (now graph) (now property)) × ((g < s .nodes) × (r < s .rows)) ⌝ }
+    ensures { λ b. ⌜ b ≡ not (level (decode-graph (now (graph .entry))) (decode-property (now (property .entry))) 1 g r) ⌝ }
+{
+    let NodeAt::Is(v) = node_at(graph, g, 0) else {
+        return false;
+    };
+    let RowAt::Is(x) = row_at(property, r, 0) else {
+        return false;
+    };
+    leaf_false(x.operator, x.a, v.method, v.returns)
+}
+
+// Gives rank 1 to row r at node g if it is false by itself.
+fn start_pair(
+    graph: &[u8],
+    property: &[u8],
+    s: Shape,
+    work: &mut [u8],
+    tail: usize,
+    g: usize,
+    r: usize,
+) -> usize
+    requires { ⌜ (Ready s (now graph) (now property)) × ((g < s .nodes) × ((r < s .rows) × (Finding (decode-graph (now graph)) (decode-property (now property)) 0 tail (now work)))) ⌝ }
+    ensures { λ t. ⌜ (Grew (decode-graph (now (graph .entry))) (decode-property (now (property .entry))) 0 tail t (now (work .entry)) (now (work .exit))) × (T (not (level (decode-graph (now (graph .entry))) (decode-property (now (property .entry))) 1 g r)) → Given (now (work .exit)) g r) ⌝ }
+{
+    if falls_alone(graph, property, s, g, r) {
+        return give(work, tail, g, r, 0);
+    }
+    tail
+}
+
+// Gives rank 1 to each row of node g that is false by itself.
+fn start_node(
+    graph: &[u8],
+    property: &[u8],
+    s: Shape,
+    work: &mut [u8],
+    tail: usize,
+    g: usize,
+) -> usize
+    requires { ⌜ (Ready s (now graph) (now property)) × ((g < s .nodes) × (Finding (decode-graph (now graph)) (decode-property (now property)) 0 tail (now work))) ⌝ }
+    ensures { λ t. ⌜ (Grew (decode-graph (now (graph .entry))) (decode-property (now (property .entry))) 0 tail t (now (work .entry)) (now (work .exit))) × ((r : ℕ) → r < s .rows → T (not (level (decode-graph (now (graph .entry))) (decode-property (now (property .entry))) 1 g r)) → Given (now (work .exit)) g r) ⌝ }
+{
+    let mut r = 0;
+    let mut end = tail;
+    while r < s.rows {
+        end = start_pair(graph, property, s, work, end, g, r);
+        r += 1;
+    }
+    end
+}
+
+// Level 1, in a buffer of zeros and chains. The queue's end.
+pub fn start(graph: &[u8], property: &[u8], s: Shape, work: &mut [u8]) -> usize
+    requires { ⌜ (Ready s (now graph) (now property)) × ((Finding (decode-graph (now graph)) (decode-property (now property)) 0 0 (now work)) × ((p : ℕ) → p < 8192 → cell (now work) 0 2 p ≡ 0)) ⌝ }
+    ensures { λ t. ⌜ Found (decode-graph (now (graph .entry))) (decode-property (now (property .entry))) 1 0 t (now (work .exit)) ⌝ }
+{
+    let mut g = 0;
+    let mut end = 0;
+    while g < s.nodes {
+        end = start_node(graph, property, s, work, end, g);
+        g += 1;
+    }
+    end
+}
+
+// ---- the next level
+
+// Gives the next rank to row q at the node that edge e comes from, if the edge has the label of the row.
+fn arrive(
+    graph: &[u8],
+    property: &[u8],
+    s: Shape,
+    work: &mut [u8],
+    tail: usize,
+    e: usize,
+    label: u8,
+    q: usize,
+    k: u16,
+) -> usize
+    requires { ⌜ (Ready s (now graph) (now property)) × ((e < s .edges) × ((q < s .rows) × ((Finding (decode-graph (now graph)) (decode-property (now property)) k tail (now work)) × ((getD ((decode-graph (now graph)) .edges) e no-edge) .label ≡ label → T (not (level (decode-graph (now graph)) (decode-property (now property)) (suc k) ((getD ((decode-graph (now graph)) .edges) e no-edge) .from) q)))))) ⌝ }
+    ensures { λ t. ⌜ (Grew (decode-graph (now (graph .entry))) (decode-property (now (property .entry))) k tail t (now (work .entry)) (now (work .exit))) × ((getD ((decode-graph (now (graph .entry))) .edges) e no-edge) .label ≡ label → Given (now (work .exit)) ((getD ((decode-graph (now (graph .entry))) .edges) e no-edge) .from) q) ⌝ }
+{
+    let EdgeAt::Is(edge) = edge_at(graph, s.nodes, e, 0) else {
+        return tail;
+    };
+    if edge.label == label {
+        return give(work, tail, edge.from, q, k);
+    }
+    tail
+}
+
+// Gives the next rank to box row q wherever an edge of its label leads to node v.
+fn boxes(
+    graph: &[u8],
+    property: &[u8],
+    s: Shape,
+    work: &mut [u8],
+    tail: usize,
+    v: usize,
+    label: u8,
+    q: usize,
+    k: u16,
+) -> usize
+    requires { ⌜ (Ready s (now graph) (now property)) × ((v < s .nodes) × ((q < s .rows) × ((Finding (decode-graph (now graph)) (decode-property (now property)) k tail (now work)) × ((e : ℕ) → e < s .edges → T (into (decode-graph (now graph)) v e) → (getD ((decode-graph (now graph)) .edges) e no-edge) .label ≡ label → T (not (level (decode-graph (now graph)) (decode-property (now property)) (suc k) ((getD ((decode-graph (now graph)) .edges) e no-edge) .from) q)))))) ⌝ }
+    ensures { λ t. ⌜ (Grew (decode-graph (now (graph .entry))) (decode-property (now (property .entry))) k tail t (now (work .entry)) (now (work .exit))) × ((e : ℕ) → e < s .edges → T (into (decode-graph (now (graph .entry))) v e) → (getD ((decode-graph (now (graph .entry))) .edges) e no-edge) .label ≡ label → Given (now (work .exit)) ((getD ((decode-graph (now (graph .entry))) .edges) e no-edge) .from) q) ⌝ }
+{
+    let mut at = get16(work, Shape::NODE_HEADS, v) as usize;
+    let mut end = tail;
+    while at > 0 {
+        let e = at - 1;
+        end = arrive(graph, property, s, work, end, e, label, q, k);
+        at = get16(work, Shape::NODE_NEXTS, e) as usize;
+    }
+    end
+}
+
+// Gives the next rank to what turns false of row q with pair (v, r), which the row names and which is false at level k.
+fn row_on(
+    graph: &[u8],
+    property: &[u8],
+    s: Shape,
+    work: &mut [u8],
+    tail: usize,
+    v: usize,
+    r: usize,
+    q: usize,
+    k: u16,
+) -> usize
+    requires { ⌜ (Ready s (now graph) (now property)) × ((v < s .nodes) × ((r < s .rows) × ((q < s .rows) × ((Finding (decode-graph (now graph)) (decode-property (now property)) k tail (now work)) × ((T (not (level (decode-graph (now graph)) (decode-property (now property)) k v r))) × (Names (row (decode-property (now property)) q) r)))))) ⌝ }
+    ensures { λ t. ⌜ (Grew (decode-graph (now (graph .entry))) (decode-property (now (property .entry))) k tail t (now (work .entry)) (now (work .exit))) × (RowDone (decode-graph (now (graph .entry))) (decode-property (now (property .entry))) k (now (work .exit)) v r q) ⌝ }
+{
+    let RowAt::Is(x) = row_at(property, q, 0) else {
+        return tail;
+    };
+    if x.operator == 9 {
+        return boxes(graph, property, s, work, tail, v, x.a, q, k);
+    }
+    let a = is_false(work, v, x.a as usize, k);
+    let b = is_false(work, v, x.b as usize, k);
+    if (x.operator == 7) | (a & b) {
+        return give(work, tail, v, q, k);
+    }
+    tail
+}
+
+// Gives the next rank to all that turns false with pair (v, r).
+fn pop(
+    graph: &[u8],
+    property: &[u8],
+    s: Shape,
+    work: &mut [u8],
+    tail: usize,
+    v: usize,
+    r: usize,
+    k: u16,
+) -> usize
+    requires { ⌜ (Ready s (now graph) (now property)) × ((v < s .nodes) × ((r < s .rows) × ((Finding (decode-graph (now graph)) (decode-property (now property)) k tail (now work)) × (T (not (level (decode-graph (now graph)) (decode-property (now property)) k v r)))))) ⌝ }
+    ensures { λ t. ⌜ (Grew (decode-graph (now (graph .entry))) (decode-property (now (property .entry))) k tail t (now (work .entry)) (now (work .exit))) × (Done (decode-graph (now (graph .entry))) (decode-property (now (property .entry))) k (now (work .exit)) v r) ⌝ }
+{
+    let mut at = get16(work, Shape::ROW_HEADS, r) as usize;
+    let mut end = tail;
+    while at > 0 {
+        let j = at - 1;
+        end = row_on(graph, property, s, work, end, v, r, j / 2, k);
+        at = get16(work, Shape::ROW_NEXTS, j) as usize;
+    }
+    end
+}
+
+// One level: pops the pairs of rank k, which stand in the queue from `head` up to `tail`, and gives rank k + 1 to all that turns false with them. The queue's end.
+pub fn level(
+    graph: &[u8],
+    property: &[u8],
+    s: Shape,
+    work: &mut [u8],
+    head: usize,
+    tail: usize,
+    k: u16,
+) -> usize
+    requires { ⌜ (Ready s (now graph) (now property)) × ((Found (decode-graph (now graph)) (decode-property (now property)) k head tail (now work)) × ((head < tail) × (1 ≤ k))) ⌝ }
+    ensures { λ t. ⌜ Found (decode-graph (now (graph .entry))) (decode-property (now (property .entry))) (suc k) tail t (now (work .exit)) ⌝ }
+{
+    let mut i = head;
+    let mut end = tail;
+    while i < tail {
+        let p = get16(work, Shape::QUEUE, i) as usize;
+        let v = p / Shape::STRIDE;
+        let r = p % Shape::STRIDE;
+        end = pop(graph, property, s, work, end, v, r, k);
+        i += 1;
+    }
+    end
+}
+
+// All levels, from level 1 on.
+pub fn levels(graph: &[u8], property: &[u8], s: Shape, work: &mut [u8], first: usize)
+    requires { ⌜ (Ready s (now graph) (now property)) × (Found (decode-graph (now graph)) (decode-property (now property)) 1 0 first (now work)) ⌝ }
+    ensures { λ _. ⌜ (Ranked (decode-graph (now (graph .entry))) (decode-property (now (property .entry))) (now (work .exit))) ⌝ }
+{
+    let mut head = 0;
+    let mut tail = first;
+    let mut k = 1;
+    while head < tail {
+        let end = level(graph, property, s, work, head, tail, k);
+        head = tail;
+        tail = end;
+        k += 1;
+    }
+}
