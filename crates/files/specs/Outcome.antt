@@ -16,6 +16,7 @@ use Rattle.files.specs.Refusal.{Kind, findings}
 use Rattle.files.specs.Table.{Applies}
 use Rattle.files.specs.Decode.{graph-bytes}
 pub mod Laws
+pub mod Steps
 
 -- "A refusal carries number, file position from 1 and first offending record from 0."
 abbrev pub refusal-at : ℕ → ℕ → ℕ → Refusal

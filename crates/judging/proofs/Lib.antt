@@ -1,3 +1,5 @@
+pub mod CauseLaws
 pub mod ChainLaws
 pub mod HeldLaws
 pub mod LevelLaws
+pub mod SheetLaws

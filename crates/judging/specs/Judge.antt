@@ -18,6 +18,7 @@ use Rattle.judging.specs.Levels.{Satisfies, satisfies}
 use Rattle.judging.specs.Levels.Sheet.{sheet, sheet-bytes}
 use Rattle.judging.specs.Levels.Sheet.Meaning.{SheetShows}
 pub mod Laws
+pub mod Steps
 pub mod Examples
 
 -- the published length of the work buffer

@@ -1,6 +1,7 @@
 pub mod Chains
 pub mod Levels
 pub mod Ranking
+pub mod Sheets
 pub mod Simulation
 pub mod Judge
 pub mod Compare

@@ -284,3 +284,13 @@ module _ (G : Graph) (P : List Row) (flow : Flow G) (wf : Property P) where
 pub ranked-kept : (G : Graph) (P : List Row) (w w′ : List ℕ) → size G ≤ 256 → length P ≤ 32 → ((j : ℕ) → j < 8192 → cell w′ 0 2 j ≡ cell w 0 2 j) → Ranked G P w → Ranked G P w′
 unfolding Ranked
 ranked-kept G P w w′ fn fr f x g r hg hr = f (pair g r) (omega arith) ∙ x g r hg hr
+
+-- all ranks are found: what each cell holds
+module _ (G : Graph) (P : List Row) (w : List ℕ) where
+  pub ranked-e : Ranked G P w → (g r : ℕ) → g < size G → r < length P → rank-at w g r ≡ cond (holds G P g r) 0 (rank G P g r)
+  unfolding Ranked final-rank
+  ranked-e f = f
+
+  pub ranked-i : ((g r : ℕ) → g < size G → r < length P → rank-at w g r ≡ cond (holds G P g r) 0 (rank G P g r)) → Ranked G P w
+  unfolding Ranked final-rank
+  ranked-i f = f

@@ -230,3 +230,71 @@ module _ (G : Graph) (P : List Row) (flow : Flow G) (wf : Property P) where
 
   pub cause-lower : (x y : ℕ × ℕ) → Wrong G P x → List·Memᴰ y (causes G P x) → rank G P (y .0) (y .1) < rank G P (x .0) (x .1)
   cause-lower x y w m = (whole x w) .1 y m .1
+
+-- ---- how many causes there are, and that they are pairs
+
+-- none, one or two
+pub data Few : List (ℕ × ℕ) → Type 0 where
+  no-one : Few []
+  one-only : (x : ℕ × ℕ) → Few (x ∷ [])
+  two-only : (x y : ℕ × ℕ) → Few (x ∷ y ∷ [])
+
+module _ (G : Graph) (P : List Row) where
+  pub causes-few : (x : ℕ × ℕ) → Few (causes G P x)
+  unfolding causes row-causes box-causes
+  causes-few x = go (row P (x .1))
+    where
+      box-few : (ys : List (ℕ × ℕ)) → Few (box-causes G P ys)
+      box-few [] = no-one
+      box-few (y ∷ ys) = one-only (foremost G P y ys)
+
+      go : (r : Row) → Few (row-causes G P (x .0) r)
+      go always = no-one
+      go never = no-one
+      go returns = no-one
+      go not-returns = no-one
+      go (in-method a) = no-one
+      go (not-in-method a) = no-one
+      go (both a b) = one-only (x .0, lower G P (x .0) a b)
+      go (either a b) = two-only (x .0, a) (x .0, b)
+      go (box l b) = box-few (targets G (x .0) (box l b))
+
+  -- a node and a row
+  abbrev pub IsPair : ℕ × ℕ → Type 0
+  IsPair x = (x .0 < size G) × (x .1 < length P)
+
+  pub causes-in : Flow G → Property P → (x y : ℕ × ℕ) → IsPair x → List·Memᴰ y (causes G P x) → IsPair y
+  unfolding causes row-causes box-causes
+  causes-in flow wf x y (hg, hr) m = go (row P (x .1)) (wf .names-rows (x .1) hr) m
+    where
+      alone : (z : ℕ × ℕ) → IsPair z → List·Memᴰ y (z ∷ []) → IsPair y
+      alone z i k = subst IsPair (sym (List·Memᴰ·eq-of-singleton k)) i
+
+      target-in : (l b : ℕ) → T (names (length P) (box l b)) → (z : ℕ × ℕ) → List·Memᴰ z (targets G (x .0) (box l b)) → IsPair z
+      target-in l b n z k =
+          let a = targets-e G (x .0) (box l b) z k in
+          let o = obliged-box l b ((a .0) .label) (z .1) (a .3) in
+          (subst (λ (i : ℕ). i < size G) (a .4) (flow .to-node (a .0) (a .1)), subst (λ (i : ℕ). i < length P) (o .1) (ltb→lt b (length P) n))
+
+      box-in : (l b : ℕ) → T (names (length P) (box l b)) → (ys : List (ℕ × ℕ)) → ((z : ℕ × ℕ) → List·Memᴰ z ys → List·Memᴰ z (targets G (x .0) (box l b))) → List·Memᴰ y (box-causes G P ys) → IsPair y
+      box-in l b n [] f k = absurd (List·Memᴰ·not-nil k)
+      box-in l b n (u ∷ us) f k = alone (foremost G P u us) (target-in l b n (foremost G P u us) (f (foremost G P u us) (foremost-in G P u us))) k
+
+      go : (w : Row) → T (names (length P) w) → List·Memᴰ y (row-causes G P (x .0) w) → IsPair y
+      go always n k = absurd (List·Memᴰ·not-nil k)
+      go never n k = absurd (List·Memᴰ·not-nil k)
+      go returns n k = absurd (List·Memᴰ·not-nil k)
+      go not-returns n k = absurd (List·Memᴰ·not-nil k)
+      go (in-method a) n k = absurd (List·Memᴰ·not-nil k)
+      go (not-in-method a) n k = absurd (List·Memᴰ·not-nil k)
+      go (both a b) n k = alone (x .0, lower G P (x .0) a b) (hg, one-of (lower-is G P (x .0) a b)) k
+        where
+          one-of : ((lower G P (x .0) a b ≡ a) × (rank G P (x .0) a ≤ rank G P (x .0) b)) ⊎ ((lower G P (x .0) a b ≡ b) × (rank G P (x .0) b < rank G P (x .0) a)) → lower G P (x .0) a b < length P
+          one-of (inl d) = subst (λ (i : ℕ). i < length P) (sym (d .0)) (ltb→lt a (length P) (and-l (ltb a (length P)) (ltb b (length P)) n))
+          one-of (inr d) = subst (λ (i : ℕ). i < length P) (sym (d .0)) (ltb→lt b (length P) (and-r (ltb a (length P)) (ltb b (length P)) n))
+      go (either a b) n k = on (List·Memᴰ·cases-cons k)
+        where
+          on : (y ≡ (x .0, a)) ⊎ List·Memᴰ y ((x .0, b) ∷ []) → IsPair y
+          on (inl e) = subst IsPair (sym e) (hg, ltb→lt a (length P) (and-l (ltb a (length P)) (ltb b (length P)) n))
+          on (inr j) = alone (x .0, b) (hg, ltb→lt b (length P) (and-r (ltb a (length P)) (ltb b (length P)) n)) j
+      go (box l b) n k = box-in l b n (targets G (x .0) (box l b)) (λ z j. j) k

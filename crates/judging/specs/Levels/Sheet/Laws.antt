@@ -2,21 +2,23 @@
 -- nothing else. Each of its records is a pair that is listed, with its causes.
 use mathlib.Core.Path.{_≡_, refl, sym, ap, ap₂, subst, _∙_}
 use mathlib.Core.Logic.{_⊎_, inl, inr}
-use mathlib.Core.Bool.{Bool, true, false, not, cond, _&&_}
-use mathlib.Core.List.{List, [], _∷_, map, List·Memᴰ, List·Memᴰ·head, Memᴰ·map, Memᴰ·of-map}
-use Prim.Native.Nat.{ℕ, _*_, _<_}
-use lib.Dec.{T, eqb, eqb→eq, eqb-refl, T-not}
-use lib.ListN.{length, getD}
+use mathlib.Core.Bool.{Bool, true, false, not, cond, _&&_, _||_}
+use mathlib.Core.List.{List, [], _∷_, _++_, map, List·Memᴰ, List·Memᴰ·head, Memᴰ·map, Memᴰ·of-map}
+use Prim.Native.Nat.{ℕ, suc, _*_, _<_}
+use lib.Dec.{T, eqb, ltb, leb, eqb→eq, eqb-refl, T-not}
+use lib.ListN.{length, getD, length-map}
 use Rattle.files.specs.Basics.Breadth.{Nearer, in-order}
-use Rattle.files.specs.Basics.Least.{least-passes, least-before, least-lt}
+use Rattle.files.specs.Access.{row-held}
+use Rattle.files.specs.Basics.Least.{least, least-passes, least-before, least-lt}
+use Rattle.files.specs.Basics.Lists.{keep, each}
 use Rattle.files.specs.Basics.Order.{Ascends}
 use Rattle.files.specs.Basics.Queue.{Once, breadth-first, From, itself, listed, starts-with, onward}
 use Rattle.files.specs.Basics.Tests.{and-l, and-r, and-i, any, any-e, any-i, upto, upto-i, upto-e, grid, grid-i, length-grid, decide, not-not, not-and}
-use Rattle.files.specs.Graph.{Graph, size, node, Flow}
-use Rattle.files.specs.Property.{Row, Property}
-use Rattle.judging.specs.Levels.{holds, satisfies}
+use Rattle.files.specs.Graph.{Graph, Edge, size, node, Flow}
+use Rattle.files.specs.Property.{Row, always, never, returns, not-returns, in-method, not-in-method, both, either, box, row, obliged, Property}
+use Rattle.judging.specs.Levels.{level, holds, satisfies, rank}
 use Rattle.judging.specs.Levels.Laws.{satisfies-iff}
-use Rattle.judging.specs.Levels.Sheet.{same-pair, Fault, no-cause, causes, failing, pairs, fault, sheet}
+use Rattle.judging.specs.Levels.Sheet.{same-pair, Fault, no-cause, obliged-pair, targets, lower, ahead, foremost, box-causes, row-causes, causes, failing, pairs, fault, sheet, fault-bytes, sheet-bytes}
 use Rattle.judging.specs.Levels.Sheet.Causes.{cause-false, reason, cause-lower}
 use Rattle.judging.specs.Levels.Sheet.Meaning.{Wrong, Caused, Lists, SheetShows}
 
@@ -91,7 +93,7 @@ module _ (G : Graph) (P : List Row) (flow : Flow G) (wf : Property P) where
       go true t = refl
       go false t = absurd t
 
-  pairs-some : T (not (satisfies G P)) → breadth-first same-pair (causes G P) (size G * length P) (failing G P, 0) ≡ pairs G P
+  pub pairs-some : T (not (satisfies G P)) → breadth-first same-pair (causes G P) (size G * length P) (failing G P, 0) ≡ pairs G P
   unfolding pairs
   pairs-some t = go (satisfies G P) t
     where
@@ -165,3 +167,92 @@ module _ (G : Graph) (P : List Row) (flow : Flow G) (wf : Property P) where
       is-wrong : T (not (satisfies G P)) → (f : Fault) → List·Memᴰ f (sheet G P) → Wrong G P (f .pair)
       is-wrong bad f m =
           (pairs-are bad) .all-false (f .pair) (subst (λ (xs : List (ℕ × ℕ)). List·Memᴰ (f .pair) xs) sheet-pairs (Memᴰ·map (λ (f : Fault). f .pair) m))
+
+-- ---- the definitions, as the code meets them
+
+module _ (G : Graph) (P : List Row) where
+  pub rank-is : (g r : ℕ) → rank G P g r ≡ least (λ k. not (level G P k g r)) (suc (size G * length P))
+  unfolding rank
+  rank-is g r = refl
+
+  pub failing-is : failing G P ≡ least (λ (g : ℕ). (node G g) .entry && not (holds G P g 0)) (size G)
+  unfolding failing
+  failing-is = refl
+
+  pub lower-is : (g a b : ℕ) → lower G P g a b ≡ cond (leb (rank G P g a) (rank G P g b)) a b
+  unfolding lower
+  lower-is g a b = refl
+
+  pub ahead-is : (x y : ℕ × ℕ)
+      → ahead G P x y
+      ≡ ltb (rank G P (x .0) (x .1)) (rank G P (y .0) (y .1)) || (eqb (rank G P (x .0) (x .1)) (rank G P (y .0) (y .1)) && leb (x .0) (y .0))
+  unfolding ahead
+  ahead-is x y = refl
+
+  pub targets-are : (g : ℕ) (x : Row)
+      → targets G g x ≡ each (λ (e : Edge). obliged-pair (e .to) (obliged x (e .label))) (keep (λ (e : Edge). eqb (e .from) g) (G .edges))
+  unfolding targets
+  targets-are g x = refl
+
+  pub foremost-one : (x : ℕ × ℕ) → foremost G P x [] ≡ x
+  unfolding foremost
+  foremost-one x = refl
+
+  pub foremost-more : (x y : ℕ × ℕ) (ys : List (ℕ × ℕ)) → foremost G P x (y ∷ ys) ≡ foremost G P (cond (ahead G P x y) x y) ys
+  unfolding foremost
+  foremost-more x y ys = refl
+
+  pub box-none : box-causes G P [] ≡ []
+  unfolding box-causes
+  box-none = refl
+
+  pub box-some : (x : ℕ × ℕ) (xs : List (ℕ × ℕ)) → box-causes G P (x ∷ xs) ≡ foremost G P x xs ∷ []
+  unfolding box-causes
+  box-some x xs = refl
+
+  module _ (g r : ℕ) where
+    pub causes-both : (a b : ℕ) → row P r ≡ both a b → causes G P (g, r) ≡ (g, lower G P g a b) ∷ []
+    unfolding causes row-causes
+    causes-both a b e = ap (row-causes G P g) e
+
+    pub causes-either : (a b : ℕ) → row P r ≡ either a b → causes G P (g, r) ≡ (g, a) ∷ (g, b) ∷ []
+    unfolding causes row-causes
+    causes-either a b e = ap (row-causes G P g) e
+
+    pub causes-box : (l b : ℕ) → row P r ≡ box l b → causes G P (g, r) ≡ box-causes G P (targets G g (box l b))
+    unfolding causes row-causes
+    causes-box l b e = ap (row-causes G P g) e
+
+    pub causes-rest : ((row-held (row P r)) .operator ≡ 7 → ⊥) → ((row-held (row P r)) .operator ≡ 8 → ⊥) → ((row-held (row P r)) .operator ≡ 9 → ⊥) → causes G P (g, r) ≡ []
+    unfolding causes row-causes
+    causes-rest = go (row P r)
+      where
+        go : (x : Row) → ((row-held x) .operator ≡ 7 → ⊥) → ((row-held x) .operator ≡ 8 → ⊥) → ((row-held x) .operator ≡ 9 → ⊥) → row-causes G P g x ≡ []
+        go always e f h = refl
+        go never e f h = refl
+        go returns e f h = refl
+        go not-returns e f h = refl
+        go (in-method a) e f h = refl
+        go (not-in-method a) e f h = refl
+        go (both a b) e f h = absurd (e refl)
+        go (either a b) e f h = absurd (f refl)
+        go (box l b) e f h = absurd (h refl)
+
+-- ---- the bytes
+
+pub fault-is : (G : Graph) (P : List Row) (x : ℕ × ℕ) → fault G P x ≡ record { pair = x; first = getD (causes G P x) 0 no-cause; second = getD (causes G P x) 1 no-cause }
+unfolding fault
+fault-is G P x = refl
+
+each-map : {A B C : Type 0} (h : B → List C) (f : A → B) (xs : List A) → each h (map f xs) ≡ each (λ (x : A). h (f x)) xs
+each-map h f [] = refl
+each-map h f (x ∷ xs) = ap (λ (ys : List _). h (f x) ++ ys) (each-map h f xs)
+
+pub sheet-bytes-are : (G : Graph) (P : List Row) → sheet-bytes G P ≡ each (λ (x : ℕ × ℕ). fault-bytes (fault G P x)) (pairs G P)
+unfolding sheet-bytes sheet
+sheet-bytes-are G P = each-map fault-bytes (fault G P) (pairs G P)
+
+-- the sheet has as many records as there are pairs
+pub sheet-length : (G : Graph) (P : List Row) → length (sheet G P) ≡ length (pairs G P)
+unfolding sheet
+sheet-length G P = length-map (pairs G P) (fault G P)

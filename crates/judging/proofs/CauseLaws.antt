@@ -1,0 +1,317 @@
+-- For the code that finds causes: ranks and first edges as their cells hold them, targets as numbers, and causes by a row's operator.
+use mathlib.Core.Path.{_≡_, refl, sym, ap, ap₂, subst, _∙_}
+use mathlib.Core.Logic.{_⊎_, inl, inr}
+use mathlib.Core.Bool.{Bool, false, not, cond, _&&_, _||_}
+use mathlib.Core.List.{List, [], _∷_}
+use mathlib.Core.Option.{Option, none, some}
+use Prim.Native.Nat.{ℕ, suc, _+_, _*_, _≤_, _<_}
+use native.Mathlib.Nat.{eq-or-lt-of-le, mul-le-mul}
+use native.Mathlib.Numerals.{add-one}
+use native.Mathlib.Decide.{ℕ-discrete}
+use native.Mathlib.Omega.{arith}
+use lib.Dec.{T, eqb, ltb, leb, ltb→lt}
+use lib.ListN.{length, getD}
+use borrow.Author.Tests.{le-leb, lt-leb}
+use Rattle.files.specs.Access.{row-held, edge-held, first-edge}
+use Rattle.files.specs.Access.Laws.{first-edge-le, leaves-in, in-leaves, scan-starts}
+use Rattle.files.specs.Basics.First.{first-or}
+use Rattle.files.specs.Basics.Lists.{index-e}
+use Rattle.files.specs.Basics.Tests.{and-l, and-r}
+use Rattle.files.specs.Cells.{cell, put-cell}
+use Rattle.files.specs.Cells.Laws.{cell-same, cell-other, cell-apart}
+use Rattle.files.specs.Decode.{decode-graph, decode-property, Filed}
+use Rattle.files.specs.Decode.Graphs.{decoded-filed}
+use Rattle.files.specs.Graph.{Graph, size, node, no-edge}
+use Rattle.files.specs.Property.{Row, always, never, returns, not-returns, in-method, not-in-method, both, either, box, row, names}
+use Rattle.files.specs.declared.graph.GraphEdge.{GraphEdge}
+use Rattle.files.specs.declared.property.PropertyRow.{PropertyRow}
+use Rattle.judging.specs.declared.causes.Cause.{Cause}
+use Rattle.judging.specs.declared.shape.Shape.{Shape}
+use Rattle.judging.specs.Levels.{holds, rank}
+use Rattle.judging.specs.Levels.Sheet.{no-cause, targets, lower, ahead, box-causes, causes}
+use Rattle.judging.specs.Levels.Sheet.Laws.{lower-is, ahead-is, box-none, box-some, causes-both, causes-either, causes-box, causes-rest}
+use Rattle.judging.specs.Ranking.{Ready, rank-at, Ranked}
+use Rattle.judging.specs.Ranking.Files.{size-is, edges-is, rows-is, is-flow, is-property, nodes-fit, rows-fit}
+use Rattle.judging.specs.Ranking.Laws.{ranked-e, ranked-i}
+use Rattle.judging.specs.Sheets.{cause-held, best-target, better}
+use Rattle.judging.specs.Sheets.Laws.{zero-holds, rank-zero, rank-found, within, as-causes, best-none, best-still, best-within, best-on, box-causes-are}
+
+-- ---- scans
+
+-- none up to v passes
+pub none-on : (f : ℕ → Bool) (v : ℕ) → ((u : ℕ) → u < v → T (not (f u))) → f v ≡ false → (u : ℕ) → u < v + 1 → T (not (f u))
+none-on f v h e u k = let m : suc u ≤ suc v = omega arith in go (eq-or-lt-of-le (omega (arith, m)))
+  where
+    go : (u ≡ v) ⊎ (u < v) → T (not (f u))
+    go (inl q) = subst (λ (n : ℕ). T (not (f n))) (sym q) (subst (λ (b : Bool). T (not b)) (sym e) tt)
+    go (inr l) = h u l
+
+-- ---- ranks
+
+module _ (s : Shape) (g p : List ℕ) (ready : Ready s g p) where
+  abbrev G : Graph
+  G = decode-graph g
+
+  abbrev P : List Row
+  P = decode-property p
+
+  pub pairs-fit : s .nodes * s .rows ≤ 8192
+  pairs-fit = omega (arith, mul-le-mul (ready .few-nodes) (ready .few-rows))
+
+  as-node : (v : ℕ) → v < s .nodes → v < size G
+  as-node v h = omega (arith, size-is s g p ready)
+
+  as-row : (r : ℕ) → r < s .rows → r < length P
+  as-row r h = omega (arith, rows-is s g p ready)
+
+  module _ (w : List ℕ) (found : Ranked G P w) where
+    module _ (v r x : ℕ) (hv : v < s .nodes) (hr : r < s .rows) (is : x ≡ rank-at w v r) where
+      pub rank-past : x ≡ 0 → s .nodes * s .rows + 1 ≡ rank G P v r
+      rank-past e =
+          let a = rank-zero G P (is-flow s g p ready) (is-property s g p ready) w found v r (as-node v hv) (as-row r hr) (sym is ∙ e) in
+          let b : size G * length P ≡ s .nodes * s .rows = ap₂ _*_ (size-is s g p ready) (rows-is s g p ready) in
+          omega (arith, a, b)
+
+      pub rank-read : (x ≡ 0 → ⊥) → x ≡ rank G P v r
+      rank-read f = is ∙ rank-found G P (is-flow s g p ready) (is-property s g p ready) w found v r (as-node v hv) (as-row r hr) (λ e. f (is ∙ e))
+
+    pub root-holds : (v x : ℕ) → v < s .nodes → x ≡ cell w 0 2 (32 * v) → eqb x 0 ≡ holds G P v 0
+    root-holds v x h is =
+        let e : 32 * v ≡ 32 * v + 0 = omega arith in
+        ap (λ (n : ℕ). eqb n 0) (is ∙ ap (cell w 0 2) e)
+        ∙ zero-holds G P (is-flow s g p ready) (is-property s g p ready) w found v 0 (as-node v h) ((is-property s g p ready) .has-root)
+
+  -- ---- the first edges
+
+  abbrev Firsts : List ℕ → ℕ → Type 0
+  Firsts w v = (u : ℕ) → u < v → cell w 33792 2 u ≡ first-edge G u
+
+  pub few-first : (v : ℕ) → first-edge G v ≤ 4096
+  few-first v = omega (arith, first-edge-le G v, edges-is s g p ready, ready .few-edges)
+
+  module _ (w w′ : List ℕ) (v first : ℕ) (put : w′ ≡ put-cell w 33792 2 v first) where
+    pub firsts-on : 41664 ≤ length w → v ≤ 256 → first ≡ first-edge G v → Firsts w v → Firsts w′ (v + 1)
+    firsts-on room few e f u h = ap (λ (l : List ℕ). cell l 33792 2 u) put ∙ go (eq-or-lt-of-le (omega arith))
+      where
+        go : (u ≡ v) ⊎ (u < v) → cell (put-cell w 33792 2 v first) 33792 2 u ≡ first-edge G u
+        go (inl q) =
+            ap (cell (put-cell w 33792 2 v first) 33792 2) q
+            ∙ cell-same w 33792 2 v first (omega arith) (omega (arith, e, few-first v))
+            ∙ e
+            ∙ ap (first-edge G) (sym q)
+        go (inr l) = cell-other w 33792 2 v u first (λ q. omega arith) ∙ f u l
+
+    pub ranked-kept : Ranked G P w → Ranked G P w′
+    ranked-kept f = ranked-i G P w′ (λ a r ha hr.
+        ap (λ (l : List ℕ). rank-at l a r) put
+        ∙ cell-apart w 33792 2 v first 0 2 (32 * a + r) (inl (omega (arith, nodes-fit s g p ready, rows-fit s g p ready)))
+        ∙ ranked-e G P w f a r ha hr)
+
+  -- ---- the edges of a node
+
+  filed : Filed (ready .graph-file .limits) G
+  filed = decoded-filed (ready .graph-file .limits) g (ready .graph-file .accepted)
+
+  pub to-node : (j : ℕ) (u : GraphEdge) → j < s .edges → u ≡ edge-held (getD (G .edges) j no-edge) → u .to < s .nodes
+  to-node j u h e =
+      let t : (getD (G .edges) j no-edge) .to < size G = (is-flow s g p ready) .to-node (getD (G .edges) j no-edge) (index-e no-edge (G .edges) j (omega (arith, edges-is s g p ready))) in
+      let q : u .to ≡ (getD (G .edges) j no-edge) .to = ap (λ (x : GraphEdge). x .to) e in
+      omega (arith, t, q, size-is s g p ready)
+
+  module _ (v l b : ℕ) where
+    next-is : first-edge G (v + 1) ≡ first-edge G (suc v)
+    next-is = ap (first-edge G) (add-one v)
+
+    pub edges-start : first-edge G v ≤ first-edge G (v + 1)
+    edges-start = scan-starts g (ready .graph-file) v
+
+    pub edge-there : (j : ℕ) → j < first-edge G (v + 1) → j < s .edges
+    edge-there j h = omega (arith, first-edge-le G (v + 1), edges-is s g p ready)
+
+    pub best-start : s .nodes ≡ first-or (best-target G P v l b (first-edge G v)) (s .nodes)
+    best-start =
+        ap (λ (o : Option ℕ). first-or o (s .nodes))
+        (sym (best-none G P v l b (first-edge G v) (λ i h e. absurd (omega (arith, h, (leaves-in (ready .graph-file .limits) G filed v i (omega (arith, first-edge-le G v)) e) .0)))))
+
+    is-within : (j : ℕ) → j ≤ s .edges → T (within (s .nodes) (best-target G P v l b j))
+    is-within j h =
+        subst (λ (n : ℕ). T (within n (best-target G P v l b j))) (size-is s g p ready)
+        (best-within G P v l b (is-flow s g p ready) j (omega (arith, edges-is s g p ready)))
+
+    module _ (j best : ℕ) (is : best ≡ first-or (best-target G P v l b j) (s .nodes)) where
+      pub best-le : j ≤ first-edge G (v + 1) → best ≤ s .nodes
+      best-le h = omega (arith, is, go (best-target G P v l b j) (is-within j (omega (arith, first-edge-le G (v + 1), edges-is s g p ready))))
+        where
+          go : (o : Option ℕ) → T (within (s .nodes) o) → first-or o (s .nodes) ≤ s .nodes
+          go none t = omega arith
+          go (some x) t = omega (arith, ltb→lt x (s .nodes) t)
+
+      pub best-turn : (r : ℕ) → first-edge G v ≤ j → j < first-edge G (v + 1) → r ≡ better G P l b (s .nodes) best j → r ≡ first-or (best-target G P v l b (j + 1)) (s .nodes)
+      best-turn r h k e =
+          e
+          ∙ best-on G P v l b (s .nodes) j best
+          (in-leaves (ready .graph-file .limits) G filed v j (omega (arith, edge-there j k, edges-is s g p ready)) h (omega (arith, next-is)))
+          (is-within j (omega (arith, edge-there j k)))
+          is
+          ∙ ap (λ (n : ℕ). first-or (best-target G P v l b n) (s .nodes)) (sym (add-one j))
+
+      pub best-end : j ≡ first-edge G (v + 1) → best ≡ first-or (best-target G P v l b (s .edges)) (s .nodes)
+      best-end e =
+          is
+          ∙ ap (λ (o : Option ℕ). first-or o (s .nodes))
+          (sym (best-still G P v l b (s .edges) j (omega (arith, e, first-edge-le G (v + 1), edges-is s g p ready))
+          (λ i a c d. absurd (omega (arith, a, e, next-is, (leaves-in (ready .graph-file .limits) G filed v i (omega (arith, c, edges-is s g p ready)) d) .1)))))
+
+    -- ---- the cause of a box
+
+    cause-of : Option ℕ → Cause
+    cause-of o = cause-held (getD (as-causes G P v l b o) 0 no-cause)
+
+    box-is : cause-of (best-target G P v l b (s .edges)) ≡ cause-held (getD (box-causes G P (targets G v (box l b))) 0 no-cause)
+    unfolding cause-of
+    box-is =
+        ap (λ (xs : List (ℕ × ℕ)). cause-held (getD xs 0 no-cause))
+        (ap (λ (n : ℕ). as-causes G P v l b (best-target G P v l b n)) (sym (edges-is s g p ready)) ∙ sym (box-causes-are G P v l b))
+
+    module _ (t : ℕ) (is : t ≡ first-or (best-target G P v l b (s .edges)) (s .nodes)) where
+      pub box-found : t < s .nodes → record { node = t; row = b } ≡ cause-held (getD (box-causes G P (targets G v (box l b))) 0 no-cause)
+      unfolding cause-of
+      box-found h = go (best-target G P v l b (s .edges)) is ∙ box-is
+        where
+          go : (o : Option ℕ) → t ≡ first-or o (s .nodes) → record { node = t; row = b } ≡ cause-of o
+          go none e = absurd (omega arith)
+          go (some x) e = ap (λ (n : ℕ). record { node = n; row = b }) e
+
+      pub box-not-found : s .nodes ≤ t → record { node = 0; row = 255 } ≡ cause-held (getD (box-causes G P (targets G v (box l b))) 0 no-cause)
+      unfolding cause-of
+      box-not-found h = go (best-target G P v l b (s .edges)) is (is-within (s .edges) (omega arith)) ∙ box-is
+        where
+          go : (o : Option ℕ) → t ≡ first-or o (s .nodes) → T (within (s .nodes) o) → record { node = 0; row = 255 } ≡ cause-of o
+          go none e m = refl
+          go (some x) e m = absurd (omega (arith, e, ltb→lt x (s .nodes) m))
+
+-- ---- comparing
+
+module _ (G : Graph) (P : List Row) where
+  module _ (g a b m n : ℕ) (is-m : m ≡ rank G P g a) (is-n : n ≡ rank G P g b) where
+    pub lower-a : m ≤ n → a ≡ lower G P g a b
+    lower-a h = sym (lower-is G P g a b ∙ ap (λ (c : Bool). cond c a b) (ap₂ leb (sym is-m) (sym is-n) ∙ le-leb m n h))
+
+    pub lower-b : n < m → b ≡ lower G P g a b
+    lower-b h = sym (lower-is G P g a b ∙ ap (λ (c : Bool). cond c a b) (ap₂ leb (sym is-m) (sym is-n) ∙ lt-leb m n h))
+
+  pub ahead-by : (x t b m n : ℕ) → m ≡ rank G P x b → n ≡ rank G P t b → ltb m n || (eqb m n && leb x t) ≡ ahead G P (x, b) (t, b)
+  ahead-by x t b m n d e = ap₂ (λ (i j : ℕ). ltb i j || (eqb i j && leb x t)) d e ∙ sym (ahead-is G P (x, b) (t, b))
+
+  -- edge j, read as u, by the three tests on it
+  pub better-is : (u : GraphEdge) (l b n best j : ℕ) (c d a : Bool) → u ≡ edge-held (getD (G .edges) j no-edge) → eqb (u .label) l ≡ c → ltb best n ≡ d → ahead G P (best, b) (u .to, b) ≡ a
+      → cond c (cond (d && a) best (u .to)) best ≡ better G P l b n best j
+  better-is u l b n best j c d a q x y z =
+      sym (ap (λ (i : Bool). cond i (cond (ltb best n && ahead G P (best, b) (u .to, b)) best (u .to)) best) x
+      ∙ ap (λ (i : Bool). cond c (cond (i && ahead G P (best, b) (u .to, b)) best (u .to)) best) y
+      ∙ ap (λ (i : Bool). cond c (cond (d && i) best (u .to)) best) z)
+      ∙ ap (λ (i : GraphEdge). cond (eqb (i .label) l) (cond (ltb best n && ahead G P (best, b) (i .to, b)) best (i .to)) best) q
+
+-- ---- a row by its operator
+
+pub is-both : (x : Row) → (row-held x) .operator ≡ 7 → x ≡ both ((row-held x) .a) ((row-held x) .b)
+is-both always e = absurd (omega arith)
+is-both never e = absurd (omega arith)
+is-both returns e = absurd (omega arith)
+is-both not-returns e = absurd (omega arith)
+is-both (in-method a) e = absurd (omega arith)
+is-both (not-in-method a) e = absurd (omega arith)
+is-both (both a b) e = refl
+is-both (either a b) e = absurd (omega arith)
+is-both (box l b) e = absurd (omega arith)
+
+pub is-either : (x : Row) → (row-held x) .operator ≡ 8 → x ≡ either ((row-held x) .a) ((row-held x) .b)
+is-either always e = absurd (omega arith)
+is-either never e = absurd (omega arith)
+is-either returns e = absurd (omega arith)
+is-either not-returns e = absurd (omega arith)
+is-either (in-method a) e = absurd (omega arith)
+is-either (not-in-method a) e = absurd (omega arith)
+is-either (both a b) e = absurd (omega arith)
+is-either (either a b) e = refl
+is-either (box l b) e = absurd (omega arith)
+
+pub is-box : (x : Row) → (row-held x) .operator ≡ 9 → x ≡ box ((row-held x) .a) ((row-held x) .b)
+is-box always e = absurd (omega arith)
+is-box never e = absurd (omega arith)
+is-box returns e = absurd (omega arith)
+is-box not-returns e = absurd (omega arith)
+is-box (in-method a) e = absurd (omega arith)
+is-box (not-in-method a) e = absurd (omega arith)
+is-box (both a b) e = absurd (omega arith)
+is-box (either a b) e = absurd (omega arith)
+is-box (box l b) e = refl
+
+-- row r, read as u
+module _ (s : Shape) (g p : List ℕ) (ready : Ready s g p) (v r : ℕ) (hr : r < s .rows) (u : PropertyRow) (is : u ≡ row-held (row (decode-property p) r)) where
+  operator-is : u .operator ≡ (row-held (row (decode-property p) r)) .operator
+  operator-is = ap (λ (x : PropertyRow). x .operator) is
+
+  both-read : u .operator ≡ 7 → row (decode-property p) r ≡ both (u .a) (u .b)
+  both-read e = is-both (row (decode-property p) r) (sym operator-is ∙ e) ∙ ap (λ (x : PropertyRow). both (x .a) (x .b)) (sym is)
+
+  either-read : u .operator ≡ 8 → row (decode-property p) r ≡ either (u .a) (u .b)
+  either-read e = is-either (row (decode-property p) r) (sym operator-is ∙ e) ∙ ap (λ (x : PropertyRow). either (x .a) (x .b)) (sym is)
+
+  box-read : u .operator ≡ 9 → row (decode-property p) r ≡ box (u .a) (u .b)
+  box-read e = is-box (row (decode-property p) r) (sym operator-is ∙ e) ∙ ap (λ (x : PropertyRow). box (x .a) (x .b)) (sym is)
+
+  named-rows : T (names (s .rows) (row (decode-property p) r))
+  named-rows =
+      subst (λ (n : ℕ). T (names n (row (decode-property p) r))) (rows-is s g p ready)
+      ((is-property s g p ready) .names-rows r (omega (arith, rows-is s g p ready)))
+
+  pub both-rows : u .operator ≡ 7 → (u .a < s .rows) × (u .b < s .rows)
+  both-rows e =
+      let t : T (ltb (u .a) (s .rows) && ltb (u .b) (s .rows)) = subst (λ (x : Row). T (names (s .rows) x)) (both-read e) named-rows in
+      (ltb→lt (u .a) (s .rows) (and-l (ltb (u .a) (s .rows)) (ltb (u .b) (s .rows)) t), ltb→lt (u .b) (s .rows) (and-r (ltb (u .a) (s .rows)) (ltb (u .b) (s .rows)) t))
+
+  pub box-row : u .operator ≡ 9 → u .b < s .rows
+  box-row e = ltb→lt (u .b) (s .rows) (subst (λ (x : Row). T (names (s .rows) x)) (box-read e) named-rows)
+
+  -- what the code answers as cause i
+  abbrev Answers : Cause → ℕ → Type 0
+  Answers c i = c ≡ cause-held (getD (causes (decode-graph g) (decode-property p) (v, r)) i no-cause)
+
+  as-listed : (xs : List (ℕ × ℕ)) (i : ℕ) → causes (decode-graph g) (decode-property p) (v, r) ≡ xs → Answers (cause-held (getD xs i no-cause)) i
+  as-listed xs i e = ap (λ (ys : List (ℕ × ℕ)). cause-held (getD ys i no-cause)) (sym e)
+
+  pub first-both : (c : ℕ) → u .operator ≡ 7 → c ≡ lower (decode-graph g) (decode-property p) v (u .a) (u .b) → Answers (record { node = v; row = c }) 0
+  first-both c e q =
+      ap (λ (n : ℕ). record { node = v; row = n }) q
+      ∙ as-listed ((v, lower (decode-graph g) (decode-property p) v (u .a) (u .b)) ∷ []) 0 (causes-both (decode-graph g) (decode-property p) v r (u .a) (u .b) (both-read e))
+
+  pub first-either : u .operator ≡ 8 → Answers (record { node = v; row = u .a }) 0
+  first-either e = as-listed ((v, u .a) ∷ (v, u .b) ∷ []) 0 (causes-either (decode-graph g) (decode-property p) v r (u .a) (u .b) (either-read e))
+
+  pub second-either : u .operator ≡ 8 → Answers (record { node = v; row = u .b }) 1
+  second-either e = as-listed ((v, u .a) ∷ (v, u .b) ∷ []) 1 (causes-either (decode-graph g) (decode-property p) v r (u .a) (u .b) (either-read e))
+
+  pub first-box : (c : Cause) → u .operator ≡ 9
+      → c ≡ cause-held (getD (box-causes (decode-graph g) (decode-property p) (targets (decode-graph g) v (box (u .a) (u .b)))) 0 no-cause) → Answers c 0
+  first-box c e q = q ∙ as-listed _ 0 (causes-box (decode-graph g) (decode-property p) v r (u .a) (u .b) (box-read e))
+
+  pub first-rest : (u .operator ≡ 7 → ⊥) → (u .operator ≡ 8 → ⊥) → (u .operator ≡ 9 → ⊥) → Answers (record { node = 0; row = 255 }) 0
+  first-rest d e f =
+      as-listed [] 0 (causes-rest (decode-graph g) (decode-property p) v r (λ q. d (operator-is ∙ q)) (λ q. e (operator-is ∙ q)) (λ q. f (operator-is ∙ q)))
+
+  pub second-rest : (u .operator ≡ 8 → ⊥) → Answers (record { node = 0; row = 255 }) 1
+  second-rest e = go (ℕ-discrete (u .operator) 7) (ℕ-discrete (u .operator) 9)
+    where
+      one-at-most : (xs : List (ℕ × ℕ)) → no-cause ≡ getD (box-causes (decode-graph g) (decode-property p) xs) 1 no-cause
+      one-at-most [] = ap (λ (ys : List (ℕ × ℕ)). getD ys 1 no-cause) (sym (box-none (decode-graph g) (decode-property p)))
+      one-at-most (x ∷ xs) = ap (λ (ys : List (ℕ × ℕ)). getD ys 1 no-cause) (sym (box-some (decode-graph g) (decode-property p) x xs))
+
+      go : Dec (u .operator ≡ 7) → Dec (u .operator ≡ 9) → Answers (record { node = 0; row = 255 }) 1
+      go (yes q) d =
+          as-listed ((v, lower (decode-graph g) (decode-property p) v (u .a) (u .b)) ∷ []) 1 (causes-both (decode-graph g) (decode-property p) v r (u .a) (u .b) (both-read q))
+      go (no q) (yes b) =
+          ap cause-held (one-at-most (targets (decode-graph g) v (box (u .a) (u .b))))
+          ∙ as-listed (box-causes (decode-graph g) (decode-property p) (targets (decode-graph g) v (box (u .a) (u .b)))) 1 (causes-box (decode-graph g) (decode-property p) v r (u .a) (u .b) (box-read b))
+      go (no q) (no b) =
+          as-listed [] 1 (causes-rest (decode-graph g) (decode-property p) v r (λ d. q (operator-is ∙ d)) (λ d. e (operator-is ∙ d)) (λ d. b (operator-is ∙ d)))

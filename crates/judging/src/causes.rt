@@ -1,0 +1,257 @@
+// Why a pair of a node and a row is false, read off the ranks: its rank, the lowest failing entry, and its first and second cause.
+ghost use mathlib.Core.Path.{_≡_};
+ghost use Prim.Native.Nat.{_+_, _*_, _≤_, _<_};
+ghost use lib.ListN.{length, getD};
+ghost use Rattle.files.specs.Basics.First.{first-or};
+ghost use Rattle.files.specs.Property.{box};
+ghost use Rattle.files.specs.Decode.{decode-graph, decode-property};
+ghost use Rattle.judging.specs.Levels.{rank};
+ghost use Rattle.judging.specs.Levels.Sheet.{no-cause, ahead, lower, targets, box-causes, causes, failing};
+ghost use Rattle.judging.specs.Ranking.{Ready, Ranked};
+ghost use Rattle.judging.specs.Sheets.{Settled, cause-held, fails-at, best-target, better};
+use crate::shape::Shape;
+use files::cells::get16;
+use files::cells::put16;
+use files::graph::EdgeAt;
+use files::graph::NodeAt;
+use files::graph::edge_at;
+use files::graph::next_first;
+use files::graph::node_at;
+use files::property::RowAt;
+use files::property::row_at;
+
+// A pair of a node and a row; row 255 is none.
+pub struct Cause {
+    pub node: usize,
+    pub row: usize,
+}
+
+impl Cause {
+    pub const NONE: usize = 255;
+}
+
+// The rank of row r at node g; where the row holds, a number past every rank.
+fn rank_of(graph: &[u8], property: &[u8], s: Shape, work: &[u8], g: usize, r: usize) -> usize
+    requires { ⌜ (Ready s (now graph) (now property)) × ((g < s .nodes) × ((r < s .rows) × ((41664 ≤ length (now work)) × (Ranked (decode-graph (now graph)) (decode-property (now property)) (now work))))) ⌝ }
+    ensures { λ k. ⌜ k ≡ rank (decode-graph (now (graph .entry))) (decode-property (now (property .entry))) g r ⌝ }
+{
+    let x = get16(work, 0, Shape::STRIDE * g + r) as usize;
+    if x == 0 {
+        return s.nodes * s.rows + 1;
+    }
+    x
+}
+
+// Whether node g is an entry at which row 0 is false.
+fn fails_at(graph: &[u8], property: &[u8], s: Shape, work: &[u8], g: usize) -> bool
+    requires { ⌜ (Ready s (now graph) (now property)) × ((g < s .nodes) × ((41664 ≤ length (now work)) × (Ranked (decode-graph (now graph)) (decode-property (now property)) (now work)))) ⌝ }
+    ensures { λ b. ⌜ b ≡ fails-at (decode-graph (now (graph .entry))) (decode-property (now (property .entry))) g ⌝ }
+{
+    let NodeAt::Is(v) = node_at(graph, g, 0) else {
+        return false;
+    };
+    let x = get16(work, 0, Shape::STRIDE * g);
+    v.entry & !(x == 0)
+}
+
+// The lowest failing entry, or the number of nodes.
+pub fn first_failing(graph: &[u8], property: &[u8], s: Shape, work: &[u8]) -> usize
+    requires { ⌜ (Ready s (now graph) (now property)) × ((41664 ≤ length (now work)) × (Ranked (decode-graph (now graph)) (decode-property (now property)) (now work))) ⌝ }
+    ensures { λ g. ⌜ g ≡ failing (decode-graph (now (graph .entry))) (decode-property (now (property .entry))) ⌝ }
+{
+    let mut g = 0;
+    while g < s.nodes {
+        if fails_at(graph, property, s, work, g) {
+            return g;
+        }
+        g += 1;
+    }
+    g
+}
+
+// Puts the first edge of each node, and the number of edges, into the buffer.
+pub fn first_edges(graph: &[u8], property: &[u8], s: Shape, work: &mut [u8])
+    requires { ⌜ (Ready s (now graph) (now property)) × ((41664 ≤ length (now work)) × (Ranked (decode-graph (now graph)) (decode-property (now property)) (now work))) ⌝ }
+    ensures { λ _. ⌜ Settled (decode-graph (now (graph .entry))) (decode-property (now (property .entry))) (now (work .exit)) ⌝ }
+{
+    let mut g = 0;
+    let mut first = 0;
+    put16(work, Shape::FIRSTS, 0, 0);
+    while g < s.nodes {
+        first = next_first(graph, s.nodes, g, first);
+        g += 1;
+        put16(work, Shape::FIRSTS, g, first as u16);
+    }
+}
+
+// Of two rows at node g the one of lower rank, a where they are level.
+fn lower(
+    graph: &[u8],
+    property: &[u8],
+    s: Shape,
+    work: &[u8],
+    g: usize,
+    a: usize,
+    b: usize,
+) -> usize
+    requires { ⌜ (Ready s (now graph) (now property)) × ((g < s .nodes) × ((a < s .rows) × ((b < s .rows) × (Settled (decode-graph (now graph)) (decode-property (now property)) (now work))))) ⌝ }
+    ensures { λ r. ⌜ r ≡ lower (decode-graph (now (graph .entry))) (decode-property (now (property .entry))) g a b ⌝ }
+{
+    let rank_a = rank_of(graph, property, s, work, g, a);
+    let rank_b = rank_of(graph, property, s, work, g, b);
+    if rank_a <= rank_b {
+        return a;
+    }
+    b
+}
+
+// Whether row b at node x comes ahead of row b at node t: by rank, then by node.
+fn is_ahead(
+    graph: &[u8],
+    property: &[u8],
+    s: Shape,
+    work: &[u8],
+    b: usize,
+    x: usize,
+    t: usize,
+) -> bool
+    requires { ⌜ (Ready s (now graph) (now property)) × ((b < s .rows) × ((x < s .nodes) × ((t < s .nodes) × (Settled (decode-graph (now graph)) (decode-property (now property)) (now work))))) ⌝ }
+    ensures { λ r. ⌜ r ≡ ahead (decode-graph (now (graph .entry))) (decode-property (now (property .entry))) (x, b) (t, b) ⌝ }
+{
+    let rank_x = rank_of(graph, property, s, work, x, b);
+    let rank_t = rank_of(graph, property, s, work, t, b);
+    (rank_x < rank_t) | ((rank_x == rank_t) & (x <= t))
+}
+
+// The better of the target found so far, the number of nodes while there is none, and the target of edge j, if the edge has the label.
+fn better(
+    graph: &[u8],
+    property: &[u8],
+    s: Shape,
+    work: &[u8],
+    label: u8,
+    b: usize,
+    best: usize,
+    j: usize,
+) -> usize
+    requires { ⌜ (Ready s (now graph) (now property)) × ((b < s .rows) × ((best ≤ s .nodes) × ((j < s .edges) × (Settled (decode-graph (now graph)) (decode-property (now property)) (now work))))) ⌝ }
+    ensures { λ r. ⌜ r ≡ better (decode-graph (now (graph .entry))) (decode-property (now (property .entry))) label b (s .nodes) best j ⌝ }
+{
+    let EdgeAt::Is(edge) = edge_at(graph, s.nodes, j, 0) else {
+        return best;
+    };
+    if edge.label == label {
+        if best < s.nodes {
+            if is_ahead(graph, property, s, work, b, best, edge.to) {
+                return best;
+            }
+        }
+        return edge.to;
+    }
+    best
+}
+
+// The foremost target of a box for a label and row b at node g, or the number of nodes.
+fn foremost(
+    graph: &[u8],
+    property: &[u8],
+    s: Shape,
+    work: &[u8],
+    g: usize,
+    label: u8,
+    b: usize,
+) -> usize
+    requires { ⌜ (Ready s (now graph) (now property)) × ((g < s .nodes) × ((b < s .rows) × (Settled (decode-graph (now graph)) (decode-property (now property)) (now work)))) ⌝ }
+    ensures { λ t. ⌜ t ≡ first-or (best-target (decode-graph (now (graph .entry))) (decode-property (now (property .entry))) g label b (s .edges)) (s .nodes) ⌝ }
+{
+    let end = get16(work, Shape::FIRSTS, g + 1) as usize;
+    let mut j = get16(work, Shape::FIRSTS, g) as usize;
+    let mut best = s.nodes;
+    while j < end {
+        best = better(graph, property, s, work, label, b, best, j);
+        j += 1;
+    }
+    best
+}
+
+// The cause of a box for a label and row b at node g.
+fn box_cause(
+    graph: &[u8],
+    property: &[u8],
+    s: Shape,
+    work: &[u8],
+    g: usize,
+    label: u8,
+    b: usize,
+) -> Cause
+    requires { ⌜ (Ready s (now graph) (now property)) × ((g < s .nodes) × ((b < s .rows) × (Settled (decode-graph (now graph)) (decode-property (now property)) (now work)))) ⌝ }
+    ensures { λ c. ⌜ c ≡ cause-held (getD (box-causes (decode-graph (now (graph .entry))) (decode-property (now (property .entry))) (targets (decode-graph (now (graph .entry))) g (box label b))) 0 no-cause) ⌝ }
+{
+    let t = foremost(graph, property, s, work, g, label, b);
+    if t < s.nodes {
+        return Cause { node: t, row: b };
+    }
+    Cause {
+        node: 0,
+        row: Cause::NONE,
+    }
+}
+
+// The first cause of row r at node g.
+pub fn first_cause(
+    graph: &[u8],
+    property: &[u8],
+    s: Shape,
+    work: &[u8],
+    g: usize,
+    r: usize,
+) -> Cause
+    requires { ⌜ (Ready s (now graph) (now property)) × ((g < s .nodes) × ((r < s .rows) × (Settled (decode-graph (now graph)) (decode-property (now property)) (now work)))) ⌝ }
+    ensures { λ c. ⌜ c ≡ cause-held (getD (causes (decode-graph (now (graph .entry))) (decode-property (now (property .entry))) (g, r)) 0 no-cause) ⌝ }
+{
+    let RowAt::Is(x) = row_at(property, r, 0) else {
+        return Cause {
+            node: 0,
+            row: Cause::NONE,
+        };
+    };
+    let a = x.a as usize;
+    let b = x.b as usize;
+    if x.operator == 7 {
+        let c = lower(graph, property, s, work, g, a, b);
+        return Cause { node: g, row: c };
+    }
+    if x.operator == 8 {
+        return Cause { node: g, row: a };
+    }
+    if x.operator == 9 {
+        return box_cause(graph, property, s, work, g, x.a, b);
+    }
+    Cause {
+        node: 0,
+        row: Cause::NONE,
+    }
+}
+
+// The second cause of row r at node g, which only an "or" has.
+pub fn second_cause(graph: &[u8], property: &[u8], s: Shape, g: usize, r: usize) -> Cause
+    requires { ⌜ (Ready s (now graph) (now property)) × ((g < s .nodes) × (r < s .rows)) ⌝ }
+    ensures { λ c. ⌜ c ≡ cause-held (getD (causes (decode-graph (now (graph .entry))) (decode-property (now (property .entry))) (g, r)) 1 no-cause) ⌝ }
+{
+    let RowAt::Is(x) = row_at(property, r, 0) else {
+        return Cause {
+            node: 0,
+            row: Cause::NONE,
+        };
+    };
+    if x.operator == 8 {
+        return Cause {
+            node: g,
+            row: x.b as usize,
+        };
+    }
+    Cause {
+        node: 0,
+        row: Cause::NONE,
+    }
+}
