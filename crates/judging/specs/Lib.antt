@@ -3,5 +3,6 @@ pub mod Levels
 pub mod Ranking
 pub mod Sheets
 pub mod Simulation
+pub mod Refinement
 pub mod Judge
 pub mod Compare

@@ -5,3 +5,4 @@ pub mod chains;
 pub mod levels;
 pub mod shape;
 pub mod sheet;
+pub mod sizes;

@@ -20,14 +20,14 @@ use Rattle.files.specs.Line.{relation-line}
 use Rattle.files.specs.Line.Laws.{line-size}
 use Rattle.judging.specs.Simulation.{Simulation, Simulates, alike, matching, keeps, refined, related, covered, simulates, uncovered, relation-bytes}
 
-alike-e : (a b : Node) → T (alike a b) → (b .method ≡ a .method) × (b .ret ≡ a .ret)
+pub alike-e : (a b : Node) → T (alike a b) → (b .method ≡ a .method) × (b .ret ≡ a .ret)
 unfolding alike
 alike-e a b t = (
   eqb→eq (b .method) (a .method) (and-l (eqb (b .method) (a .method)) (same (b .ret) (a .ret)) t),
   same→eq (b .ret) (a .ret) (and-r (eqb (b .method) (a .method)) (same (b .ret) (a .ret)) t),
 )
 
-alike-i : (a b : Node) → b .method ≡ a .method → b .ret ≡ a .ret → T (alike a b)
+pub alike-i : (a b : Node) → b .method ≡ a .method → b .ret ≡ a .ret → T (alike a b)
 unfolding alike
 alike-i a b p q = and-i (eqb (b .method) (a .method)) (same (b .ret) (a .ret)) (eq-eqb (b .method) (a .method) p) (rw q (same-refl (a .ret)))
 
@@ -110,7 +110,7 @@ module _ (G H : Graph) (fg : Flow G) (fh : Flow H) where
             (d, a .1, a .2, a .3, u (e .to, d .to) (grid-i (size G) (size H) (e .to) (d .to) (fg .to-node e n) (fh .to-node d (a .1))) (a .4));
       })
 
-  related-e : (g h : ℕ) → T (related G H g h) → (g < size G) × (h < size H) × T (refined G H (size G * size H) g h)
+  pub related-e : (g h : ℕ) → T (related G H g h) → (g < size G) × (h < size H) × T (refined G H (size G * size H) g h)
   unfolding related
   related-e g h t =
       let s = and-r (ltb g (size G)) (ltb h (size H) && refined G H (size G * size H) g h) t in (
