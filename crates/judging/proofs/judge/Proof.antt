@@ -1,0 +1,31 @@
+use Rattle.judging.proofs.DecideLaws.{desk-strides, does-desk}
+use Rattle.judging.specs.Judge.{judged-answer}
+use borrow.Author.Needs.{needs}
+use Rattle.judging.proofs.judge.Statement.{statement}
+use Rattle.judging.proofs.judge.Tie as tie
+
+-- src/lib.rt:20:54
+desk-requires : tie.Need-desk-requires
+desk-requires c κs = search needs
+
+-- src/lib.rt:20:5
+judge-within-requires : tie.Need-judge-within-requires
+judge-within-requires c κs = desk-strides (c .desk .result) (c .desk .ensures)
+
+-- src/lib.rt:17:1
+same-length : tie.Need-same-length
+same-length c = search needs
+
+-- src/lib.rt:17:1
+same-length-2 : tie.Need-same-length-2
+same-length-2 c = search needs
+
+-- src/lib.rt:17:1
+returns : tie.Need-returns
+returns c = let k = c .before .before .before .before .before .before .before .before .before .before .before .before in
+    let j = c .before .before .before .before .judge-within in
+    does-desk (c .before .before .before .before .before .desk .result) (k .args .graph .now) (k .args .property .now) (k .args .out .now) (k .args .work .now) (j .last .1 .1 .0) (j .last .1 .1 .1 .0) (judged-answer (j .result)) (c .before .before .before .before .before .desk .ensures) (j .ensures)
+
+pub judge-spec : {M : Type 1} → statement M
+judge-spec =
+    tie.close (tie.spec desk-requires judge-within-requires same-length same-length-2 returns)
