@@ -1,8 +1,16 @@
 -- What the C boundary gives back: each answer as six numbers, through one definition for each type of answer.
+use mathlib.Core.Path.{_≡_}
+use mathlib.Core.Bool.{cond}
+use mathlib.Core.List.{List}
 use Prim.Native.Nat.{ℕ}
+use lib.Dec.{eqb}
+use lib.ListN.{getD}
 use Rattle.files.specs.declared.check.Checked.{Checked}
 use Rattle.files.specs.declared.check.Checked.the-variants.{Accepted, Refused}
 use Rattle.files.specs.declared.refusal.Refusal.{Refusal}
+use Rattle.files.specs.Outcome.{Outcome, answer, out-after, work-after}
+use Rattle.files.specs.Outcome as outcome
+use Rattle.judging.specs.Judge.{judge-room}
 use Rattle.exports.specs.declared.Answer.{Answer}
 
 -- verdict 0: the refusal's number, then file and record
@@ -17,3 +25,18 @@ verdict-numbers v a b c d = record { verdict = v; number = 0; first = a; second 
 abbrev pub checked-numbers : Checked → Answer
 checked-numbers (Accepted nodes records) = verdict-numbers 1 nodes records 0 0
 checked-numbers (Refused r) = refused-numbers r
+
+-- an answer of any call as six numbers: its values from first on, 0 where it has no more
+abbrev pub answer-numbers : outcome.Answer → Answer
+answer-numbers a =
+    record { verdict = a .verdict; number = a .number; first = getD (a .values) 0 0; second = getD (a .values) 1 0; third = getD (a .values) 2 0; fourth = getD (a .values) 3 0 }
+
+-- what a call gives back at the boundary, by its outcome
+pub record Gives (o : Outcome) (out work out′ work′ : List ℕ) (a : Answer) : Type 0 where
+  pub numbers-are : a ≡ answer-numbers (answer o)
+  pub out-is : out′ ≡ out-after o out
+  pub work-is : work′ ≡ work-after o work
+
+-- the published length of a call's work buffer, by the call's number
+abbrev pub work-lengths : ℕ → ℕ
+work-lengths call = cond (eqb call 1) judge-room 0

@@ -3,10 +3,14 @@ ghost use mathlib.Core.Path.{_≡_};
 ghost use Rattle.files.specs.Limits.{desk};
 ghost use Rattle.files.specs.Refusal.{graph, property, rules, interface};
 ghost use Rattle.files.specs.Checking.{checked};
-ghost use Rattle.exports.specs.Boundary.{refused-numbers, verdict-numbers, checked-numbers};
+ghost use lib.ListN.{length};
+ghost use Rattle.judging.specs.Judge.{judged, judged-answer};
+ghost use Rattle.exports.specs.Boundary.{refused-numbers, verdict-numbers, checked-numbers, answer-numbers, Gives, work-lengths};
 use files::check::Checked;
 use files::record::Limits;
 use files::refusal::Refusal;
+use judging::answers::Judged;
+use judging::shape::Shape;
 
 // Verdict 0 is a refusal: its number, file (first) and record (second). Other verdicts carry their values from first on.
 #[repr(C)]
@@ -78,4 +82,52 @@ pub extern "C" fn tintboulder_check_interface(file: &[u8]) -> Answer
     ensures { λ a. ⌜ a ≡ checked-numbers (checked desk interface (now (file .entry)) 1) ⌝ }
 {
     checked_answer(files::check::check_interface(file, 1, Limits::desk()))
+}
+
+fn judged_answer(j: Judged) -> Answer
+    ensures { λ a. ⌜ a ≡ answer-numbers (judged-answer j) ⌝ }
+{
+    match j {
+        Judged::Holds => Answer {
+            verdict: 1,
+            number: 0,
+            first: 0,
+            second: 0,
+            third: 0,
+            fourth: 0,
+        },
+        Judged::Fails(records) => Answer {
+            verdict: 2,
+            number: 0,
+            first: records as u64,
+            second: 0,
+            third: 0,
+            fourth: 0,
+        },
+        Judged::Refused(r) => refused(r),
+    }
+}
+
+// Judges a graph against a property: verdict 1 holds, 2 fails, with the number of records of the fault sheet, which is written to `out`.
+#[no_mangle]
+pub extern "C" fn tintboulder_judge(
+    graph: &[u8],
+    property: &[u8],
+    out: &mut [u8],
+    work: &mut [u8],
+) -> Answer
+    ensures { λ a. ⌜ Gives (judged desk (now (graph .entry)) (now (property .entry)) (length (now (out .entry))) (length (now (work .entry)))) (now (out .entry)) (now (work .entry)) (now (out .exit)) (now (work .exit)) a ⌝ }
+{
+    judged_answer(judging::judge(graph, property, out, work))
+}
+
+// The published length of a call's work buffer: 1 is judge; 0 for other numbers.
+#[no_mangle]
+pub extern "C" fn tintboulder_work(call: u64) -> u64
+    ensures { λ n. ⌜ n ≡ work-lengths call ⌝ }
+{
+    if call == 1 {
+        return Shape::ROOM as u64;
+    }
+    0
 }

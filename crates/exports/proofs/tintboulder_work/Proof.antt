@@ -1,0 +1,17 @@
+use mathlib.Core.Path.{_≡_, refl, sym, ap, _∙_}
+use borrow.Author.Tests.{eq-eqb, ne-eqb}
+use Rattle.exports.proofs.tintboulder_work.Statement.{statement}
+use Rattle.exports.proofs.tintboulder_work.Tie as tie
+use Rattle.exports.proofs.tintboulder_work.Reads as reads
+use Rattle.exports.proofs.tintboulder_work.Lts as lts
+
+-- src/lib.rt:130:9
+returns : tie.Need-returns
+returns c = rw (eq-eqb _ _ (c .if1 .taken)) refl
+
+-- src/lib.rt:125:1
+returns-2 : tie.Need-returns-2
+returns-2 c = rw (ne-eqb _ _ (c .if1 .left)) refl
+
+pub tintboulder-work-spec : {M : Type 1} → statement M
+tintboulder-work-spec = tie.close (tie.spec returns returns-2)
