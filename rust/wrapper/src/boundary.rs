@@ -1,0 +1,80 @@
+//! What the calls of the C boundary (include/tintboulder.h) share: the answer as it comes, and the one place where slices become pointers.
+
+/// The six numbers of an answer. Verdict 0 is a refusal; values that a call does not name are 0.
+#[repr(C)]
+#[derive(Clone, Copy, Debug, PartialEq, Eq)]
+pub struct Answer {
+    pub verdict: u32,
+    pub number: u32,
+    pub first: u64,
+    pub second: u64,
+    pub third: u64,
+    pub fourth: u64,
+}
+
+/// A refusal: its number in the published table, the file's position from 1, and the first offending record from 0.
+#[derive(Clone, Copy, Debug, PartialEq, Eq)]
+pub struct Refusal {
+    pub number: u32,
+    pub file: u64,
+    pub record: u64,
+}
+
+impl Answer {
+    /// The answer itself, unless it is a refusal.
+    pub(crate) fn accepted(self) -> Result<Answer, Refusal> {
+        match self.verdict {
+            0 => Err(Refusal { number: self.number, file: self.first, record: self.second }),
+            _ => Ok(self),
+        }
+    }
+}
+
+pub(crate) type OnFile = unsafe extern "C" fn(*const u8, usize) -> Answer;
+
+pub(crate) type OnTwoFiles = unsafe extern "C" fn(
+    *const u8,
+    usize,
+    *const u8,
+    usize,
+    *mut u8,
+    usize,
+    *mut u8,
+    usize,
+) -> Answer;
+
+extern "C" {
+    fn tintboulder_work(call: u64) -> u64;
+}
+
+/// The published length of the work buffer of a call, by the boundary's number of the call.
+pub(crate) fn work(call: u64) -> usize {
+    // Safe: it takes and gives numbers.
+    let length = unsafe { tintboulder_work(call) };
+    length.try_into().expect("a length of at most 1,048,576")
+}
+
+/// Safe if the function is one of the boundary, which are total.
+pub(crate) unsafe fn on_file(call: OnFile, file: &[u8]) -> Answer {
+    call(file.as_ptr(), file.len())
+}
+
+/// Safe if the function is one of the boundary: the two lent slices are exclusive, so none of the four overlaps another that is written.
+pub(crate) unsafe fn on_two_files(
+    call: OnTwoFiles,
+    files: [&[u8]; 2],
+    out: &mut [u8],
+    work: &mut [u8],
+) -> Answer {
+    let [first, second] = files;
+    call(
+        first.as_ptr(),
+        first.len(),
+        second.as_ptr(),
+        second.len(),
+        out.as_mut_ptr(),
+        out.len(),
+        work.as_mut_ptr(),
+        work.len(),
+    )
+}
