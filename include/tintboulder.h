@@ -26,6 +26,14 @@ struct tintboulder_answer tintboulder_check_property(const uint8_t *file, size_t
 struct tintboulder_answer tintboulder_check_rules(const uint8_t *file, size_t file_length);
 struct tintboulder_answer tintboulder_check_interface(const uint8_t *file, size_t file_length);
 
+/* Does the graph satisfy the property? Verdict 1: it holds. Verdict 2: it fails; first is the number of records of the fault sheet, which is written to out.
+   work is scratch of at least tintboulder_work(1) bytes, else refusal 13; its content does not matter, and it is all zero afterwards, except after 13. */
+struct tintboulder_answer tintboulder_judge(const uint8_t *graph, size_t graph_length, const uint8_t *property, size_t property_length, uint8_t *out,
+                                            size_t out_length, uint8_t *work, size_t work_length);
+
+/* The least length of the work buffer of a call: 1 judge; 0 for other numbers. */
+uint64_t tintboulder_work(uint64_t call);
+
 #ifdef __cplusplus
 }
 #endif
