@@ -1,8 +1,9 @@
 //! Random files: valid ones, small or at the limits, and damaged ones.
 
 pub use crate::damage::damaged;
-pub use crate::graphs::{graph, graph_of};
-pub use crate::properties::property;
+pub use crate::graded::graded;
+pub use crate::graphs::{graph, graph_of, scattered};
+pub use crate::properties::{any_rows, property};
 pub use crate::random::Random;
 use second::files;
 use second::record::{kind, Limits, BAD, METHODS};

@@ -38,10 +38,10 @@ fn members(set: u8) -> Vec<u8> {
     (1..=METHODS as u8).filter(|m| set >> (m - 1) & 1 == 1).collect()
 }
 
-type Edges = BTreeSet<(u8, u8, u8)>;
+pub(crate) type Edges = BTreeSet<(u8, u8, u8)>;
 
 /// Nodes and edges anywhere; fewer edges where there is no room for more.
-pub(crate) fn scattered(
+pub fn scattered(
     random: &mut Random,
     methods: &[u8],
     labels: &[u8],
@@ -105,11 +105,11 @@ fn call_chain(random: &mut Random, methods: &[u8], labels: &[u8]) -> Vec<u8> {
     graph_file(&records, &edges)
 }
 
-fn node(method: u8, returns: bool, entry: bool) -> Record {
+pub(crate) fn node(method: u8, returns: bool, entry: bool) -> Record {
     [kind::NODE, method, u8::from(returns), u8::from(entry), 0, 0]
 }
 
-fn graph_file(nodes: &[Record], edges: &Edges) -> Vec<u8> {
+pub(crate) fn graph_file(nodes: &[Record], edges: &Edges) -> Vec<u8> {
     let edges = edges.iter().map(|&(from, label, to)| [kind::EDGE, from, label, to, 0, 0]);
     nodes.iter().copied().chain(edges).flatten().collect()
 }

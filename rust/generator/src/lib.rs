@@ -1,7 +1,9 @@
 //! Random files for comparing two implementations of the flow-graph checker.
 
 mod damage;
+pub mod extremes;
 pub mod generate;
+mod graded;
 mod graphs;
 mod properties;
 mod random;

@@ -16,7 +16,8 @@ pub fn property(random: &mut Random, size: Size) -> Vec<u8> {
     records.concat()
 }
 
-pub(crate) fn any_rows(random: &mut Random, rows: usize) -> Vec<Record> {
+/// Rows of all operators, with operands anywhere.
+pub fn any_rows(random: &mut Random, rows: usize) -> Vec<Record> {
     let mut ors = 0;
     let mut records = Vec::new();
     for _ in 0..rows {

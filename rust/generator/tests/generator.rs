@@ -17,6 +17,16 @@ fn valid_files_are_accepted() {
 }
 
 #[test]
+fn graded_files_are_accepted() {
+    let mut random = Random::new(5);
+    for size in [Size::Small, Size::Large].repeat(1_000) {
+        let (graph, property) = generate::graded(&mut random, size);
+        let numbers = (Kind::Graph.number(&graph), Kind::Property.number(&property));
+        assert_eq!(numbers, (0, 0), "{graph:?} {property:?}");
+    }
+}
+
+#[test]
 fn damaged_files_meet_every_number_of_their_kind() {
     let mut random = Random::new(2);
     for (kind, numbers) in [

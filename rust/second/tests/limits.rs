@@ -2,32 +2,18 @@
 
 mod support;
 
+use generator::extremes::{box_cycle, cycle, dense_cycle, row_cycle};
 use support::*;
-
-/// All nodes of method 1 on one internal cycle; the last one is an entry.
-fn cycle(last_returns: u8) -> Vec<u8> {
-    let node = |at: u8| [1, 1, last_returns * u8::from(at == 255), u8::from(at == 255), 0, 0];
-    let edge = |at: u8| [2, at, 0, at.wrapping_add(1), 0, 0];
-    let nodes = (0..=255).flat_map(node);
-    nodes.chain((0..=255).flat_map(edge)).collect()
-}
-
-/// Row 0 comes back to itself through a box and 30 "and" rows, the last of
-/// which also demands the literal in row 31.
-fn row_cycle() -> Vec<u8> {
-    let and = |row: u8| [3, 7, row + 1, row + 1, 0, 0];
-    let first = [3, 9, 0, 1, 0, 0].into_iter();
-    let chain = first.chain((1..30).flat_map(and));
-    chain.chain([3, 7, 31, 0, 0, 0, 3, 6, 0, 0, 0, 0]).collect()
-}
 
 #[test]
 fn longest_fault_sheet() {
-    let (verdict, values, sheet) = parts(judge(&cycle(1), &row_cycle()));
-    assert_eq!((verdict, values), (2, vec![7_937]));
-    assert_eq!(sheet[..6], [255, 0, 0, 1, 0, 255]);
-    assert_eq!(sheet[sheet.len() - 6..], [255, 31, 0, 255, 0, 255]);
-    assert_eq!(judge(&cycle(0), &row_cycle()), said(1, &[], vec![]));
+    for (graph, property) in [(cycle(true), row_cycle()), (dense_cycle(), box_cycle())] {
+        let (verdict, values, sheet) = parts(judge(&graph, &property));
+        assert_eq!((verdict, values), (2, vec![7_937]));
+        assert_eq!(sheet[..6], [255, 0, 0, 1, 0, 255]);
+        assert_eq!(sheet[sheet.len() - 6..], [255, 31, 0, 255, 0, 255]);
+    }
+    assert_eq!(judge(&cycle(false), &row_cycle()), said(1, &[], vec![]));
 }
 
 #[test]

@@ -6,6 +6,7 @@ use generator::generate::{self, Random, Size};
 use second::files::{check_graph, check_property};
 use second::graph::Graph;
 use second::record::Row;
+use second::Outcome;
 use std::collections::VecDeque;
 use support::*;
 
@@ -98,28 +99,67 @@ fn naive_sheet(graph: &Graph, property: &[Row], ranks: &Ranks, entry: usize) -> 
     bytes
 }
 
+/// What levels one after the other say.
+fn naive_judge(graph: &[u8], property: &[u8], levels: fn(&Graph, &[Row]) -> Ranks) -> Outcome {
+    let graph = check_graph(graph, LIMITS).expect("a valid graph");
+    let property = check_property(property, LIMITS).expect("a valid property");
+    let ranks = levels(&graph, &property);
+    let failing = graph.entries().find(|&entry| ranks[entry][0].is_some());
+    failing.map_or(said(1, &[], vec![]), |entry| {
+        let sheet = naive_sheet(&graph, &property, &ranks, entry);
+        said(2, &[sheet.len() as u64 / 6], sheet)
+    })
+}
+
+/// Compares on so many pairs of files; returns how often each verdict was said.
+fn agree(rounds: usize, mut files: impl FnMut(usize) -> (Vec<u8>, Vec<u8>)) -> [usize; 2] {
+    let mut verdicts = [0; 2];
+    for round in 0..rounds {
+        let (graph, property) = files(round);
+        let expected = naive_judge(&graph, &property, naive_ranks);
+        assert_eq!(judge(&graph, &property), expected, "{graph:?} {property:?}");
+        verdicts[parts(expected).0 as usize - 1] += 1;
+    }
+    verdicts
+}
+
 #[test]
 fn ranks_agree_with_levels() {
     let mut random = Random::new(1);
-    let mut verdicts = [0; 2];
-    for round in 0..60_000 {
-        let graph_file = generate::graph(&mut random, Size::Small);
+    let verdicts = agree(60_000, |round| {
         let size = if round % 8 == 0 { Size::Large } else { Size::Small };
-        let property_file = generate::property(&mut random, size);
-        let graph = check_graph(&graph_file, LIMITS).expect("a valid graph");
-        let property = check_property(&property_file, LIMITS).expect("a valid property");
-        let ranks = naive_ranks(&graph, &property);
-        let failing = graph.entries().find(|&entry| ranks[entry][0].is_some());
-        let expected = failing.map_or(said(1, &[], vec![]), |entry| {
-            let sheet = naive_sheet(&graph, &property, &ranks, entry);
-            said(2, &[sheet.len() as u64 / 6], sheet)
-        });
-        assert_eq!(
-            judge(&graph_file, &property_file),
-            expected,
-            "{graph_file:?} {property_file:?}"
-        );
-        verdicts[usize::from(failing.is_some())] += 1;
-    }
+        let graph = generate::graph(&mut random, Size::Small);
+        (graph, generate::property(&mut random, size))
+    });
     assert!(verdicts.iter().all(|&times| times > 5_000), "{verdicts:?}");
+}
+
+#[test]
+fn graded_ranks_agree_with_levels() {
+    let mut random = Random::new(2);
+    let [_, fails] = agree(10_000, |_| generate::graded(&mut random, Size::Small));
+    assert!(fails > 5_000, "{fails}");
+}
+
+/// Ranks with a slip: what is false of an "or" row is one level past its first operand, not past both.
+fn ranks_of_first_operands(graph: &Graph, property: &[Row]) -> Ranks {
+    let mut ranks = naive_ranks(graph, property);
+    for (node, row) in pairs(graph, property) {
+        if let (Row::Or(a, _), Some(_)) = (property[row], ranks[node][row]) {
+            ranks[node][row] = ranks[node][a].map(|rank| rank + 1);
+        }
+    }
+    ranks
+}
+
+#[test]
+fn graded_files_show_the_ranks_of_or_rows() {
+    let mut random = Random::new(3);
+    let mut shown = 0;
+    for _ in 0..2_000 {
+        let (graph, property) = generate::graded(&mut random, Size::Small);
+        let slip = naive_judge(&graph, &property, ranks_of_first_operands);
+        shown += usize::from(slip != judge(&graph, &property));
+    }
+    assert!(shown > 100, "{shown}");
 }
