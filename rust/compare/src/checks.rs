@@ -1,16 +1,16 @@
 //! The file checks of both implementations, brought to one form: nodes and records of an accepted file, or number and record of a refusal.
 
+use crate::minimal::shrink;
+use crate::report::records;
+use crate::tally::Tally;
 use generator::generate::{self, Kind, Random, Size};
 use second::files;
 use second::record::{Limits, RECORD_LEN};
 
-/// Refusals of a file alone have the numbers 1 to 8; 0 counts acceptance.
-pub type Tally = [u64; 9];
-
 /// Nodes and records, or number, file and record.
-pub type Checked = Result<(u64, u64), (u64, u64, u64)>;
+type Checked = Result<(u64, u64), (u32, u64, u64)>;
 
-pub fn proved(kind: Kind, bytes: &[u8]) -> Checked {
+fn proved(kind: Kind, bytes: &[u8]) -> Checked {
     let checked = match kind {
         Kind::Graph => tintboulder::check_graph(bytes),
         Kind::Property => tintboulder::check_property(bytes),
@@ -19,10 +19,10 @@ pub fn proved(kind: Kind, bytes: &[u8]) -> Checked {
     };
     checked
         .map(|accepted| (accepted.nodes, accepted.records))
-        .map_err(|refusal| (u64::from(refusal.number), refusal.file, refusal.record))
+        .map_err(|refusal| (refusal.number, refusal.file, refusal.record))
 }
 
-pub fn second(kind: Kind, bytes: &[u8]) -> Checked {
+fn second(kind: Kind, bytes: &[u8]) -> Checked {
     let nodes = match kind {
         Kind::Graph => files::check_graph(bytes, &Limits::DESK).map(|graph| graph.nodes.len()),
         Kind::Property => files::check_property(bytes, &Limits::DESK).map(|_| 0),
@@ -31,26 +31,32 @@ pub fn second(kind: Kind, bytes: &[u8]) -> Checked {
     };
     nodes
         .map(|nodes| (nodes as u64, (bytes.len() / RECORD_LEN) as u64))
-        .map_err(|(number, record)| (u64::from(number), 1, record as u64))
+        .map_err(|(number, record)| (u32::from(number), 1, record as u64))
 }
 
-pub fn differ(kind: Kind, bytes: &[u8]) -> bool {
-    proved(kind, bytes) != second(kind, bytes)
-}
-
-/// One third of the files valid, one in sixteen large. Ends at the first file on which the answers differ.
-pub fn run(random: &mut Random, kind: Kind, count: u64) -> Result<Tally, Vec<u8>> {
+/// One third of the files valid, one in sixteen large. Ends with a report at the first file on which the answers differ.
+pub fn run(random: &mut Random, kind: Kind, count: u64) -> Result<Tally, String> {
     let mut tally = Tally::default();
     for _ in 0..count {
         let bytes = file(random, kind);
         let answer = proved(kind, &bytes);
         if answer != second(kind, &bytes) {
-            return Err(bytes);
+            return Err(report(kind, &bytes));
         }
-        let number = answer.map_or_else(|(number, ..)| number, |_| 0);
-        tally[number as usize] += 1;
+        let (verdict, number) = answer.map_or_else(|(number, ..)| (0, number), |_| (1, 0));
+        tally.count(verdict, number);
     }
     Ok(tally)
+}
+
+fn report(kind: Kind, bytes: &[u8]) -> String {
+    let bytes = shrink(bytes, |bytes| proved(kind, bytes) != second(kind, bytes));
+    format!(
+        "the implementations differ on this file, read as {kind:?}:\n{}proved: {:?}\nsecond: {:?}",
+        records(&bytes),
+        proved(kind, &bytes),
+        second(kind, &bytes)
+    )
 }
 
 fn file(random: &mut Random, kind: Kind) -> Vec<u8> {

@@ -1,12 +1,18 @@
-//! Runs both implementations on random files and reports the first difference as a minimal case: `compare SEED COUNT`, COUNT files of each kind.
+//! Runs both implementations on random files and reports the first difference as a minimal case: `compare SEED COUNT`, COUNT files of each kind and COUNT cases of
+//! each call.
 
+mod case;
 mod checks;
+mod judge;
 mod minimal;
+mod pairs;
+mod report;
+mod tally;
 
-use checks::Tally;
 use generator::generate::{Kind, Random};
 use std::env;
 use std::process::ExitCode;
+use tally::Tally;
 
 fn main() -> ExitCode {
     let arguments: Option<Vec<u64>> = env::args().skip(1).map(|text| text.parse().ok()).collect();
@@ -14,32 +20,25 @@ fn main() -> ExitCode {
         eprintln!("usage: compare SEED COUNT");
         return ExitCode::FAILURE;
     };
-    println!("{:16} {:>9} {:>9} refused by 1 to 8", "call", "cases", "accepted");
-    let mut random = Random::new(*seed);
-    for kind in Kind::ALL {
-        match checks::run(&mut random, kind, *count) {
-            Ok(tally) => println!("{}", line(kind, *count, tally)),
-            Err(bytes) => {
-                report(kind, &minimal::shrink(&bytes, |bytes| checks::differ(kind, bytes)));
-                return ExitCode::FAILURE;
-            }
+    match run(*seed, *count) {
+        Ok(()) => ExitCode::SUCCESS,
+        Err(report) => {
+            println!("{report}");
+            ExitCode::FAILURE
         }
     }
-    ExitCode::SUCCESS
 }
 
-fn line(kind: Kind, count: u64, [accepted, refused @ ..]: Tally) -> String {
-    let refused: Vec<String> = refused.iter().map(|times| format!("{times:>7}")).collect();
-    let call = format!("check {kind:?}").to_lowercase();
-    format!("{call:16} {count:>9} {accepted:>9} {}", refused.join(" "))
-}
-
-fn report(kind: Kind, bytes: &[u8]) {
-    println!("the implementations differ on this file, read as {kind:?}:");
-    for record in bytes.chunks(second::record::RECORD_LEN) {
-        let fields: Vec<String> = record.iter().map(u8::to_string).collect();
-        println!("{}", fields.join(" "));
+/// Prints a line for each call, or ends with the report of a difference.
+fn run(seed: u64, count: u64) -> Result<(), String> {
+    println!("{}", Tally::header());
+    let mut random = Random::new(seed);
+    for kind in Kind::ALL {
+        let tally = checks::run(&mut random, kind, count)?;
+        println!("{}", tally.line(&format!("check {kind:?}").to_lowercase()));
     }
-    println!("proved: {:?}", checks::proved(kind, bytes));
-    println!("second: {:?}", checks::second(kind, bytes));
+    for call in [judge::call()] {
+        println!("{}", pairs::run(&mut random, &call, count)?.line(call.name));
+    }
+    Ok(())
 }

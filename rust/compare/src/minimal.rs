@@ -14,6 +14,20 @@ pub fn shrink(bytes: &[u8], shows: impl Fn(&[u8]) -> bool) -> Vec<u8> {
     }
 }
 
+/// A number for which `shows` is true and which no smaller step from `number` down can better.
+pub fn least(mut number: usize, shows: impl Fn(usize) -> bool) -> usize {
+    let mut step = number;
+    while step > 0 {
+        if shows(number - step) {
+            number -= step;
+            step = step.min(number);
+        } else {
+            step /= 2;
+        }
+    }
+    number
+}
+
 fn smaller(case: &[u8]) -> impl Iterator<Item = Vec<u8>> + '_ {
     let records = case.len() / RECORD_LEN;
     let without_part = (0..records).rev().map(move |i| without(case, i * RECORD_LEN, RECORD_LEN));
@@ -32,7 +46,7 @@ fn without(case: &[u8], from: usize, count: usize) -> Vec<u8> {
 
 #[cfg(test)]
 mod tests {
-    use super::shrink;
+    use super::{least, shrink};
 
     #[test]
     fn keeps_only_the_record_that_shows() {
@@ -44,5 +58,12 @@ mod tests {
     fn keeps_a_case_that_cannot_be_smaller() {
         assert_eq!(shrink(&[], |_| true), []);
         assert_eq!(shrink(&[7; 6], |case| case == [7; 6]), [7; 6]);
+    }
+
+    #[test]
+    fn finds_the_least_number() {
+        assert_eq!(least(1_000, |number| number >= 313), 313);
+        assert_eq!(least(7, |_| true), 0);
+        assert_eq!(least(0, |_| true), 0);
     }
 }

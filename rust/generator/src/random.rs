@@ -29,6 +29,14 @@ impl Random {
         self.number() as u8
     }
 
+    pub fn bytes(&mut self, length: usize) -> Vec<u8> {
+        let mut bytes = vec![0; length];
+        for part in bytes.chunks_mut(size_of::<u64>()) {
+            part.copy_from_slice(&self.number().to_le_bytes()[..part.len()]);
+        }
+        bytes
+    }
+
     /// One of the items, of which there is at least one.
     pub fn pick<T: Copy>(&mut self, items: &[T]) -> T {
         items[self.below(items.len())]

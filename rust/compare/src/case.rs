@@ -1,0 +1,101 @@
+//! One case of a call that takes two files and is lent an output and a work buffer, and all that the call may change.
+
+use generator::generate::Random;
+use second::Outcome;
+use tintboulder::Answer;
+
+/// Bytes on each side of a lent buffer that nobody may touch.
+const MARGIN: usize = 64;
+const SHORT_WORK: u32 = 13;
+
+/// Two files, the lengths of both buffers, and the seed of all that stands in them and around them.
+#[derive(Clone, PartialEq)]
+pub struct Case {
+    pub files: [Vec<u8>; 2],
+    pub out: usize,
+    pub work: usize,
+    pub seed: u64,
+}
+
+/// The output and the work buffer with their margins.
+#[derive(Clone)]
+pub struct Lent {
+    out: Vec<u8>,
+    work: Vec<u8>,
+}
+
+/// What can be seen after a call.
+pub struct Seen {
+    pub answer: Answer,
+    lent: Lent,
+}
+
+impl Case {
+    pub fn lent(&self) -> Lent {
+        let mut random = Random::new(self.seed);
+        let mut buffer = |length: usize| random.bytes(length + 2 * MARGIN);
+        Lent { out: buffer(self.out), work: buffer(self.work) }
+    }
+
+    pub fn with_file(&self, at: usize, bytes: &[u8]) -> Case {
+        let mut case = self.clone();
+        case.files[at] = bytes.to_vec();
+        case
+    }
+}
+
+impl Lent {
+    /// What the call leaves that is lent these buffers.
+    pub fn after(mut self, call: impl FnOnce(&mut [u8], &mut [u8]) -> Answer) -> Seen {
+        let answer = call(inner(&mut self.out), inner(&mut self.work));
+        Seen { answer, lent: self }
+    }
+
+    /// What is to be seen after a call with this outcome: the result at the start of the output, and zeros in the work buffer except after 13.
+    pub fn after_outcome(self, outcome: Outcome) -> Seen {
+        let (answer, written) = answer_and_result(outcome);
+        self.after(|out, work| {
+            out[..written.len()].copy_from_slice(&written);
+            if answer.number != SHORT_WORK {
+                work.fill(0);
+            }
+            answer
+        })
+    }
+}
+
+fn inner(buffer: &mut [u8]) -> &mut [u8] {
+    let end = buffer.len() - MARGIN;
+    &mut buffer[MARGIN..end]
+}
+
+fn answer_and_result(outcome: Outcome) -> (Answer, Vec<u8>) {
+    let (verdict, number, values, written) = match outcome {
+        Outcome::Refused(refusal) => {
+            let values = vec![u64::from(refusal.file), refusal.record as u64];
+            (0, u32::from(refusal.number), values, Vec::new())
+        }
+        Outcome::Said { verdict, values, written } => (verdict, 0, values, written),
+    };
+    let value = |at: usize| values.get(at).copied().unwrap_or(0);
+    let (first, second, third, fourth) = (value(0), value(1), value(2), value(3));
+    (Answer { verdict, number, first, second, third, fourth }, written)
+}
+
+impl Seen {
+    /// The first thing in which the two differ, in words.
+    pub fn difference(&self, expected: &Seen) -> Option<String> {
+        if self.answer != expected.answer {
+            return Some(format!("proved: {:?}\nsecond: {:?}", self.answer, expected.answer));
+        }
+        let out = ("output", &self.lent.out, &expected.lent.out);
+        let work = ("work", &self.lent.work, &expected.lent.work);
+        [out, work].into_iter().find_map(|(name, proved, second)| {
+            // Whole buffers first: they are equal but for the last case of a run.
+            let at = (proved != second).then(|| (0..).find(|&at| proved[at] != second[at]))??;
+            let place = at as i64 - MARGIN as i64;
+            let (proved, second) = (proved[at], second[at]);
+            Some(format!("{name} byte {place} is {proved}; by the second it is {second}"))
+        })
+    }
+}

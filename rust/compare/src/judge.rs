@@ -1,0 +1,26 @@
+//! Judging in both implementations, and the pairs of files that it is compared on.
+
+use crate::pairs::Call;
+use generator::generate::{self, Kind, Random, Size};
+
+pub fn call() -> Call {
+    Call {
+        name: "judge",
+        proved: tintboulder::judge_answer,
+        second: second::judge,
+        room: tintboulder::judge_work(),
+        files,
+    }
+}
+
+/// One pair in four is about the ranks of "or" rows; of the others one file in six is damaged, and one pair in sixteen is large.
+fn files(random: &mut Random) -> [Vec<u8>; 2] {
+    let size = if random.once_in(16) { Size::Large } else { Size::Small };
+    if random.once_in(4) {
+        return generate::graded(random, size).into();
+    }
+    [Kind::Graph, Kind::Property].map(|kind| match random.once_in(6) {
+        true => generate::damaged(random, kind, size),
+        false => generate::valid(random, kind, size),
+    })
+}
