@@ -1,7 +1,6 @@
 //! One case of a call that takes two files and is lent an output and a work buffer, and all that the call may change.
 
 use generator::generate::Random;
-use second::Outcome;
 use tintboulder::Answer;
 
 /// Bytes on each side of a lent buffer that nobody may touch.
@@ -51,11 +50,10 @@ impl Lent {
         Seen { answer, lent: self }
     }
 
-    /// What is to be seen after a call with this outcome: the result at the start of the output, and zeros in the work buffer except after 13.
-    pub fn after_outcome(self, outcome: Outcome) -> Seen {
-        let (answer, written) = answer_and_result(outcome);
+    /// What is to be seen after a call with this answer: the result at the start of the output, and zeros in the work buffer except after 13.
+    pub fn after_result(self, answer: Answer, written: &[u8]) -> Seen {
         self.after(|out, work| {
-            out[..written.len()].copy_from_slice(&written);
+            out[..written.len()].copy_from_slice(written);
             if answer.number != SHORT_WORK {
                 work.fill(0);
             }
@@ -67,19 +65,6 @@ impl Lent {
 fn inner(buffer: &mut [u8]) -> &mut [u8] {
     let end = buffer.len() - MARGIN;
     &mut buffer[MARGIN..end]
-}
-
-fn answer_and_result(outcome: Outcome) -> (Answer, Vec<u8>) {
-    let (verdict, number, values, written) = match outcome {
-        Outcome::Refused(refusal) => {
-            let values = vec![u64::from(refusal.file), refusal.record as u64];
-            (0, u32::from(refusal.number), values, Vec::new())
-        }
-        Outcome::Said { verdict, values, written } => (verdict, 0, values, written),
-    };
-    let value = |at: usize| values.get(at).copied().unwrap_or(0);
-    let (first, second, third, fourth) = (value(0), value(1), value(2), value(3));
-    (Answer { verdict, number, first, second, third, fourth }, written)
 }
 
 impl Seen {

@@ -5,7 +5,7 @@ use crate::minimal::{least, shrink};
 use crate::report::records;
 use crate::tally::Tally;
 use generator::generate::Random;
-use second::{Limits, Outcome};
+use second::{Limits, Outcome, Refusal};
 use tintboulder::Answer;
 
 pub struct Call {
@@ -34,10 +34,7 @@ impl Call {
     /// Output from nothing to past the need; work mostly of the published length, seldom below it.
     fn case(&self, random: &mut Random) -> Case {
         let files = (self.files)(random);
-        let need = match self.expected(&files, usize::MAX, self.room) {
-            Outcome::Said { written, .. } => written.len(),
-            Outcome::Refused(_) => 0,
-        };
+        let need = self.expected(&files, usize::MAX, self.room).1.len();
         let out = match random.below(8) {
             0 => random.below(need + 1),
             1 => need.saturating_sub(1),
@@ -54,8 +51,16 @@ impl Call {
         Case { files, out, work, seed: random.number() }
     }
 
-    fn expected(&self, [first, second]: &[Vec<u8>; 2], out: usize, work: usize) -> Outcome {
-        (self.second)(&Limits::DESK, first, second, out, work, self.room)
+    /// The answer of the second implementation as six numbers, and the bytes that it writes.
+    pub fn expected(&self, files: &[Vec<u8>; 2], out: usize, work: usize) -> (Answer, Vec<u8>) {
+        let [first, second] = files;
+        match (self.second)(&Limits::DESK, first, second, out, work, self.room) {
+            Outcome::Said { verdict, values, written } => (answer(verdict, 0, &values), written),
+            Outcome::Refused(Refusal { number, file, record }) => {
+                let values = [u64::from(file), record as u64];
+                (answer(0, u32::from(number), &values), Vec::new())
+            }
+        }
     }
 
     /// The answer of both, or what differs.
@@ -63,8 +68,9 @@ impl Call {
         let [first, second] = &case.files;
         let lent = case.lent();
         let seen = lent.clone().after(|out, work| (self.proved)(first, second, out, work));
-        let expected = lent.after_outcome(self.expected(&case.files, case.out, case.work));
-        seen.difference(&expected).map_or(Ok(seen.answer), Err)
+        let (answer, written) = self.expected(&case.files, case.out, case.work);
+        let expected = lent.after_result(answer, &written);
+        seen.difference(&expected).map_or(Ok(answer), Err)
     }
 
     fn report(&self, case: Case) -> String {
@@ -93,4 +99,10 @@ impl Call {
             }
         }
     }
+}
+
+fn answer(verdict: u32, number: u32, values: &[u64]) -> Answer {
+    let value = |at: usize| values.get(at).copied().unwrap_or(0);
+    let (first, second, third, fourth) = (value(0), value(1), value(2), value(3));
+    Answer { verdict, number, first, second, third, fourth }
 }

@@ -1,0 +1,26 @@
+//! Both implementations of the flow-graph checker on the same bytes: random files and cases, and the first difference as a minimal case.
+
+mod case;
+mod checks;
+pub mod judge;
+mod minimal;
+pub mod pairs;
+mod report;
+mod tally;
+
+use generator::generate::{Kind, Random};
+use tally::Tally;
+
+/// Prints a line for each call, or ends with the report of a difference.
+pub fn run(seed: u64, count: u64) -> Result<(), String> {
+    println!("{}", Tally::header());
+    let mut random = Random::new(seed);
+    for kind in Kind::ALL {
+        let tally = checks::run(&mut random, kind, count)?;
+        println!("{}", tally.line(&format!("check {kind:?}").to_lowercase()));
+    }
+    for call in [judge::call()] {
+        println!("{}", pairs::run(&mut random, &call, count)?.line(call.name));
+    }
+    Ok(())
+}
