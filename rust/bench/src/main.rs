@@ -1,0 +1,24 @@
+//! Prints the time of each call in both implementations, side by side on the same bytes, and their ratio: `cargo run --release -p bench`.
+
+mod inputs;
+mod judge;
+mod side_by_side;
+
+use side_by_side::{print_header, print_line};
+use std::io;
+
+const NOTE: &str = "\
+Median of batches in turn, warm, one thread, the same bytes.
+proved: the output is as long as the result, the work buffer as published; the call clears the whole work buffer, and the time includes that.
+second: takes its memory from the allocator in every call and clears nothing afterwards.";
+
+fn main() -> io::Result<()> {
+    println!("{NOTE}");
+    for (call, inputs) in [(compare::judge::call(), judge::inputs()?)] {
+        print_header(call.name);
+        for input in &inputs {
+            print_line(&call, input);
+        }
+    }
+    Ok(())
+}

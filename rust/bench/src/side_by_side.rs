@@ -1,0 +1,97 @@
+//! The time of a call in both implementations, batch by batch in turn, so that what else the machine does falls on both.
+
+use crate::inputs::{Input, Pair};
+use compare::pairs::Call;
+use std::hint::black_box;
+use std::time::{Duration, Instant};
+
+const BATCHES: usize = 9;
+const BATCH: Duration = Duration::from_millis(10);
+
+pub fn print_header(call: &str) {
+    println!("\n{call:36} {:28} {:>11} {:>11} {:>7}", "answer", "proved", "second", "ratio");
+}
+
+/// Runs all pairs of the input one after the other; the time is that of all of them together.
+pub fn print_line(call: &Call, input: &Input) {
+    let answers: Vec<String> = input.pairs.iter().map(|files| agreed(call, files)).collect();
+    let answer = match &answers[..] {
+        [answer] => answer.clone(),
+        _ => format!("{} pairs of files", answers.len()),
+    };
+    let mut work = vec![0; call.room];
+    let mut out: Vec<Vec<u8>> =
+        input.pairs.iter().map(|files| vec![0; need(call, files)]).collect();
+    let proved = || {
+        for ([first, second], out) in input.pairs.iter().zip(&mut out) {
+            black_box((call.proved)(black_box(first), black_box(second), out, &mut work));
+        }
+    };
+    let second = || {
+        for files in &input.pairs {
+            black_box(call.expected(black_box(files), usize::MAX, call.room));
+        }
+    };
+    let [proved, second] = medians(proved, second);
+    let ratio = proved / second;
+    let (proved, second) = (in_units(proved), in_units(second));
+    println!("{:36} {answer:28} {proved:>11} {second:>11} {ratio:>7.2}", input.name);
+}
+
+/// The length of the result.
+fn need(call: &Call, files: &Pair) -> usize {
+    call.expected(files, usize::MAX, call.room).1.len()
+}
+
+/// What both answer. Times of different answers would say nothing.
+fn agreed(call: &Call, files: &Pair) -> String {
+    let (expected, written) = call.expected(files, usize::MAX, call.room);
+    let (mut out, mut work) = (vec![0; written.len()], vec![0; call.room]);
+    let answer = (call.proved)(&files[0], &files[1], &mut out, &mut work);
+    assert!((answer, out) == (expected, written), "the implementations differ");
+    match answer.verdict {
+        0 => format!("refused by {}", answer.number),
+        1 => "verdict 1".to_string(),
+        verdict => format!("verdict {verdict}, value {}", answer.first),
+    }
+}
+
+/// Seconds for one run of each, the median over the batches.
+fn medians(mut proved: impl FnMut(), mut second: impl FnMut()) -> [f64; 2] {
+    let runs = [runs_in_a_batch(&mut proved), runs_in_a_batch(&mut second)];
+    let mut times = [[0.0; BATCHES]; 2];
+    for batch in 0..BATCHES {
+        times[0][batch] = batch_time(&mut proved, runs[0]);
+        times[1][batch] = batch_time(&mut second, runs[1]);
+    }
+    times.map(|mut times| {
+        times.sort_by(f64::total_cmp);
+        times[BATCHES / 2]
+    })
+}
+
+/// Doubles the runs until they fill a batch, which also warms them up.
+fn runs_in_a_batch(call: &mut impl FnMut()) -> u32 {
+    let mut runs = 1;
+    while batch_time(call, runs) * f64::from(runs) < BATCH.as_secs_f64() {
+        runs *= 2;
+    }
+    runs
+}
+
+/// Seconds for one of so many runs.
+fn batch_time(call: &mut impl FnMut(), runs: u32) -> f64 {
+    let start = Instant::now();
+    for _ in 0..runs {
+        call();
+    }
+    start.elapsed().as_secs_f64() / f64::from(runs)
+}
+
+fn in_units(seconds: f64) -> String {
+    match seconds {
+        s if s < 1e-6 => format!("{:.0} ns", s * 1e9),
+        s if s < 1e-3 => format!("{:.1} us", s * 1e6),
+        s => format!("{:.2} ms", s * 1e3),
+    }
+}
