@@ -14,7 +14,7 @@ second: takes its memory from the allocator in every call and clears nothing aft
 
 fn main() -> io::Result<()> {
     println!("{NOTE}");
-    for (call, inputs) in [(compare::judge::call(), judge::inputs()?)] {
+    for (call, inputs) in [(compare::judge::CALL, judge::inputs()?)] {
         print_header(call.name);
         for input in &inputs {
             print_line(&call, input);

@@ -19,17 +19,17 @@ pub fn print_line(call: &Call, input: &Input) {
         [answer] => answer.clone(),
         _ => format!("{} pairs of files", answers.len()),
     };
-    let mut work = vec![0; call.room];
+    let mut work = vec![0; call.proved.work()];
     let mut out: Vec<Vec<u8>> =
         input.pairs.iter().map(|files| vec![0; need(call, files)]).collect();
     let proved = || {
         for ([first, second], out) in input.pairs.iter().zip(&mut out) {
-            black_box((call.proved)(black_box(first), black_box(second), out, &mut work));
+            black_box(call.proved.answer(black_box([first, second]), out, &mut work));
         }
     };
     let second = || {
         for files in &input.pairs {
-            black_box(call.expected(black_box(files), usize::MAX, call.room));
+            black_box(call.result(black_box(files)));
         }
     };
     let [proved, second] = medians(proved, second);
@@ -40,14 +40,14 @@ pub fn print_line(call: &Call, input: &Input) {
 
 /// The length of the result.
 fn need(call: &Call, files: &Pair) -> usize {
-    call.expected(files, usize::MAX, call.room).1.len()
+    call.result(files).1.len()
 }
 
 /// What both answer. Times of different answers would say nothing.
 fn agreed(call: &Call, files: &Pair) -> String {
-    let (expected, written) = call.expected(files, usize::MAX, call.room);
-    let (mut out, mut work) = (vec![0; written.len()], vec![0; call.room]);
-    let answer = (call.proved)(&files[0], &files[1], &mut out, &mut work);
+    let (expected, written) = call.result(files);
+    let (mut out, mut work) = (vec![0; written.len()], vec![0; call.proved.work()]);
+    let answer = call.proved.answer([&files[0], &files[1]], &mut out, &mut work);
     assert!((answer, out) == (expected, written), "the implementations differ");
     match answer.verdict {
         0 => format!("refused by {}", answer.number),

@@ -3,15 +3,8 @@
 use crate::pairs::Call;
 use generator::generate::{self, Kind, Random, Size};
 
-pub fn call() -> Call {
-    Call {
-        name: "judge",
-        proved: tintboulder::judge_answer,
-        second: second::judge,
-        room: tintboulder::judge_work(),
-        files,
-    }
-}
+pub const CALL: Call =
+    Call { name: "judge", proved: tintboulder::JUDGE, second: second::judge, files };
 
 /// One pair in four is about the ranks of "or" rows; of the others one file in six is damaged, and one pair in sixteen is large.
 fn files(random: &mut Random) -> [Vec<u8>; 2] {

@@ -19,7 +19,7 @@ pub fn run(seed: u64, count: u64) -> Result<(), String> {
         let tally = checks::run(&mut random, kind, count)?;
         println!("{}", tally.line(&format!("check {kind:?}").to_lowercase()));
     }
-    for call in [judge::call()] {
+    for call in [judge::CALL] {
         println!("{}", pairs::run(&mut random, &call, count)?.line(call.name));
     }
     Ok(())

@@ -6,14 +6,12 @@ use crate::report::records;
 use crate::tally::Tally;
 use generator::generate::Random;
 use second::{Limits, Outcome, Refusal};
-use tintboulder::Answer;
+use tintboulder::{Answer, OnTwoFiles};
 
 pub struct Call {
     pub name: &'static str,
-    pub proved: fn(&[u8], &[u8], &mut [u8], &mut [u8]) -> Answer,
+    pub proved: OnTwoFiles,
     pub second: fn(&Limits, &[u8], &[u8], usize, usize, usize) -> Outcome,
-    /// The published length of the work buffer.
-    pub room: usize,
     pub files: fn(&mut Random) -> [Vec<u8>; 2],
 }
 
@@ -34,7 +32,7 @@ impl Call {
     /// Output from nothing to past the need; work mostly of the published length, seldom below it.
     fn case(&self, random: &mut Random) -> Case {
         let files = (self.files)(random);
-        let need = self.expected(&files, usize::MAX, self.room).1.len();
+        let need = self.result(&files).1.len();
         let out = match random.below(8) {
             0 => random.below(need + 1),
             1 => need.saturating_sub(1),
@@ -42,19 +40,25 @@ impl Call {
             3 => need + random.below(4096),
             _ => need,
         };
+        let room = self.proved.work();
         let work = match random.below(16) {
-            0 => random.below(self.room),
-            1 => self.room - 1,
-            2 | 3 => self.room + random.below(4096),
-            _ => self.room,
+            0 => random.below(room),
+            1 => room - 1,
+            2 | 3 => room + random.below(4096),
+            _ => room,
         };
         Case { files, out, work, seed: random.number() }
     }
 
+    /// What the second implementation answers and writes when there is room for all of it.
+    pub fn result(&self, files: &[Vec<u8>; 2]) -> (Answer, Vec<u8>) {
+        self.expected(files, usize::MAX, usize::MAX)
+    }
+
     /// The answer of the second implementation as six numbers, and the bytes that it writes.
-    pub fn expected(&self, files: &[Vec<u8>; 2], out: usize, work: usize) -> (Answer, Vec<u8>) {
+    fn expected(&self, files: &[Vec<u8>; 2], out: usize, work: usize) -> (Answer, Vec<u8>) {
         let [first, second] = files;
-        match (self.second)(&Limits::DESK, first, second, out, work, self.room) {
+        match (self.second)(&Limits::DESK, first, second, out, work, self.proved.work()) {
             Outcome::Said { verdict, values, written } => (answer(verdict, 0, &values), written),
             Outcome::Refused(Refusal { number, file, record }) => {
                 let values = [u64::from(file), record as u64];
@@ -67,7 +71,7 @@ impl Call {
     fn compare(&self, case: &Case) -> Result<Answer, String> {
         let [first, second] = &case.files;
         let lent = case.lent();
-        let seen = lent.clone().after(|out, work| (self.proved)(first, second, out, work));
+        let seen = lent.clone().after(|out, work| self.proved.answer([first, second], out, work));
         let (answer, written) = self.expected(&case.files, case.out, case.work);
         let expected = lent.after_result(answer, &written);
         seen.difference(&expected).map_or(Ok(answer), Err)

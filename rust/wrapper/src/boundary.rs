@@ -32,7 +32,19 @@ impl Answer {
 
 pub(crate) type OnFile = unsafe extern "C" fn(*const u8, usize) -> Answer;
 
-pub(crate) type OnTwoFiles = unsafe extern "C" fn(
+/// Safe if the function is one of the boundary, which are total.
+pub(crate) unsafe fn on_file(call: OnFile, file: &[u8]) -> Answer {
+    call(file.as_ptr(), file.len())
+}
+
+/// A call that takes two files and is lent an output and a work buffer.
+#[derive(Clone, Copy)]
+pub struct OnTwoFiles {
+    function: TwoFilesFunction,
+    number: u64,
+}
+
+pub(crate) type TwoFilesFunction = unsafe extern "C" fn(
     *const u8,
     usize,
     *const u8,
@@ -47,34 +59,34 @@ extern "C" {
     fn tintboulder_work(call: u64) -> u64;
 }
 
-/// The published length of the work buffer of a call, by the boundary's number of the call.
-pub(crate) fn work(call: u64) -> usize {
-    // Safe: it takes and gives numbers.
-    let length = unsafe { tintboulder_work(call) };
-    length.try_into().expect("a length of at most 1,048,576")
-}
+impl OnTwoFiles {
+    /// Safe if the function is one of the boundary, which are total. The number is the call's for `tintboulder_work`.
+    pub(crate) const unsafe fn new(function: TwoFilesFunction, number: u64) -> OnTwoFiles {
+        OnTwoFiles { function, number }
+    }
 
-/// Safe if the function is one of the boundary, which are total.
-pub(crate) unsafe fn on_file(call: OnFile, file: &[u8]) -> Answer {
-    call(file.as_ptr(), file.len())
-}
+    /// The published length of the work buffer. A shorter one is refused by 13.
+    pub fn work(&self) -> usize {
+        // Safe: it takes and gives numbers.
+        let length = unsafe { tintboulder_work(self.number) };
+        length.try_into().expect("a length of at most 1,048,576")
+    }
 
-/// Safe if the function is one of the boundary: the two lent slices are exclusive, so none of the four overlaps another that is written.
-pub(crate) unsafe fn on_two_files(
-    call: OnTwoFiles,
-    files: [&[u8]; 2],
-    out: &mut [u8],
-    work: &mut [u8],
-) -> Answer {
-    let [first, second] = files;
-    call(
-        first.as_ptr(),
-        first.len(),
-        second.as_ptr(),
-        second.len(),
-        out.as_mut_ptr(),
-        out.len(),
-        work.as_mut_ptr(),
-        work.len(),
-    )
+    /// The answer as it comes. The work buffer is zero afterwards, except after refusal 13.
+    pub fn answer(&self, files: [&[u8]; 2], out: &mut [u8], work: &mut [u8]) -> Answer {
+        let [first, second] = files;
+        // Safe: each pointer goes with its own length, and what is written overlaps nothing, since both borrows are exclusive.
+        unsafe {
+            (self.function)(
+                first.as_ptr(),
+                first.len(),
+                second.as_ptr(),
+                second.len(),
+                out.as_mut_ptr(),
+                out.len(),
+                work.as_mut_ptr(),
+                work.len(),
+            )
+        }
+    }
 }

@@ -1,6 +1,6 @@
 //! Judging: does a graph satisfy a property, and if not, why?
 
-use crate::boundary::{on_two_files, work, Answer, Refusal};
+use crate::boundary::{Answer, OnTwoFiles, Refusal};
 
 extern "C" {
     fn tintboulder_judge(
@@ -15,6 +15,10 @@ extern "C" {
     ) -> Answer;
 }
 
+// Safe: it is a function of the boundary, and 1 is its number there.
+/// Judging as a call, for its published length and the answer as six numbers.
+pub const JUDGE: OnTwoFiles = unsafe { OnTwoFiles::new(tintboulder_judge, 1) };
+
 #[derive(Clone, Copy, Debug, PartialEq, Eq)]
 pub enum Judged {
     Holds,
@@ -24,11 +28,6 @@ pub enum Judged {
     },
 }
 
-/// The least length of the work buffer.
-pub fn judge_work() -> usize {
-    work(1)
-}
-
 /// Judges the graph. The work buffer is zero afterwards, except after refusal 13.
 pub fn judge(
     graph: &[u8],
@@ -36,15 +35,9 @@ pub fn judge(
     out: &mut [u8],
     work: &mut [u8],
 ) -> Result<Judged, Refusal> {
-    let answer = judge_answer(graph, property, out, work).accepted()?;
+    let answer = JUDGE.answer([graph, property], out, work).accepted()?;
     match answer.verdict {
         1 => Ok(Judged::Holds),
         _ => Ok(Judged::Fails { records: answer.first }),
     }
-}
-
-/// The same as six numbers, for whoever compares all of them.
-pub fn judge_answer(graph: &[u8], property: &[u8], out: &mut [u8], work: &mut [u8]) -> Answer {
-    // Safe: it is a function of the boundary.
-    unsafe { on_two_files(tintboulder_judge, [graph, property], out, work) }
 }

@@ -4,6 +4,6 @@ mod boundary;
 mod checks;
 mod judge;
 
-pub use boundary::{Answer, Refusal};
+pub use boundary::{Answer, OnTwoFiles, Refusal};
 pub use checks::{check_graph, check_interface, check_property, check_rules, Accepted};
-pub use judge::{judge, judge_answer, judge_work, Judged};
+pub use judge::{judge, Judged, JUDGE};

@@ -1,6 +1,6 @@
 //! Judging through the boundary: both verdicts, the order of refusals, and what becomes of the lent buffers.
 
-use tintboulder::{judge, judge_work, Judged, Refusal};
+use tintboulder::{judge, Judged, Refusal, JUDGE};
 
 const GRAPH: &[u8] = &[1, 1, 0, 1, 0, 0, 1, 1, 1, 0, 0, 0, 2, 0, 1, 1, 0, 0];
 /// After each call of method 1, and after each internal step: not return.
@@ -25,12 +25,12 @@ fn refused(number: u32, file: u64, record: u64) -> Result<Judged, Refusal> {
 
 #[test]
 fn published_length() {
-    assert_eq!(judge_work(), 41_664);
+    assert_eq!(JUDGE.work(), 41_664);
 }
 
 #[test]
 fn failing_graph_has_a_sheet() {
-    let (answer, out, work) = judged([GRAPH, BOX_1], 14, judge_work() + 1);
+    let (answer, out, work) = judged([GRAPH, BOX_1], 14, JUDGE.work() + 1);
     assert_eq!(answer, Ok(Judged::Fails { records: 2 }));
     assert_eq!(out, [&SHEET[..], &[7, 7]].concat());
     assert!(work.iter().all(|&byte| byte == 0));
@@ -38,27 +38,27 @@ fn failing_graph_has_a_sheet() {
 
 #[test]
 fn holding_graph_writes_nothing() {
-    let (answer, out, work) = judged([GRAPH, BOX_0], 3, judge_work());
+    let (answer, out, work) = judged([GRAPH, BOX_0], 3, JUDGE.work());
     assert_eq!((answer, out), (Ok(Judged::Holds), vec![7; 3]));
     assert!(work.iter().all(|&byte| byte == 0));
 }
 
 #[test]
 fn short_output_is_left_alone() {
-    let (answer, out, work) = judged([GRAPH, BOX_1], 11, judge_work());
+    let (answer, out, work) = judged([GRAPH, BOX_1], 11, JUDGE.work());
     assert_eq!((answer, out), (refused(12, 0, 0), vec![7; 11]));
     assert!(work.iter().all(|&byte| byte == 0));
 }
 
 #[test]
 fn short_work_comes_first_and_is_left_alone() {
-    let (answer, out, work) = judged([&[9], &[]], 12, judge_work() - 1);
+    let (answer, out, work) = judged([&[9], &[]], 12, JUDGE.work() - 1);
     assert_eq!((answer, out), (refused(13, 0, 0), vec![7; 12]));
     assert!(work.iter().all(|&byte| byte == 7));
 }
 
 #[test]
 fn files_are_refused_in_order() {
-    assert_eq!(judged([&GRAPH[12..], &[]], 0, judge_work()).0, refused(7, 1, 0));
-    assert_eq!(judged([GRAPH, &[]], 0, judge_work()).0, refused(6, 2, 0));
+    assert_eq!(judged([&GRAPH[12..], &[]], 0, JUDGE.work()).0, refused(7, 1, 0));
+    assert_eq!(judged([GRAPH, &[]], 0, JUDGE.work()).0, refused(6, 2, 0));
 }
