@@ -2,7 +2,7 @@
 
 pub use crate::damage::damaged;
 pub use crate::graded::graded;
-pub use crate::graphs::{graph, graph_of, scattered};
+pub use crate::graphs::{graph, graph_of, scattered, without_an_edge};
 pub use crate::properties::{any_rows, property};
 pub use crate::random::Random;
 use second::files;

@@ -1,7 +1,7 @@
 //! Random valid graphs.
 
 use crate::generate::{Random, Size, LIMITS};
-use second::record::{kind, Record, LABELS, METHODS};
+use second::record::{kind, Record, LABELS, METHODS, RECORD_LEN};
 use std::collections::BTreeSet;
 
 pub fn graph(random: &mut Random, size: Size) -> Vec<u8> {
@@ -103,6 +103,17 @@ fn call_chain(random: &mut Random, methods: &[u8], labels: &[u8]) -> Vec<u8> {
         }
     }
     graph_file(&records, &edges)
+}
+
+/// The graph with one edge less, if it has one.
+pub fn without_an_edge(random: &mut Random, graph: &[u8]) -> Vec<u8> {
+    let (records, _) = graph.as_chunks::<RECORD_LEN>();
+    let mut records = records.to_vec();
+    let nodes = records.iter().filter(|record| record[0] == kind::NODE).count();
+    if nodes < records.len() {
+        records.remove(nodes + random.below(records.len() - nodes));
+    }
+    records.concat()
 }
 
 pub(crate) fn node(method: u8, returns: bool, entry: bool) -> Record {

@@ -7,3 +7,4 @@ mod graded;
 mod graphs;
 mod properties;
 mod random;
+pub mod relations;

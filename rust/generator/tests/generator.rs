@@ -1,6 +1,7 @@
 //! What the generator promises.
 
 use generator::generate::{self, Kind, Random, Size};
+use generator::relations;
 use second::files;
 use second::record::Limits;
 
@@ -24,6 +25,18 @@ fn graded_files_are_accepted() {
         let numbers = (Kind::Graph.number(&graph), Kind::Property.number(&property));
         assert_eq!(numbers, (0, 0), "{graph:?} {property:?}");
     }
+}
+
+#[test]
+fn slow_relations_are_accepted() {
+    for numbering in [relations::forward, relations::backward, relations::shuffled] {
+        let graphs = [relations::band, relations::circulant, relations::hubs];
+        for bytes in graphs.map(|graph| graph(numbering)) {
+            assert_eq!(Kind::Graph.number(&bytes), 0);
+            assert!(bytes.len() > 6 * 4_096, "{}", bytes.len());
+        }
+    }
+    assert_eq!(Kind::Graph.number(&relations::loops()), 0);
 }
 
 #[test]

@@ -1,0 +1,28 @@
+//! Comparing graphs in both implementations, and the pairs of graphs on which that is done.
+
+use crate::pairs::Call;
+use generator::generate::{self, Kind, Random, Size};
+
+pub const CALL: Call =
+    Call { name: "compare", proved: tintboulder::COMPARE, second: second::compare, files };
+
+/// Half of the pairs differ by an edge at most, one file in eight is damaged, and one pair in 64 is large: the second implementation takes milliseconds there.
+fn files(random: &mut Random) -> [Vec<u8>; 2] {
+    let size = if random.once_in(64) { Size::Large } else { Size::Small };
+    if random.once_in(2) {
+        let whole = alike(random, size);
+        let part = generate::without_an_edge(random, &whole);
+        return if random.once_in(2) { [whole, part] } else { [part, whole] };
+    }
+    [(); 2].map(|()| match random.below(8) {
+        0 => generate::damaged(random, Kind::Graph, size),
+        _ => alike(random, size),
+    })
+}
+
+/// A graph of few methods and labels, so that many of its nodes are related.
+fn alike(random: &mut Random, size: Size) -> Vec<u8> {
+    let provided = random.pick(&[1, 1, 3, u8::MAX]);
+    let required = random.pick(&[0, 1, u8::MAX]);
+    generate::graph_of(random, size, provided, required)
+}
