@@ -1,8 +1,9 @@
 //! Makes a case smaller while it still shows what it was kept for.
 
-use second::record::RECORD_LEN;
+use second::record::{kind, RECORD_LEN};
 
-/// A case from which no record and no last byte can be dropped, and in which no byte can be 0 instead, if `shows` is to stay true.
+/// A case from which no record and no last byte can be dropped, with the numbers of nodes and rows kept or moved up, and in which no byte can be 0 instead, if
+/// `shows` is to stay true.
 pub fn shrink(bytes: &[u8], shows: impl Fn(&[u8]) -> bool) -> Vec<u8> {
     let mut case = bytes.to_vec();
     loop {
@@ -31,27 +32,64 @@ pub fn least(mut number: usize, shows: impl Fn(usize) -> bool) -> usize {
 fn smaller(case: &[u8]) -> impl Iterator<Item = Vec<u8>> + '_ {
     let records = case.len() / RECORD_LEN;
     let without_part = (0..records).rev().map(move |i| without(case, i * RECORD_LEN, RECORD_LEN));
+    let moved_up = (0..records).rev().map(move |i| moved_up(case, i));
     let without_last = case.len().checked_sub(1).map(move |last| without(case, last, 1));
     let cleared = (0..case.len()).filter(|&i| case[i] != 0).map(move |i| {
         let mut bytes = case.to_vec();
         bytes[i] = 0;
         bytes
     });
-    without_part.chain(without_last).chain(cleared)
+    moved_up.chain(without_part).chain(without_last).chain(cleared)
 }
 
 fn without(case: &[u8], from: usize, count: usize) -> Vec<u8> {
     [&case[..from], &case[from + count..]].concat()
 }
 
+/// Without a node or row: the numbers behind it move up by one, and edges of the node go with it.
+fn moved_up(case: &[u8], dropped: usize) -> Vec<u8> {
+    let (records, rest) = case.as_chunks::<RECORD_LEN>();
+    let dropped_kind = records[dropped][0];
+    let mut bytes = Vec::new();
+    for (_, record) in records.iter().enumerate().filter(|&(at, _)| at != dropped) {
+        let mut record = *record;
+        let numbers: &[usize] = match (dropped_kind, record[0], record[1]) {
+            (kind::NODE, kind::EDGE, _) => &[1, 3],
+            (kind::ROW, kind::ROW, 7 | 8) => &[2, 3],
+            (kind::ROW, kind::ROW, 9) => &[3],
+            _ => &[],
+        };
+        let of_dropped = numbers.iter().any(|&field| usize::from(record[field]) == dropped);
+        if of_dropped && record[0] == kind::EDGE {
+            continue;
+        }
+        for &field in numbers {
+            record[field] -= u8::from(usize::from(record[field]) > dropped);
+        }
+        bytes.extend(record);
+    }
+    bytes.extend(rest);
+    bytes
+}
+
 #[cfg(test)]
 mod tests {
-    use super::{least, shrink};
+    use super::{least, moved_up, shrink};
 
     #[test]
     fn keeps_only_the_record_that_shows() {
         let bytes: Vec<u8> = (1..=30).collect();
         assert_eq!(shrink(&bytes, |case| case.contains(&15)), [0, 0, 15]);
+    }
+
+    #[test]
+    fn numbers_move_up_with_their_nodes_and_rows() {
+        let node = [1, 1, 0, 0, 0, 0];
+        let graph = [node, node, node, [2, 0, 0, 1, 0, 0], [2, 0, 0, 2, 0, 0]].concat();
+        let step = [node, node, [2, 0, 0, 1, 0, 0]].concat();
+        assert_eq!(moved_up(&graph, 1), step);
+        let rows = [[3, 9, 2, 2, 0, 0], [3, 1, 0, 0, 0, 0], [3, 8, 0, 2, 0, 0]].concat();
+        assert_eq!(moved_up(&rows, 1), [3, 9, 2, 1, 0, 0, 3, 8, 0, 1, 0, 0]);
     }
 
     #[test]
