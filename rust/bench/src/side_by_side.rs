@@ -59,10 +59,10 @@ fn agreed(call: &Call, files: &Pair) -> String {
 /// Seconds for one run of each, the median over the batches.
 fn medians(mut proved: impl FnMut(), mut second: impl FnMut()) -> [f64; 2] {
     let runs = [runs_in_a_batch(&mut proved), runs_in_a_batch(&mut second)];
-    let mut times = [[0.0; BATCHES]; 2];
-    for batch in 0..BATCHES {
-        times[0][batch] = batch_time(&mut proved, runs[0]);
-        times[1][batch] = batch_time(&mut second, runs[1]);
+    let mut times = [Vec::new(), Vec::new()];
+    for _ in 0..BATCHES {
+        times[0].push(batch_time(&mut proved, runs[0]));
+        times[1].push(batch_time(&mut second, runs[1]));
     }
     times.map(|mut times| {
         times.sort_by(f64::total_cmp);

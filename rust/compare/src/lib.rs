@@ -9,7 +9,10 @@ mod report;
 mod tally;
 
 use generator::generate::{Kind, Random};
+use pairs::Call;
 use tally::Tally;
+
+const CALLS: &[Call] = &[judge::CALL];
 
 /// Prints a line for each call, or ends with the report of a difference.
 pub fn run(seed: u64, count: u64) -> Result<(), String> {
@@ -19,8 +22,8 @@ pub fn run(seed: u64, count: u64) -> Result<(), String> {
         let tally = checks::run(&mut random, kind, count)?;
         println!("{}", tally.line(&format!("check {kind:?}").to_lowercase()));
     }
-    for call in [judge::CALL] {
-        println!("{}", pairs::run(&mut random, &call, count)?.line(call.name));
+    for call in CALLS {
+        println!("{}", pairs::run(&mut random, call, count)?.line(call.name));
     }
     Ok(())
 }

@@ -11,9 +11,12 @@ use tintboulder::{Answer, OnTwoFiles};
 pub struct Call {
     pub name: &'static str,
     pub proved: OnTwoFiles,
-    pub second: fn(&Limits, &[u8], &[u8], usize, usize, usize) -> Outcome,
+    pub second: Second,
     pub files: fn(&mut Random) -> [Vec<u8>; 2],
 }
+
+/// Limits, two files, the lengths of output and work, and the published length of work.
+pub type Second = fn(&Limits, &[u8], &[u8], usize, usize, usize) -> Outcome;
 
 /// Ends with a report at the first case on which anything differs.
 pub fn run(random: &mut Random, call: &Call, count: u64) -> Result<Tally, String> {
