@@ -84,3 +84,42 @@ impl Seen {
         })
     }
 }
+
+#[cfg(test)]
+mod tests {
+    use super::{inner, Case, Seen, MARGIN, SHORT_WORK};
+    use tintboulder::Answer;
+
+    const CASE: Case = Case { files: [Vec::new(), Vec::new()], out: 3, work: 5, seed: 1 };
+
+    fn seen(number: u32, written: &[u8]) -> Seen {
+        let answer = Answer { verdict: 2, number, first: 1, second: 0, third: 0, fourth: 0 };
+        CASE.lent().after_result(answer, written)
+    }
+
+    #[test]
+    fn result_is_written_and_work_is_cleared() {
+        let (mut before, mut after) = (CASE.lent(), seen(0, &[1, 2]));
+        let last = inner(&mut before.out)[2];
+        assert_eq!(inner(&mut after.lent.out), [1, 2, last]);
+        assert_eq!(inner(&mut after.lent.work), [0; 5]);
+        assert_eq!(seen(SHORT_WORK, &[]).lent.work, before.work);
+    }
+
+    #[test]
+    fn every_byte_and_number_counts() {
+        let expected = seen(0, &[1, 2]);
+        assert_eq!(seen(0, &[1, 2]).difference(&expected), None);
+        assert!(seen(1, &[1, 2]).difference(&expected).is_some());
+        for at in 0..CASE.out + 2 * MARGIN {
+            let mut other = seen(0, &[1, 2]);
+            other.lent.out[at] ^= 1;
+            assert!(other.difference(&expected).is_some(), "output {at}");
+        }
+        for at in 0..CASE.work + 2 * MARGIN {
+            let mut other = seen(0, &[1, 2]);
+            other.lent.work[at] ^= 1;
+            assert!(other.difference(&expected).is_some(), "work {at}");
+        }
+    }
+}

@@ -15,8 +15,8 @@ extern "C" {
     ) -> Answer;
 }
 
-// Safe: it is a function of the boundary, and 2 is its number there.
 /// Comparing as a call, for its published length and the answer as six numbers.
+// Safe: it is a function of the boundary, and 2 is its number there.
 pub const COMPARE: OnTwoFiles = unsafe { OnTwoFiles::new(tintboulder_compare, 2) };
 
 /// The relation stands at the start of the output either way: 32 bytes for each node of the first graph.

@@ -15,8 +15,8 @@ extern "C" {
     ) -> Answer;
 }
 
-// Safe: it is a function of the boundary, and 1 is its number there.
 /// Judging as a call, for its published length and the answer as six numbers.
+// Safe: it is a function of the boundary, and 1 is its number there.
 pub const JUDGE: OnTwoFiles = unsafe { OnTwoFiles::new(tintboulder_judge, 1) };
 
 #[derive(Clone, Copy, Debug, PartialEq, Eq)]
