@@ -1,8 +1,15 @@
-// Runs the examples of data/ through the proved checks, one line for each file that an argument names: the name, then `accepted`, nodes and records, or
-// `refused`, number, file and record. The first letter of a name tells what its file is read as.
+// Runs the examples of data/ through the proved code, one after the other as the arguments name them. The first letter of a name tells what its file is: a graph,
+// property, rule or interface file is checked, and its line has `accepted`, nodes and records, or `refused`, number, file and record; `judge` names a call on two
+// files, and its verdict's line is followed by the records that it wrote.
+ghost use Prim.Native.Nat.{_+_, _*_, _≤_, _<_};
+ghost use lib.ListN.{length};
+use files::cells::wide;
 use files::check::Checked;
 use files::record::Limits;
+use files::record::Record;
 use files::refusal::Refusal;
+use judging::answers::Judged;
+use judging::shape::Shape;
 use libc::STDOUT_FILENO;
 
 // Room for the longest example: 257 nodes or 4,097 edges with their nodes.
@@ -49,6 +56,113 @@ fn check(letter: u8, file: &[u8]) -> Checked {
     files::check::check_interface(file, 1, Limits::desk())
 }
 
+fn say_byte(b: u8) {
+    say_number(b as u64);
+}
+
+// Record i of what a call wrote, as decimals.
+fn say_record(out: &[u8], i: usize)
+    requires { ⌜ 6 * i + 6 ≤ length (now out) ⌝ }
+{
+    let p = Record::LEN * i;
+    io::print_decimal(STDOUT_FILENO, wide(out[p]) as u64);
+    say_byte(out[p + 1]);
+    say_byte(out[p + 2]);
+    say_byte(out[p + 3]);
+    say_byte(out[p + 4]);
+    say_byte(out[p + 5]);
+    say(b"\n");
+}
+
+fn at_most(n: usize, all: usize) -> usize
+    ensures { λ r. ⌜ r ≤ all ⌝ }
+{
+    if n < all {
+        return n;
+    }
+    all
+}
+
+// The first n records of what a call wrote.
+fn say_records(out: &[u8], n: usize) {
+    let end = at_most(n, out.len() / Record::LEN);
+    let mut i = 0;
+    while i < end {
+        say_record(out, i);
+        i += 1;
+    }
+}
+
+fn say_judged(answer: Judged, out: &[u8]) {
+    match answer {
+        Judged::Holds => say(b": holds\n"),
+        Judged::Fails(n) => {
+            say(b": fails");
+            say_number(n as u64);
+            say(b"\n");
+            say_records(out, n);
+        }
+        Judged::Refused(r) => {
+            say_refused(r);
+            say(b"\n");
+        }
+    }
+}
+
+fn two_bytes(low: u8, high: u8) -> usize
+    ensures { λ r. ⌜ r < 65536 ⌝ }
+{
+    wide(low) + 256 * wide(high)
+}
+
+// The published length where the flag is 1.
+fn work_length(flag: u8) -> usize
+    ensures { λ r. ⌜ r ≤ 41664 ⌝ }
+{
+    if flag == 1 {
+        return Shape::ROOM;
+    }
+    0
+}
+
+fn judge_files(
+    graph: &[u8],
+    property: &[u8],
+    out: &mut [u8],
+    work: &mut [u8],
+    room: usize,
+    lent: usize,
+)
+    requires { ⌜ (room ≤ length (now out)) × (lent ≤ length (now work)) ⌝ }
+{
+    let answer = judging::judge(graph, property, &mut out[..room], &mut work[..lent]);
+    say_judged(answer, &out[..room]);
+}
+
+// A call on two files. The example starts with the first file's length and the output's length, two bytes each, low byte first, then 1 for a work buffer of the
+// published length or 0 for none, then 0; the first file and the second follow.
+fn judge(example: &[u8]) {
+    if example.len() < Record::LEN {
+        return;
+    }
+    let split = Record::LEN + two_bytes(example[0], example[1]);
+    let room = two_bytes(example[2], example[3]);
+    let lent = work_length(example[4]);
+    if example.len() < split {
+        return;
+    }
+    let mut out = [0u8; 65536];
+    let mut work = [0u8; 41664];
+    judge_files(
+        &example[Record::LEN..split],
+        &example[split..],
+        &mut out,
+        &mut work,
+        room,
+        lent,
+    );
+}
+
 // The example that argument i names.
 fn one(i: usize) {
     let mut name = io::buffer();
@@ -62,6 +176,10 @@ fn one(i: usize) {
     let n = io::read_full(fd, &mut file);
     libc::close(fd);
     say(&name[..length]);
+    if name[0] == b'j' {
+        judge(&file[..n]);
+        return;
+    }
     say_checked(check(name[0], &file[..n]));
 }
 

@@ -5,17 +5,44 @@ use std::fs;
 use std::io;
 use std::path::{Path, PathBuf};
 
-/// The files of every case that the program can read, by case and name.
-pub fn files(cases: &Path) -> io::Result<Vec<Example>> {
-    let mut all = Vec::new();
-    for case in sorted(cases)? {
-        for file in sorted(&case)? {
-            if let Some(name) = name(&case, &file) {
-                all.push(Example { name, bytes: bytes(&fs::read_to_string(&file)?) });
-            }
+/// The files of a case that the program can read, by name.
+pub struct Case {
+    pub name: String,
+    files: Vec<(String, Vec<u8>)>,
+}
+
+impl Case {
+    /// The files of one kind: their names tell it.
+    pub fn files<'a>(&'a self, kind: &'a str) -> impl Iterator<Item = (&'a str, &'a [u8])> {
+        let of_kind = self.files.iter().filter(move |(name, _)| name.starts_with(kind));
+        of_kind.map(|(name, bytes)| (name.as_str(), bytes.as_slice()))
+    }
+
+    /// Every file, named for what it is and then for its case.
+    pub fn examples(&self) -> Vec<Example> {
+        let files = self.files.iter();
+        files.map(|(name, bytes)| self.example(name, bytes.clone())).collect()
+    }
+
+    fn example(&self, name: &str, bytes: Vec<u8>) -> Example {
+        Example { name: format!("{name}-of-{}.bin", self.name), bytes }
+    }
+}
+
+/// Every case, by name.
+pub fn read(cases: &Path) -> io::Result<Vec<Case>> {
+    sorted(cases)?.iter().map(|path| one(path)).collect()
+}
+
+fn one(path: &Path) -> io::Result<Case> {
+    let name = path.file_name().unwrap_or_default().to_string_lossy().into_owned();
+    let mut files = Vec::new();
+    for file in sorted(path)? {
+        if let Some(name) = kind_and_name(&file) {
+            files.push((name, bytes(&fs::read_to_string(&file)?)));
         }
     }
-    Ok(all)
+    Ok(Case { name, files })
 }
 
 fn sorted(directory: &Path) -> io::Result<Vec<PathBuf>> {
@@ -25,12 +52,11 @@ fn sorted(directory: &Path) -> io::Result<Vec<PathBuf>> {
     Ok(paths)
 }
 
-/// A graph, property, rule or interface file, named for what it is and then for its case.
-fn name(case: &Path, file: &Path) -> Option<String> {
+/// The name of a graph, property, rule or interface file.
+fn kind_and_name(file: &Path) -> Option<String> {
     let text = file.file_name()?.to_str()?.strip_suffix(".txt")?;
     let known = ["graph", "property", "rules", "interface"];
-    let case = case.file_name()?.to_str()?;
-    known.iter().any(|kind| text.starts_with(kind)).then(|| format!("{text}-of-{case}.bin"))
+    known.iter().any(|kind| text.starts_with(kind)).then(|| text.to_owned())
 }
 
 fn bytes(text: &str) -> Vec<u8> {

@@ -1,7 +1,8 @@
-//! The examples of crates/course: one for each refusal 1 to 8 and each limit, and the files of the case studies.
+//! The examples of crates/course: one for each refusal 1 to 8 and each limit, the files of the case studies, and calls on two files.
 
 mod cases;
 mod examples;
+mod judged;
 
 use second::files::{check_graph, check_interface, check_property, check_rules};
 use second::record::{Limits, RECORD_LEN};
@@ -20,15 +21,22 @@ pub fn repository() -> PathBuf {
 
 /// All examples, in the order in which the program reads them.
 pub fn examples() -> io::Result<Vec<Example>> {
+    let cases = cases::read(&repository().join("cases"))?;
     let mut all = examples::small();
     all.extend(examples::at_the_limits());
-    all.extend(cases::files(&repository().join("cases"))?);
+    all.extend(cases.iter().flat_map(cases::Case::examples));
+    all.extend(judged::of_the_paper());
+    all.extend(judged::of_lent_buffers());
+    all.extend(judged::of_cases(&cases));
     Ok(all)
 }
 
-/// The line that the program prints of an example, as the second implementation has it.
+/// What the program prints of an example, as the second implementation has it.
 pub fn line(example: &Example) -> String {
     let Example { name, bytes } = example;
+    if name.starts_with("judge-") {
+        return judged::lines(name, bytes);
+    }
     let nodes = match name.as_bytes().first() {
         Some(b'g') => check_graph(bytes, &Limits::DESK).map(|graph| graph.nodes.len()),
         Some(b'p') => check_property(bytes, &Limits::DESK).map(|_| 0),
