@@ -4,7 +4,7 @@ use mathlib.Core.Logic.{inl, inr}
 use mathlib.Core.Bool.{Bool, true, false, not, cond}
 use mathlib.Core.List.{List}
 use mathlib.Core.Option.{Option, none, some}
-use Prim.Native.Nat.{ℕ, _+_, _*_, _/_, _%_, _≤_, _<_}
+use Prim.Native.Nat.{ℕ, _+_, _*_, _-_, _/_, _%_, _≤_, _<_}
 use native.Mathlib.Decide.{ℕ-discrete, decLt}
 use native.Mathlib.Numerals.{add-one}
 use native.Mathlib.Omega.{arith}
@@ -12,12 +12,14 @@ use lib.Dec.{eqb}
 use lib.ListN.{length, getD, replicate, getD-replicate, List·getD-eq-default}
 use borrow.Author.Tests.{eq-eqb, ne-eqb}
 use Rattle.files.specs.Basics.Lists.{index-e}
-use Rattle.files.specs.Graph.{size, no-edge}
+use Rattle.files.specs.Graph.{Graph, size, no-edge}
 use Rattle.files.specs.Property.{Row, always, never, returns, not-returns, in-method, not-in-method, both, either, box, row}
-use Rattle.files.specs.Access.{row-held}
+use Rattle.files.specs.Access.{GraphFile, row-held}
 use Rattle.files.specs.Cells.{cell, put-cell}
 use Rattle.files.specs.Decode.{decode-graph, decode-property}
-use Rattle.files.specs.Decode.Graphs.{decoded-flow}
+use Rattle.files.specs.Decode.Graphs.{decoded-size, decoded-edges, decoded-flow}
+use Rattle.files.specs.Record.{count}
+use Rattle.files.specs.Refusal.{nodes-of}
 use Rattle.files.specs.declared.property.PropertyRow.{PropertyRow}
 use Rattle.files.specs.declared.property.RowAt.{RowAt}
 use Rattle.files.specs.declared.property.RowAt.the-variants.{Is as RowIs}
@@ -72,45 +74,54 @@ same-test m n = go (ℕ-discrete m n)
     go (yes e) = eq-eqb m n e ∙ sym (eq-eqb n m (sym e))
     go (no f) = ne-eqb m n f ∙ sym (ne-eqb n m (λ e. f (sym e)))
 
-module _ (s : Shape) (g p : List ℕ) (ready : Ready s g p) where
-  -- ---- edges
+-- ---- edges
+
+module _ (g : List ℕ) (file : GraphFile g) (nodes edges : ℕ) (nodes-are : nodes ≡ nodes-of g) (edges-are : edges ≡ count g - nodes-of g) where
+  abbrev G : Graph
+  G = decode-graph g
 
   abbrev to-of : ℕ → ℕ
-  to-of e = (getD ((decode-graph g) .edges) e no-edge) .to
+  to-of e = (getD (G .edges) e no-edge) .to
 
-  pub to-below : (e : ℕ) → e < s .edges → to-of e < size (decode-graph g)
-  to-below e h =
-      (decoded-flow (ready .graph-file .limits) g (ready .graph-file .accepted)) .to-node (getD ((decode-graph g) .edges) e no-edge)
-      (index-e no-edge ((decode-graph g) .edges) e (omega (arith, edges-is s g p ready)))
+  node-count : size G ≡ nodes
+  node-count = decoded-size (file .limits) g (file .accepted) ∙ sym nodes-are
 
-  module _ (w : List ℕ) (e key : ℕ) (is : key ≡ to-of e) (h : e < s .edges) where
+  pub edge-count : length (G .edges) ≡ edges
+  edge-count = decoded-edges (file .limits) g (file .accepted) ∙ sym edges-are
+
+  to-below : (e : ℕ) → e < edges → to-of e < size G
+  to-below e h = (decoded-flow (file .limits) g (file .accepted)) .to-node (getD (G .edges) e no-edge) (index-e no-edge (G .edges) e (omega (arith, edge-count)))
+
+  module _ (heads nexts : ℕ) (apart : heads + 2 * nodes ≤ nexts) (few : edges ≤ 4096) (w : List ℕ) (room : nexts + 2 * edges ≤ length w) (e key : ℕ) (is : key ≡ to-of e) (h : e < edges) where
+    key-below : key < nodes
+    key-below = omega (arith, is, to-below e h, node-count)
+
     -- where the edge is linked
-    pub key-below : key < 256
-    key-below = omega (arith, is, to-below e h, size-is s g p ready, ready .few-nodes)
+    pub may-link : (heads + 2 * key + 2 ≤ length w) × ((nexts + 2 * e + 2 ≤ length w) × (e < 65535))
+    may-link = (omega (arith, key-below), (omega arith, omega arith))
 
-    edge-linked : 41664 ≤ length w → Chained w 32768 33280 (into (decode-graph g)) (size (decode-graph g)) e
-        → Chained (linked w 32768 33280 key e) 32768 33280 (into (decode-graph g)) (size (decode-graph g)) (e + 1)
-    edge-linked room c =
-        subst (Chained (linked w 32768 33280 key e) 32768 33280 (into (decode-graph g)) (size (decode-graph g))) (sym (add-one e))
-        (chain-more w 32768 33280 (into (decode-graph g)) (size (decode-graph g)) e key
-        (omega (arith, is, to-below e h))
-        (omega (arith, size-is s g p ready, ready .few-nodes))
-        (omega (arith, ready .few-edges))
-        (omega (arith, ready .few-edges))
+    edge-linked : Chained w heads nexts (into G) (size G) e → Chained (linked w heads nexts key e) heads nexts (into G) (size G) (e + 1)
+    edge-linked c =
+        subst (Chained (linked w heads nexts key e) heads nexts (into G) (size G)) (sym (add-one e))
+        (chain-more w heads nexts (into G) (size G) e key
+        (omega (arith, key-below, node-count))
+        (omega (arith, node-count))
+        (omega arith)
+        (omega arith)
         (λ k l. same-test (to-of e) k ∙ ap (eqb k) (sym is))
         c)
 
-    edge-outside : Outside 32768 41472 w (linked w 32768 33280 key e)
-    edge-outside =
-        linked-outside w 32768 33280 key e 32768 41472 (omega arith) (omega (arith, key-below)) (omega arith) (omega (arith, ready .few-edges))
+    edge-outside : Outside heads (nexts + 2 * edges) w (linked w heads nexts key e)
+    edge-outside = linked-outside w heads nexts key e heads (nexts + 2 * edges) (omega arith) (omega (arith, key-below)) (omega arith) (omega arith)
 
     -- one edge more
-    pub edge-on : (w₀ w′ : List ℕ) → 41664 ≤ length w → Chained w 32768 33280 (into (decode-graph g)) (size (decode-graph g)) e → Outside 32768 41472 w₀ w → w′ ≡ linked w 32768 33280 key e
-        → Chained w′ 32768 33280 (into (decode-graph g)) (size (decode-graph g)) (e + 1) × Outside 32768 41472 w₀ w′
-    edge-on w₀ w′ room c o d =
-        subst (λ (v : List ℕ). Chained v 32768 33280 (into (decode-graph g)) (size (decode-graph g)) (e + 1) × Outside 32768 41472 w₀ v) (sym d)
-        (edge-linked room c, λ q x. edge-outside q x ∙ o q x)
+    pub edge-on : (w₀ w′ : List ℕ) → Chained w heads nexts (into G) (size G) e → Outside heads (nexts + 2 * edges) w₀ w → w′ ≡ linked w heads nexts key e
+        → Chained w′ heads nexts (into G) (size G) (e + 1) × Outside heads (nexts + 2 * edges) w₀ w′
+    edge-on w₀ w′ c o d =
+        subst (λ (v : List ℕ). Chained v heads nexts (into G) (size G) (e + 1) × Outside heads (nexts + 2 * edges) w₀ v) (sym d)
+        (edge-linked c, λ q x. edge-outside q x ∙ o q x)
 
+module _ (s : Shape) (g p : List ℕ) (ready : Ready s g p) where
   -- ---- places
 
   module _ (w : List ℕ) (j key : ℕ) (h : j < 2 * s .rows) (c : Chained w 41472 41536 (uses (decode-property p)) (s .rows) j) where
@@ -154,8 +165,8 @@ module _ (s : Shape) (g p : List ℕ) (ready : Ready s g p) where
   -- ---- both chains
 
   -- nothing stands after the chains of edges
-  pub places-none : (w₀ w : List ℕ) → w₀ ≡ replicate (length w₀) 0 → Outside 32768 41472 w₀ w → Chained w 41472 41536 (uses (decode-property p)) (s .rows) 0
-  places-none w₀ w z o = chained-none w 41472 41536 (uses (decode-property p)) (s .rows) (λ q l. o q (inr l) ∙ zero-byte w₀ z q)
+  pub places-none : (w₀ w : List ℕ) → w₀ ≡ replicate (length w₀) 0 → Outside 32768 (33280 + 2 * s .edges) w₀ w → Chained w 41472 41536 (uses (decode-property p)) (s .rows) 0
+  places-none w₀ w z o = chained-none w 41472 41536 (uses (decode-property p)) (s .rows) (λ q l. o q (inr (omega (arith, ready .few-edges))) ∙ zero-byte w₀ z q)
 
   pub edges-none : (w : List ℕ) → w ≡ replicate (length w) 0 → Chained w 32768 33280 (into (decode-graph g)) (size (decode-graph g)) 0
   edges-none w z = chained-none w 32768 33280 (into (decode-graph g)) (size (decode-graph g)) (λ q l. zero-byte w z q)
@@ -167,7 +178,7 @@ module _ (s : Shape) (g p : List ℕ) (ready : Ready s g p) where
     by-row = subst (λ (n : ℕ). Chained w′ 41472 41536 (uses (decode-property p)) n (2 * n)) (sym (rows-is s g p ready)) d;
   }
 
--- a byte outside both chains
-pub outside-both : (w₀ w w′ : List ℕ) → Outside 32768 41472 w₀ w → Outside 41472 41664 w w′ → Outside 32768 41664 w₀ w′
-outside-both w₀ w w′ f g q (inl h) = g q (inl (omega arith)) ∙ f q (inl h)
-outside-both w₀ w w′ f g q (inr h) = g q (inr h) ∙ f q (inr (omega arith))
+-- a byte outside two parts that were written, one after the other
+pub outside-both : (a b c d m n : ℕ) (w₀ w w′ : List ℕ) → m ≤ a → b ≤ n → m ≤ c → d ≤ n → Outside a b w₀ w → Outside c d w w′ → Outside m n w₀ w′
+outside-both a b c d m n w₀ w w′ x y z u f g q (inl h) = g q (inl (omega arith)) ∙ f q (inl (omega arith))
+outside-both a b c d m n w₀ w w′ x y z u f g q (inr h) = g q (inr (omega arith)) ∙ f q (inr (omega arith))

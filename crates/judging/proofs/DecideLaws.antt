@@ -1,16 +1,14 @@
 -- For the code that decides: ranks before any is found, the marks cleared, the verdict by the lowest failing entry, and the outcome through each check.
 use mathlib.Core.Path.{_≡_, refl, sym, ap, subst, _∙_}
 use mathlib.Core.Logic.{inl, inr}
-use mathlib.Core.Bool.{Bool, true, false, not, cond}
+use mathlib.Core.Bool.{Bool, true, false, not}
 use mathlib.Core.List.{List, [], _∷_, _++_, append-assoc}
-use mathlib.Core.Option.{Option, none, some}
-use Prim.Native.Nat.{ℕ, suc, _+_, _*_, _-_, _/_, _%_, _^_, _≤_, _<_}
+use Prim.Native.Nat.{ℕ, _+_, _*_, _-_, _/_, _%_, _^_, _≤_, _<_}
 use native.Mathlib.Nat.{zero-div}
 use native.Mathlib.Omega.{arith}
 use lib.Dec.{T, T-not, not-T, eqb, ltb}
 use lib.ListN.{length, getD, take, drop, replicate, length-replicate, getD-replicate}
 use lib.Seq.{drop-drop}
-use borrow.Author.Tests.{ne-eqb}
 use borrow.Rule.Slice.PartMut.{midOf, putMid, mid-len, same-len-mid}
 use Rattle.files.specs.Basics.Least.{least, least-hit}
 use Rattle.files.specs.Basics.Lists.{each}
@@ -24,12 +22,11 @@ use Rattle.files.specs.Decode.Graphs.{few, decoded-size, decoded-edges, decoded
 use Rattle.files.specs.Decode.Properties.{decoded-rows, decoded-property}
 use Rattle.files.specs.Graph.{Graph, size, node}
 use Rattle.files.specs.Limits.{desk}
-use Rattle.files.specs.Outcome.{Said, Outcome, Answer, Answers, Does, refused-answer, verdict-answer, Check, numbered, file-checks, whole-check, out-check, first-refusal, unless, refusal-at, work-after}
-use Rattle.files.specs.Outcome.Steps.{file-refuses, file-passes, answers-refused, answers-same}
+use Rattle.files.specs.Outcome.{Said, Outcome, Answer, Answers, Does, refused-answer, verdict-answer, Check, file-checks, out-check, refusal-at}
+use Rattle.files.specs.Outcome.Steps.{answers-file-refused, answers-file-passed, file-low, out-low, does-left, does-cleared}
 use Rattle.files.specs.Property.{Row}
 use Rattle.files.specs.Record.{count}
-use Rattle.files.specs.Refusal.{Kind, graph, property, nodes-of, findings}
-use Rattle.files.specs.Refusal.Laws.{eight}
+use Rattle.files.specs.Refusal.{graph, property, nodes-of}
 use Rattle.files.specs.declared.check.Checked.{Checked}
 use Rattle.files.specs.declared.check.Checked.the-variants.{Accepted, Refused}
 use Rattle.files.specs.declared.record.Limits.{Limits}
@@ -69,7 +66,8 @@ mid-is a k w ys e =
     ∙ sym (append-assoc (take a w) ys (drop (a + length ys) w))
     ∙ sym (put-at-is w a ys)
 
-no-bit : (k : ℕ) → eqb (0 / 2 ^ k % 2) 1 ≡ false
+-- no bit of a zero
+pub no-bit : (k : ℕ) → eqb (0 / 2 ^ k % 2) 1 ≡ false
 no-bit k = ap (λ (x : ℕ). eqb (x % 2) 1) (zero-div (2 ^ k))
 
 module _ (w ys : List ℕ) (room : 41664 ≤ length w) (zeros : ys ≡ replicate (length (midOf 32768 1024 w)) 0) where
@@ -167,21 +165,18 @@ module _ (L : Limits) (g p : List ℕ) where
 
   module _ (out : List ℕ) (x : Checked) where
     pub property-refused : (r : Refusal) → x ≡ checked L property p 2 → x ≡ Refused r → Answers (from-property L g p (length out)) out out (refused-answer r)
-    property-refused r e d = answers-refused (from-property L g p (length out)) r out (file-refuses L 2 property p (out-check (length out) said) said r (sym e ∙ d))
+    property-refused r e d = answers-file-refused L 2 property p (out-check (length out) said) said out x e r d
 
     pub property-passed : (n c : ℕ) (out′ : List ℕ) (a : Answer) → x ≡ checked L property p 2 → x ≡ Accepted n c
         → Answers (from-verdict g p (length out)) out out′ a → Answers (from-property L g p (length out)) out out′ a
-    property-passed n c out′ a e d = answers-same (from-verdict g p (length out)) (from-property L g p (length out)) out out′ a
-        (file-passes L 2 property p (out-check (length out) said) said n c (sym e ∙ d))
+    property-passed n c out′ a e d = answers-file-passed L 2 property p (out-check (length out) said) said out x e n c out′ a d
 
     pub graph-refused : (r : Refusal) → x ≡ checked L graph g 1 → x ≡ Refused r → Answers (from-graph L g p (length out)) out out (refused-answer r)
-    graph-refused r e d =
-        answers-refused (from-graph L g p (length out)) r out (file-refuses L 1 graph g (file-checks L 2 property p (out-check (length out) said)) said r (sym e ∙ d))
+    graph-refused r e d = answers-file-refused L 1 graph g (file-checks L 2 property p (out-check (length out) said)) said out x e r d
 
     pub graph-passed : (n c : ℕ) (out′ : List ℕ) (a : Answer) → x ≡ checked L graph g 1 → x ≡ Accepted n c
         → Answers (from-property L g p (length out)) out out′ a → Answers (from-graph L g p (length out)) out out′ a
-    graph-passed n c out′ a e d = answers-same (from-property L g p (length out)) (from-graph L g p (length out)) out out′ a
-        (file-passes L 1 graph g (file-checks L 2 property p (out-check (length out) said)) said n c (sym e ∙ d))
+    graph-passed n c out′ a e d = answers-file-passed L 1 graph g (file-checks L 2 property p (out-check (length out) said)) said out x e n c out′ a d
 
   pub graph-counts : (x : Checked) (n c : ℕ) → x ≡ checked L graph g 1 → x ≡ Accepted n c → GraphWithin L g × (n ≡ nodes-of g) × (c ≡ count g)
   graph-counts x n c e d = accepted-counts L graph g 1 n c (sym e ∙ d)
@@ -208,50 +203,21 @@ module _ (L : Limits) (g p : List ℕ) where
 
 -- ---- the work buffer
 
--- no refusal, or one by a number other than 13
-abbrev Low : Option Refusal → Type 0
-Low none = Unit {0}
-Low (some r) = eqb (r .number) 13 ≡ false
-
-numbered-low : (n f : ℕ) (ms : List (Option ℕ)) (cs : List Check) → n + length ms ≤ 13 → Low (first-refusal cs) → Low (first-refusal (numbered n f ms cs))
-numbered-low n f [] cs h l = l
-numbered-low n f (some i ∷ ms) cs h l = ne-eqb n 13 (λ e. omega arith)
-numbered-low n f (none ∷ ms) cs h l = numbered-low (suc n) f ms cs (omega arith) l
-
-file-low : (L : Limits) (f : ℕ) (k : Kind) (l : List ℕ) (cs : List Check) → Low (first-refusal cs) → Low (first-refusal (file-checks L f k l cs))
-file-low L f k l cs x = numbered-low 1 f (findings L k l) cs (omega (arith, eight L k l)) x
-
-out-low : (b : Bool) → Low (first-refusal (whole-check 12 b []))
-out-low true = refl
-out-low false = tt
-
-low-clears : (o : Option Refusal) (s : Said) (work : List ℕ) → Low o → work-after (unless o s) work ≡ replicate (length work) 0
-low-clears none s work x = refl
-low-clears (some r) s work x = ap (λ (b : Bool). cond b work (replicate (length work) 0)) x
-
 module _ (L : Limits) (g p out work : List ℕ) where
   abbrev outcome : Outcome
   outcome = judged L g p (length out) (length work)
 
   pub does-nothing : (r : Refusal) → length work < 41664 → r ≡ refusal-at 13 0 0 → Does outcome out work out work (refused-answer r)
-  does-nothing r h e =
-      let o = judged-short L g p (length out) (length work) h in
-      subst (λ (x : Refusal). Does outcome out work out work (refused-answer x)) (sym e) (record {
-        answers = answers-refused outcome (refusal-at 13 0 0) out o;
-        work-is = sym (ap (λ (x : Outcome). work-after x work) o);
-      })
+  does-nothing r h e = does-left outcome r out work (judged-short L g p (length out) (length work) h) e
 
   pub does-judge : (out′ work′ : List ℕ) (a : Answer) → 41664 ≤ length work → Answers (from-graph L g p (length out)) out out′ a → work′ ≡ replicate (length work) 0
       → Does outcome out work out′ work′ a
   does-judge out′ work′ a h x e =
-      let o = judged-on L g p (length out) (length work) h in
       let s : Said = judge-said (decode-graph g) (decode-property p) in
-      let cs : List Check = file-checks L 1 graph g (file-checks L 2 property p (out-check (length out) s)) in
-      let low = file-low L 1 graph g (file-checks L 2 property p (out-check (length out) s)) (file-low L 2 property p (out-check (length out) s) (out-low (ltb (length out) (length (s .written))))) in
-      record {
-        answers = answers-same (from-graph L g p (length out)) outcome out out′ a o x;
-        work-is = e ∙ sym (low-clears (first-refusal cs) s work low) ∙ sym (ap (λ (y : Outcome). work-after y work) o);
-      }
+      let out12 : List Check = out-check (length out) s in
+      let rest : List Check = file-checks L 2 property p out12 in
+      does-cleared outcome (file-checks L 1 graph g rest) s out work out′ work′ a (judged-on L g p (length out) (length work) h)
+      (file-low L 1 graph g rest (file-low L 2 property p out12 (out-low (ltb (length out) (length (s .written)))))) x e
 
 -- ---- the limits of the desk
 

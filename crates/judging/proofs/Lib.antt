@@ -1,6 +1,10 @@
 pub mod CauseLaws
 pub mod ChainLaws
+pub mod CoverLaws
 pub mod DecideLaws
 pub mod HeldLaws
+pub mod ImageLaws
 pub mod LevelLaws
+pub mod LostLaws
 pub mod SheetLaws
+pub mod SimulateLaws

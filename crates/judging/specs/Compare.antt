@@ -17,11 +17,12 @@ use Rattle.files.specs.Basics.Tests.{one}
 use Rattle.files.specs.Basics.Binary.{bit}
 use lib.ListN.{getD}
 pub mod Laws
+pub mod Steps
 pub mod Examples
 
 -- the published length of the work buffer
 abbrev pub compare-room : ℕ
-compare-room = 44800
+compare-room = 156960
 
 -- the paper's number and values for each case
 abbrev pub compared-answer : Compared → Answer
@@ -47,6 +48,16 @@ module _ (L : Limits) (first second : List ℕ) (out work : ℕ) where
 
   pub compared : Outcome
   compared = answered compare-checks compare-verdict
+
+-- the outcome from the first graph's numbers on, from the second's on, and from 12 on, as the code comes to them
+abbrev pub from-first : Limits → List ℕ → List ℕ → ℕ → Outcome
+from-first L f g out = let s = compare-said (decode-graph f) (decode-graph g) in answered (file-checks L 1 graph f (file-checks L 2 graph g (out-check out s))) s
+
+abbrev pub from-second : Limits → List ℕ → List ℕ → ℕ → Outcome
+from-second L f g out = let s = compare-said (decode-graph f) (decode-graph g) in answered (file-checks L 2 graph g (out-check out s)) s
+
+abbrev pub from-relation : List ℕ → List ℕ → ℕ → Outcome
+from-relation f g out = let s = compare-said (decode-graph f) (decode-graph g) in answered (out-check out s) s
 
 -- What a verdict of comparing says: 1 exactly where the second graph simulates the first, which is where the largest simulation covers every entry; 2 otherwise,
 -- with the lowest entry of the first that no simulation gives a related entry of the second; and the bytes of the largest simulation, under either verdict.

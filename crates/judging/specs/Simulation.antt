@@ -10,6 +10,7 @@ use Rattle.files.specs.Basics.Least.{least}
 use Rattle.files.specs.Graph.{Node, Edge, Graph, size, node}
 use Rattle.files.specs.Line.{relation-line}
 pub mod Laws
+pub mod Bytes
 pub mod Examples
 
 -- "Related nodes agree on method and return flag. Each edge of the first is matched by an equally labelled edge of the second to a related node."

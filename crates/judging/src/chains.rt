@@ -1,7 +1,10 @@
 // The chains of judging: edges by the node they lead to, operands by the row they name. `index` states that both stand in the lent buffer.
 ghost use mathlib.Core.Path.{_≡_};
-ghost use Prim.Native.Nat.{_+_, _*_, _/_, _%_, _≤_, _<_};
+ghost use Prim.Native.Nat.{_+_, _*_, _-_, _/_, _%_, _≤_, _<_};
 ghost use lib.ListN.{length, getD, replicate};
+ghost use Rattle.files.specs.Access.{GraphFile};
+ghost use Rattle.files.specs.Record.{count};
+ghost use Rattle.files.specs.Refusal.{nodes-of};
 ghost use Rattle.files.specs.Graph.{size, no-edge};
 ghost use Rattle.files.specs.Property.{row};
 ghost use Rattle.files.specs.Decode.{decode-graph, decode-property};
@@ -26,11 +29,11 @@ fn link(work: &mut [u8], heads: usize, nexts: usize, key: usize, item: usize)
 }
 
 // The node that edge e leads to.
-fn edge_target(graph: &[u8], property: &[u8], s: Shape, e: usize) -> usize
-    requires { ⌜ (Ready s (now graph) (now property)) × (e < s .edges) ⌝ }
+fn edge_target(graph: &[u8], nodes: usize, e: usize) -> usize
+    requires { ⌜ (GraphFile (now graph)) × ((nodes ≡ nodes-of (now graph)) × (e < count (now graph) - nodes)) ⌝ }
     ensures { λ r. ⌜ r ≡ (getD ((decode-graph (now (graph .entry))) .edges) e no-edge) .to ⌝ }
 {
-    let EdgeAt::Is(edge) = edge_at(graph, s.nodes, e, 0) else {
+    let EdgeAt::Is(edge) = edge_at(graph, nodes, e, 0) else {
         return 0;
     };
     edge.to
@@ -63,15 +66,22 @@ fn row_named(graph: &[u8], property: &[u8], s: Shape, j: usize) -> usize
     operand(row.operator, row.a, row.b, j % 2, s.rows)
 }
 
-// Links every edge to the node that it leads to.
-fn link_edges(graph: &[u8], property: &[u8], s: Shape, work: &mut [u8])
-    requires { ⌜ (Ready s (now graph) (now property)) × ((now work ≡ replicate (length (now work)) 0) × (41664 ≤ length (now work))) ⌝ }
-    ensures { λ _. ⌜ (Chained (now (work .exit)) 32768 33280 (into (decode-graph (now (graph .entry)))) (size (decode-graph (now (graph .entry)))) (length ((decode-graph (now (graph .entry))) .edges))) × (Outside 32768 41472 (now (work .entry)) (now (work .exit))) ⌝ }
+// Links every edge of a graph to the node that it leads to.
+pub fn link_graph(
+    graph: &[u8],
+    nodes: usize,
+    edges: usize,
+    work: &mut [u8],
+    heads: usize,
+    nexts: usize,
+)
+    requires { ⌜ (GraphFile (now graph)) × ((nodes ≡ nodes-of (now graph)) × ((edges ≡ count (now graph) - nodes-of (now graph)) × ((edges ≤ 4096) × ((heads + 2 * nodes ≤ nexts) × ((nexts + 2 * edges ≤ length (now work)) × (Chained (now work) heads nexts (into (decode-graph (now graph))) (size (decode-graph (now graph))) 0)))))) ⌝ }
+    ensures { λ _. ⌜ (Chained (now (work .exit)) heads nexts (into (decode-graph (now (graph .entry)))) (size (decode-graph (now (graph .entry)))) (length ((decode-graph (now (graph .entry))) .edges))) × (Outside heads (nexts + 2 * edges) (now (work .entry)) (now (work .exit))) ⌝ }
 {
     let mut e = 0;
-    while e < s.edges {
-        let to = edge_target(graph, property, s, e);
-        link(work, Shape::NODE_HEADS, Shape::NODE_NEXTS, to, e);
+    while e < edges {
+        let to = edge_target(graph, nodes, e);
+        link(work, heads, nexts, to, e);
         e += 1;
     }
 }
@@ -104,6 +114,13 @@ pub fn index(graph: &[u8], property: &[u8], s: Shape, work: &mut [u8])
     requires { ⌜ (Ready s (now graph) (now property)) × ((now work ≡ replicate (length (now work)) 0) × (41664 ≤ length (now work))) ⌝ }
     ensures { λ _. ⌜ (Index (decode-graph (now (graph .entry))) (decode-property (now (property .entry))) (now (work .exit))) × (Outside 32768 41664 (now (work .entry)) (now (work .exit))) ⌝ }
 {
-    link_edges(graph, property, s, work);
+    link_graph(
+        graph,
+        s.nodes,
+        s.edges,
+        work,
+        Shape::NODE_HEADS,
+        Shape::NODE_NEXTS,
+    );
     link_places(graph, property, s, work);
 }

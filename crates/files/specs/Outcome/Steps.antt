@@ -1,15 +1,20 @@
--- How a call goes through its refusals, step by step, as the code does: a file that checking refuses is the outcome, a file that it accepts passes on to the next check.
-use mathlib.Core.Path.{_≡_, refl, sym, ap, _∙_}
-use mathlib.Core.Bool.{Bool, true, false}
-use mathlib.Core.List.{List}
+-- How a call goes through its refusals, step by step, as the code does: a file that checking refuses is the outcome, a file that it accepts passes on to the next check;
+-- a result that does not fit is refused; and the work buffer is left by 13, cleared otherwise.
+use mathlib.Core.Path.{_≡_, refl, sym, ap, subst, _∙_}
+use mathlib.Core.Bool.{Bool, true, false, cond}
+use mathlib.Core.List.{List, [], _∷_}
 use mathlib.Core.Option.{Option, none, some}
-use Prim.Native.Nat.{ℕ}
+use Prim.Native.Nat.{ℕ, suc, _+_, _≤_, _<_}
 use native.Mathlib.Omega.{arith}
+use lib.Dec.{eqb, ltb}
+use lib.ListN.{length, replicate}
+use borrow.Author.Tests.{lt-ltb, le-ltb, ne-eqb}
 use Rattle.files.specs.Checking.{checked, checked-by}
 use Rattle.files.specs.Checking.Laws.{checked-is}
-use Rattle.files.specs.Outcome.{Said, Outcome, refuses, Answer, Answers, answer, refused-answer, Check, file-checks, whole-check, first-refusal, unless, answered, refusal-at, out-after}
+use Rattle.files.specs.Outcome.{Said, Outcome, refuses, says, Answer, Answers, Does, answer, refused-answer, Check, numbered, file-checks, whole-check, out-check, first-refusal, unless, answered, refusal-at, out-after, work-after}
 use Rattle.files.specs.Outcome.Laws.{file-first, file-or, refusal-leaves-output}
-use Rattle.files.specs.Refusal.{Kind, refusal}
+use Rattle.files.specs.Refusal.{Kind, findings, refusal}
+use Rattle.files.specs.Refusal.Laws.{eight}
 use Rattle.files.specs.declared.check.Checked.{Checked}
 use Rattle.files.specs.declared.check.Checked.the-variants.{Accepted, Refused}
 use Rattle.files.specs.declared.record.Limits.{Limits}
@@ -52,3 +57,64 @@ answers-refused o r out e = record {
 -- the same outcome by another name
 pub answers-same : (o o′ : Outcome) (out out′ : List ℕ) (a : Answer) → o′ ≡ o → Answers o out out′ a → Answers o′ out out′ a
 answers-same o o′ out out′ a e x = record { answer-is = x .answer-is ∙ sym (ap answer e); out-is = x .out-is ∙ sym (ap (λ (y : Outcome). out-after y out) e) }
+
+-- ---- the output
+
+-- what fits is said
+pub out-passes : (n : ℕ) (s : Said) → length (s .written) ≤ n → answered (out-check n s) s ≡ says s
+out-passes n s h = whole-passes 12 (ltb n (length (s .written))) [] s (le-ltb n (length (s .written)) h)
+
+-- what does not fit is refused
+pub out-refuses : (n : ℕ) (s : Said) → n < length (s .written) → answered (out-check n s) s ≡ refuses (refusal-at 12 0 0)
+out-refuses n s h = whole-refuses 12 (ltb n (length (s .written))) [] s (lt-ltb n (length (s .written)) h)
+
+-- ---- a file, as checking answers
+
+module _ (L : Limits) (f : ℕ) (k : Kind) (l : List ℕ) (cs : List Check) (s : Said) (out : List ℕ) (x : Checked) (is : x ≡ checked L k l f) where
+  abbrev onward : Outcome
+  onward = answered (file-checks L f k l cs) s
+
+  pub answers-file-refused : (r : Refusal) → x ≡ Refused r → Answers onward out out (refused-answer r)
+  answers-file-refused r d = answers-refused onward r out (file-refuses L f k l cs s r (sym is ∙ d))
+
+  pub answers-file-passed : (n c : ℕ) (out′ : List ℕ) (a : Answer) → x ≡ Accepted n c → Answers (answered cs s) out out′ a → Answers onward out out′ a
+  answers-file-passed n c out′ a d = answers-same (answered cs s) onward out out′ a (file-passes L f k l cs s n c (sym is ∙ d))
+
+-- ---- the work buffer
+
+-- no refusal, or one by a number other than 13
+abbrev pub Low : Option Refusal → Type 0
+Low none = Unit {0}
+Low (some r) = eqb (r .number) 13 ≡ false
+
+numbered-low : (n f : ℕ) (ms : List (Option ℕ)) (cs : List Check) → n + length ms ≤ 13 → Low (first-refusal cs) → Low (first-refusal (numbered n f ms cs))
+numbered-low n f [] cs h l = l
+numbered-low n f (some i ∷ ms) cs h l = ne-eqb n 13 (λ e. omega arith)
+numbered-low n f (none ∷ ms) cs h l = numbered-low (suc n) f ms cs (omega arith) l
+
+pub file-low : (L : Limits) (f : ℕ) (k : Kind) (l : List ℕ) (cs : List Check) → Low (first-refusal cs) → Low (first-refusal (file-checks L f k l cs))
+file-low L f k l cs x = numbered-low 1 f (findings L k l) cs (omega (arith, eight L k l)) x
+
+pub out-low : (b : Bool) → Low (first-refusal (whole-check 12 b []))
+out-low true = refl
+out-low false = tt
+
+low-clears : (o : Option Refusal) (s : Said) (work : List ℕ) → Low o → work-after (unless o s) work ≡ replicate (length work) 0
+low-clears none s work x = refl
+low-clears (some r) s work x = ap (λ (b : Bool). cond b work (replicate (length work) 0)) x
+
+-- 13 leaves all as it was
+pub does-left : (o : Outcome) (r : Refusal) (out work : List ℕ) → o ≡ refuses (refusal-at 13 0 0) → r ≡ refusal-at 13 0 0 → Does o out work out work (refused-answer r)
+does-left o r out work e d =
+    subst (λ (x : Refusal). Does o out work out work (refused-answer x)) (sym d) (record {
+      answers = answers-refused o (refusal-at 13 0 0) out e;
+      work-is = sym (ap (λ (x : Outcome). work-after x work) e);
+    })
+
+-- after all else it is zero
+pub does-cleared : (o : Outcome) (cs : List Check) (s : Said) (out work out′ work′ : List ℕ) (a : Answer) → o ≡ answered cs s → Low (first-refusal cs) → Answers (answered cs s) out out′ a
+    → work′ ≡ replicate (length work) 0 → Does o out work out′ work′ a
+does-cleared o cs s out work out′ work′ a e low x d = record {
+  answers = answers-same (answered cs s) o out out′ a e x;
+  work-is = d ∙ sym (low-clears (first-refusal cs) s work low) ∙ sym (ap (λ (y : Outcome). work-after y work) e);
+}

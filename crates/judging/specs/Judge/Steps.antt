@@ -1,17 +1,16 @@
 -- Judging as the code comes to it: the work buffer's length, then the files; a property that holds, a sheet that does not fit, a sheet that is written.
-use mathlib.Core.Path.{_≡_, refl, sym, ap, ap₂, subst, _∙_}
-use mathlib.Core.Bool.{Bool, true, false, not, cond}
+use mathlib.Core.Path.{_≡_, sym, ap, _∙_}
+use mathlib.Core.Bool.{true, false}
 use mathlib.Core.List.{List, [], _∷_, _++_}
-use Prim.Native.Nat.{ℕ, suc, _*_, _≤_, _<_}
+use Prim.Native.Nat.{ℕ, _≤_, _<_}
 use native.Mathlib.Omega.{arith}
-use lib.Dec.{T, ltb}
 use lib.ListN.{length, drop}
 use borrow.Author.Tests.{lt-ltb, le-ltb}
 use Rattle.files.specs.Decode.{decode-graph, decode-property}
 use Rattle.files.specs.declared.record.Limits.{Limits}
 use Rattle.files.specs.Outcome.{Said, Outcome, says, refuses, Check, Answers, answer, out-after, verdict-answer, refused-answer, out-check, file-checks, short, answered, refusal-at}
-use Rattle.files.specs.Outcome.Steps.{whole-refuses, whole-passes, answers-refused}
-use Rattle.files.specs.Graph.{Graph, size, node}
+use Rattle.files.specs.Outcome.Steps.{whole-refuses, whole-passes, answers-refused, out-passes, out-refuses}
+use Rattle.files.specs.Graph.{Graph}
 use Rattle.files.specs.Refusal.{graph, property}
 use Rattle.files.specs.Property.{Row}
 use Rattle.judging.specs.Judge.{judge-room, judge-said, judge-verdict, judged, from-graph, from-verdict}
@@ -31,14 +30,10 @@ module _ (g p out : List ℕ) where
   abbrev theSaid : Said
   theSaid = judge-said (decode-graph g) (decode-property p)
 
-  -- what passes 12 is said
-  fits : (s : Said) → length (s .written) ≤ length out → answered (out-check (length out) s) s ≡ says s
-  fits s h = whole-passes 12 (ltb (length out) (length (s .written))) [] s (le-ltb (length out) (length (s .written)) h)
-
   pub answers-holds : satisfies (decode-graph g) (decode-property p) ≡ true → Answers (from-verdict g p (length out)) out out (verdict-answer 1 [])
   answers-holds e =
       let s : Said = record { verdict = 1; values = []; written = [] } in
-      let o : from-verdict g p (length out) ≡ says s = ap (λ (x : Said). answered (out-check (length out) x) x) (said-holds (decode-graph g) (decode-property p) e) ∙ fits s (omega arith) in
+      let o : from-verdict g p (length out) ≡ says s = ap (λ (x : Said). answered (out-check (length out) x) x) (said-holds (decode-graph g) (decode-property p) e) ∙ out-passes (length out) s (omega arith) in
       record { answer-is = sym (ap answer o); out-is = sym (ap (λ (x : Outcome). out-after x out) o) }
 
   module _ (bad : satisfies (decode-graph g) (decode-property p) ≡ false) where
@@ -51,12 +46,12 @@ module _ (g p out : List ℕ) where
     pub answers-short : length out < length (sheet-bytes (decode-graph g) (decode-property p)) → Answers (from-verdict g p (length out)) out out (refused-answer (refusal-at 12 0 0))
     answers-short h =
         answers-refused (from-verdict g p (length out)) (refusal-at 12 0 0) out
-        (is-failed ∙ whole-refuses 12 (ltb (length out) (length (failed .written))) [] failed (lt-ltb (length out) (length (failed .written)) h))
+        (is-failed ∙ out-refuses (length out) failed h)
 
     pub answers-sheet : (n : ℕ) (out′ : List ℕ) → n ≡ length (sheet (decode-graph g) (decode-property p)) → length (sheet-bytes (decode-graph g) (decode-property p)) ≤ length out
         → out′ ≡ sheet-bytes (decode-graph g) (decode-property p) ++ drop (length (sheet-bytes (decode-graph g) (decode-property p))) out → Answers (from-verdict g p (length out)) out out′ (verdict-answer 2 (n ∷ []))
     answers-sheet n out′ e h d =
-        let o : from-verdict g p (length out) ≡ says failed = is-failed ∙ fits failed h in
+        let o : from-verdict g p (length out) ≡ says failed = is-failed ∙ out-passes (length out) failed h in
         record { answer-is = ap (λ (k : ℕ). verdict-answer 2 (k ∷ [])) e ∙ sym (ap answer o); out-is = d ∙ sym (ap (λ (x : Outcome). out-after x out) o) }
 
 -- ---- the whole call

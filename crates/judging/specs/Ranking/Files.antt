@@ -121,6 +121,19 @@ module _ (G : Graph) (P : List Row) where
     pub names-one : (a ≡ r) ⊎ (b ≡ r)
     pub by-operator : ((x ≡ both a b) × ((row-held x) .operator ≡ 7)) ⊎ ((x ≡ either a b) × ((row-held x) .operator ≡ 8))
 
+  two-rows : (x : Row) (r c d : ℕ) → T (ltb c (length P) && ltb d (length P)) → (c ≡ r) ⊎ (d ≡ r) → (row-held x) .a ≡ c → (row-held x) .b ≡ d
+      → ((x ≡ both c d) × ((row-held x) .operator ≡ 7)) ⊎ ((x ≡ either c d) × ((row-held x) .operator ≡ 8)) → Operands x r
+  two-rows x r c d n o ea eb k = record {
+    a = c;
+    b = d;
+    is-a = ea;
+    is-b = eb;
+    a-row = ltb→lt c (length P) (and-l (ltb c (length P)) (ltb d (length P)) n);
+    b-row = ltb→lt d (length P) (and-r (ltb c (length P)) (ltb d (length P)) n);
+    names-one = o;
+    by-operator = k;
+  }
+
   pub operands : (x : Row) (r : ℕ) → T (names (length P) x) → Names x r → ((row-held x) .operator ≡ 9 → ⊥) → Operands x r
   operands always r n m f = absurd (m .1)
   operands never r n m f = absurd (m .1)
@@ -128,26 +141,8 @@ module _ (G : Graph) (P : List Row) where
   operands not-returns r n m f = absurd (m .1)
   operands (in-method c) r n m f = absurd (m .1)
   operands (not-in-method c) r n m f = absurd (m .1)
-  operands (both c d) r n m f = record {
-    a = c;
-    b = d;
-    is-a = refl;
-    is-b = refl;
-    a-row = ltb→lt c (length P) (and-l (ltb c (length P)) (ltb d (length P)) n);
-    b-row = ltb→lt d (length P) (and-r (ltb c (length P)) (ltb d (length P)) n);
-    names-one = one-of (eqb (m .0) 0) c d r (m .1);
-    by-operator = inl (refl, refl);
-  }
-  operands (either c d) r n m f = record {
-    a = c;
-    b = d;
-    is-a = refl;
-    is-b = refl;
-    a-row = ltb→lt c (length P) (and-l (ltb c (length P)) (ltb d (length P)) n);
-    b-row = ltb→lt d (length P) (and-r (ltb c (length P)) (ltb d (length P)) n);
-    names-one = one-of (eqb (m .0) 0) c d r (m .1);
-    by-operator = inr (refl, refl);
-  }
+  operands (both c d) r n m f = two-rows (both c d) r c d n (one-of (eqb (m .0) 0) c d r (m .1)) refl refl (inl (refl, refl))
+  operands (either c d) r n m f = two-rows (either c d) r c d n (one-of (eqb (m .0) 0) c d r (m .1)) refl refl (inr (refl, refl))
   operands (box l c) r n m f = absurd (f refl)
 
   pub box-operand : (x : Row) (r : ℕ) → Names x r → (row-held x) .operator ≡ 9 → x ≡ box ((row-held x) .a) r

@@ -3,6 +3,7 @@ use mathlib.Core.Path.{_≡_, refl, sym, ap, subst, _∙_}
 use mathlib.Core.Logic.{_⊎_, inl, inr}
 use mathlib.Core.Bool.{Bool, true, false, not, cond, _&&_}
 use mathlib.Core.List.{List, List·Memᴰ}
+use mathlib.Core.Option.{Option, some}
 use Prim.Native.Nat.{ℕ, zero, suc, _+_, _*_, _/_, _%_, _≤_, _<_}
 use native.Mathlib.Decide.{decLe, decLt}
 use native.Mathlib.Omega.{arith}
@@ -51,6 +52,10 @@ module _ (G : Graph) (P : List Row) where
       at : (x : Row) → row P q ≡ x → (i : ℕ) → i < 2 → T (is-row (named x i) r) → (j : ℕ) × (j / 2 ≡ q) × (j < 2 * q + 2) × T (uses P r j)
       at x e i h t = place i h (subst (λ (y : Row). T (is-row (named y i) r)) (sym e) t)
 
+      by : (x : Row) (a b : ℕ) → row P q ≡ x → ((i : ℕ) → named x i ≡ some (cond (eqb i 0) a b)) → (a ≡ r) ⊎ (b ≡ r) → (j : ℕ) × (j / 2 ≡ q) × (j < 2 * q + 2) × T (uses P r j)
+      by x a b e f (inl d) = at x e 0 (omega arith) (subst (λ (o : Option ℕ). T (is-row o r)) (sym (f 0)) (eq-eqb a r d))
+      by x a b e f (inr d) = at x e 1 (omega arith) (subst (λ (o : Option ℕ). T (is-row o r)) (sym (f 1)) (eq-eqb b r d))
+
       go : (x : Row) → row P q ≡ x → Leans G x u v r → (j : ℕ) × (j / 2 ≡ q) × (j < 2 * q + 2) × T (uses P r j)
       go always e m = absurd m
       go never e m = absurd m
@@ -58,16 +63,8 @@ module _ (G : Graph) (P : List Row) where
       go not-returns e m = absurd m
       go (in-method a) e m = absurd m
       go (not-in-method a) e m = absurd m
-      go (both a b) e m = by (m .1)
-        where
-          by : (a ≡ r) ⊎ (b ≡ r) → (j : ℕ) × (j / 2 ≡ q) × (j < 2 * q + 2) × T (uses P r j)
-          by (inl d) = at (both a b) e 0 (omega arith) (eq-eqb a r d)
-          by (inr d) = at (both a b) e 1 (omega arith) (eq-eqb b r d)
-      go (either a b) e m = by (m .1)
-        where
-          by : (a ≡ r) ⊎ (b ≡ r) → (j : ℕ) × (j / 2 ≡ q) × (j < 2 * q + 2) × T (uses P r j)
-          by (inl d) = at (either a b) e 0 (omega arith) (eq-eqb a r d)
-          by (inr d) = at (either a b) e 1 (omega arith) (eq-eqb b r d)
+      go (both a b) e m = by (both a b) a b e (λ i. refl) (m .1)
+      go (either a b) e m = by (either a b) a b e (λ i. refl) (m .1)
       go (box l b) e m = at (box l b) e 1 (omega arith) (eq-eqb b r ((obliged-box l b ((m .0) .label) r (m .4)) .1))
 
   -- all rows are done with a pair when each place that names its row is
@@ -123,6 +120,10 @@ module _ (G : Graph) (P : List Row) (flow : Flow G) (wf : Property P) where
   leans-in : (g r t q : ℕ) → r < length P → Leans G (row P r) g t q → g < size G → (t < size G) × (q < length P)
   leans-in g r t q hr l hg = go (row P r) (wf .names-rows r hr) l
     where
+      by : (a b : ℕ) → T (ltb a (length P) && ltb b (length P)) → (a ≡ q) ⊎ (b ≡ q) → q < length P
+      by a b n (inl d) = subst (λ (y : ℕ). y < length P) d (ltb→lt a (length P) (and-l (ltb a (length P)) (ltb b (length P)) n))
+      by a b n (inr d) = subst (λ (y : ℕ). y < length P) d (ltb→lt b (length P) (and-r (ltb a (length P)) (ltb b (length P)) n))
+
       go : (x : Row) → T (names (length P) x) → Leans G x g t q → (t < size G) × (q < length P)
       go always n m = absurd m
       go never n m = absurd m
@@ -130,16 +131,8 @@ module _ (G : Graph) (P : List Row) (flow : Flow G) (wf : Property P) where
       go not-returns n m = absurd m
       go (in-method a) n m = absurd m
       go (not-in-method a) n m = absurd m
-      go (both a b) n m = (subst (λ (y : ℕ). y < size G) (m .0) hg, by (m .1))
-        where
-          by : (a ≡ q) ⊎ (b ≡ q) → q < length P
-          by (inl d) = subst (λ (y : ℕ). y < length P) d (ltb→lt a (length P) (and-l (ltb a (length P)) (ltb b (length P)) n))
-          by (inr d) = subst (λ (y : ℕ). y < length P) d (ltb→lt b (length P) (and-r (ltb a (length P)) (ltb b (length P)) n))
-      go (either a b) n m = (subst (λ (y : ℕ). y < size G) (m .0) hg, by (m .1))
-        where
-          by : (a ≡ q) ⊎ (b ≡ q) → q < length P
-          by (inl d) = subst (λ (y : ℕ). y < length P) d (ltb→lt a (length P) (and-l (ltb a (length P)) (ltb b (length P)) n))
-          by (inr d) = subst (λ (y : ℕ). y < length P) d (ltb→lt b (length P) (and-r (ltb a (length P)) (ltb b (length P)) n))
+      go (both a b) n m = (subst (λ (y : ℕ). y < size G) (m .0) hg, by a b n (m .1))
+      go (either a b) n m = (subst (λ (y : ℕ). y < size G) (m .0) hg, by a b n (m .1))
       go (box l b) n m = (subst (λ (y : ℕ). y < size G) (m .3) (flow .to-node (m .0) (m .1)), obliged-named (length P) (box l b) ((m .0) .label) q n (m .4))
 
   -- what turns false at level k + 2 leans on a pair of rank k + 1

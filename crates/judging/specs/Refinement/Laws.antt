@@ -6,6 +6,7 @@ use mathlib.Core.List.{List, List·Memᴰ}
 use Prim.Native.Nat.{ℕ, zero, suc, _+_, _*_, _/_, _%_, _^_, _≤_, _<_}
 use native.Mathlib.Nat.{le-refl}
 use native.Mathlib.Decide.{ℕ-discrete, decLt}
+use native.Mathlib.Numerals.{add-one}
 use native.Mathlib.Omega.{arith}
 use lib.Dec.{T, T-not, not-T, eqb}
 use lib.ListN.{length, getD}
@@ -298,3 +299,14 @@ module _ (G H : Graph) where
           off : (c : Bool) → T (not c) → c ≡ false
           off true t = absurd t
           off false t = refl
+
+-- ---- dropping, as the code does it
+
+pub drop-yes : (w w₁ w₂ : List ℕ) (tail g h p : ℕ) → p ≡ code g h → rel w g h ≡ true → w₁ ≡ drop-bit w 0 p → w₂ ≡ put-cell w₁ 25888 2 tail p
+    → (tail + 1 ≡ tail-after w tail g h) × (w₂ ≡ dropped w tail g h)
+unfolding dropped
+drop-yes w w₁ w₂ tail g h p e z a b = rw (b, a, e, z, add-one tail) (refl, refl)
+
+pub drop-no : (w : List ℕ) (tail g h : ℕ) → rel w g h ≡ false → (tail ≡ tail-after w tail g h) × (w ≡ dropped w tail g h)
+unfolding dropped
+drop-no w tail g h e = rw e (refl, refl)

@@ -111,7 +111,8 @@ each-append : {A B : Type 0} (f : A → List B) (xs ys : List A) → each f (xs 
 each-append f [] ys = refl
 each-append f (x ∷ xs) ys = ap (λ (zs : List _). f x ++ zs) (each-append f xs ys) ∙ sym (append-assoc (f x) (each f xs) (each f ys))
 
-put-next : (l xs ys : List ℕ) → put-at (put-at l 0 xs) (length xs) ys ≡ put-at l 0 (xs ++ ys)
+-- a run stored after a run
+pub put-next : (l xs ys : List ℕ) → put-at (put-at l 0 xs) (length xs) ys ≡ put-at l 0 (xs ++ ys)
 put-next l xs ys =
     let z : 0 + length xs ≡ length xs = omega arith in
     let m : List ℕ = xs ++ drop (length xs) l in

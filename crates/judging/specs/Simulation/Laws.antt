@@ -2,22 +2,23 @@
 -- and the bytes written hold the relation.
 use mathlib.Core.Path.{_≡_, refl, sym, ap, subst, _∙_}
 use mathlib.Core.Logic.{_⊎_, inl, inr, _↔_}
-use mathlib.Core.Bool.{Bool, false, not, _&&_}
+use mathlib.Core.Bool.{Bool, true, false, not, _&&_}
 use mathlib.Core.List.{List, List·Memᴰ}
-use Prim.Native.Nat.{ℕ, zero, suc, _+_, _*_, _/_, _%_, _<_}
+use Prim.Native.Nat.{ℕ, zero, suc, _+_, _*_, _/_, _%_, _≤_, _<_}
 use native.Mathlib.Nat.{zero-add}
 use native.Mathlib.Omega.{arith}
-use lib.Dec.{T, eqb, ltb, ltb→lt, lt→ltb, eqb→eq, T-not}
+use lib.Dec.{T, eqb, ltb, ltb→lt, lt→ltb, eqb→eq, T-not, not-T}
 use lib.ListN.{length, getD}
 use Rattle.files.specs.Basics.Binary.{value, bit, value-bit}
-use Rattle.files.specs.Basics.Least.{least-passes, least-before, least-lt}
+use Rattle.files.specs.Basics.Least.{least-passes, least-before, least-hit, least-lt}
 use Rattle.files.specs.Basics.Lists.{each, span, length-each, getD-each}
 use Rattle.files.specs.Basics.Settle.{Below, settled}
 use Rattle.files.specs.Basics.Tables.{table, getD-table, length-span, getD-span}
-use Rattle.files.specs.Basics.Tests.{imp, imp-i, imp-e, and-l, and-r, and-i, same, same→eq, same-refl, all, all-i, all-e, any-i, any-e, upto, upto-i, upto-e, grid, grid-i, length-grid, eq-eqb, one, not-all, not-imp, not-and, not-not}
+use Rattle.files.specs.Basics.Tests.{imp, imp-i, imp-e, and-l, and-r, and-i, same, same→eq, same-refl, all, all-i, all-e, any-i, any-e, upto, upto-i, upto-e, grid, grid-i, length-grid, eq-eqb, one, not-all, not-imp, not-and, not-not, T-eq}
 use Rattle.files.specs.Graph.{Node, Edge, Graph, size, node, Flow}
 use Rattle.files.specs.Line.{relation-line}
 use Rattle.files.specs.Line.Laws.{line-size}
+use Rattle.judging.specs.Sheets.Laws.{least-at, least-none}
 use Rattle.judging.specs.Simulation.{Simulation, Simulates, alike, matching, keeps, refined, related, covered, simulates, uncovered, relation-bytes}
 
 pub alike-e : (a b : Node) → T (alike a b) → (b .method ≡ a .method) × (b .ret ≡ a .ret)
@@ -32,7 +33,7 @@ unfolding alike
 alike-i a b p q = and-i (eqb (b .method) (a .method)) (same (b .ret) (a .ret)) (eq-eqb (b .method) (a .method) p) (rw q (same-refl (a .ret)))
 
 -- what it is to be matching, as an edge
-abbrev Answer : Graph → (ℕ → ℕ → Type 0) → ℕ → Edge → Type 0
+abbrev pub Answer : Graph → (ℕ → ℕ → Type 0) → ℕ → Edge → Type 0
 Answer H R h e = (d : Edge) × List·Memᴰ d (H .edges) × (d .from ≡ h) × (d .label ≡ e .label) × R (e .to) (d .to)
 
 matching-e : (H : Graph) (v : ℕ → ℕ → Bool) (h : ℕ) (e : Edge) → T (matching H v h e) → Answer H (λ g h. T (v g h)) h e
@@ -57,12 +58,12 @@ matching-i H v h e a =
 
 module _ (G H : Graph) where
   -- the fact behind one refinement
-  record Keeps (R : ℕ → ℕ → Type 0) (g h : ℕ) : Type 0 where
-    same-method : (node H h) .method ≡ (node G g) .method
-    same-ret : (node H h) .ret ≡ (node G g) .ret
-    matched : (e : Edge) → List·Memᴰ e (G .edges) → e .from ≡ g → Answer H R h e
+  pub record Keeps (R : ℕ → ℕ → Type 0) (g h : ℕ) : Type 0 where
+    pub same-method : (node H h) .method ≡ (node G g) .method
+    pub same-ret : (node H h) .ret ≡ (node G g) .ret
+    pub matched : (e : Edge) → List·Memᴰ e (G .edges) → e .from ≡ g → Answer H R h e
 
-  keeps-e : (v : ℕ → ℕ → Bool) (g h : ℕ) → T (keeps G H v g h) → Keeps (λ g h. T (v g h)) g h
+  pub keeps-e : (v : ℕ → ℕ → Bool) (g h : ℕ) → T (keeps G H v g h) → Keeps (λ g h. T (v g h)) g h
   unfolding keeps
   keeps-e v g h t =
       let a = alike-e (node G g) (node H h) (and-l (alike (node G g) (node H h)) (all (λ (e : Edge). imp (eqb (e .from) g) (matching H v h e)) (G .edges)) t) in
@@ -72,7 +73,7 @@ module _ (G H : Graph) where
         matched = λ e m p. matching-e H v h e (imp-e (eqb (e .from) g) (matching H v h e) (all-e _ (G .edges) (and-r (alike (node G g) (node H h)) (all (λ (e : Edge). imp (eqb (e .from) g) (matching H v h e)) (G .edges)) t) e m) (eq-eqb _ _ p));
       }
 
-  keeps-i : (v : ℕ → ℕ → Bool) (g h : ℕ) → Keeps (λ g h. T (v g h)) g h → T (keeps G H v g h)
+  pub keeps-i : (v : ℕ → ℕ → Bool) (g h : ℕ) → Keeps (λ g h. T (v g h)) g h → T (keeps G H v g h)
   unfolding keeps
   keeps-i v g h k =
       and-i (alike (node G g) (node H h)) _ (alike-i (node G g) (node H h) (k .same-method) (k .same-ret))
@@ -160,7 +161,7 @@ module _ (G H : Graph) (fg : Flow G) (fh : Flow H) where
   pub largest : (R : ℕ → ℕ → Type 0) → Simulation G H R → (g h : ℕ) → R g h → T (related G H g h)
   largest R s g h r = related-i g h (s .of-first g h r) (s .of-second g h r) (sim-refined R s (size G * size H) g h r)
 
-  covered-e : (g : ℕ) → T (covered G H g) → (h : ℕ) × T ((node H h) .entry) × T (related G H g h)
+  pub covered-e : (g : ℕ) → T (covered G H g) → (h : ℕ) × T ((node H h) .entry) × T (related G H g h)
   unfolding covered
   covered-e g t =
       let r = any-e (λ (h : ℕ). (node H h) .entry && related G H g h) (upto (size H)) t in
@@ -222,6 +223,53 @@ module _ (G H : Graph) where
       let c = least-passes lacks (size G) (a .0) h p in
       (least-lt lacks (size G) (a .0) h p, and-l ((node G (uncovered G H)) .entry) (not (covered G H (uncovered G H))) c, and-r ((node G (uncovered G H)) .entry) (not (covered G H (uncovered G H))) c)
 
+-- ---- as a scan of nodes comes to them
+
+off : (b : Bool) → T (not b) → b ≡ false
+off true t = absurd t
+off false t = refl
+
+module _ (G H : Graph) where
+  -- h is an entry that is related to g
+  abbrev pub meets : ℕ → ℕ → Bool
+  meets g h = (node H h) .entry && related G H g h
+
+  pub covered-at : (g h : ℕ) → h < size H → T (meets g h) → covered G H g ≡ true
+  unfolding covered
+  covered-at g h l t = T-eq (covered G H g) (any-i (meets g) (upto (size H)) h (upto-i (size H) h l) t)
+
+  pub covered-none : (g : ℕ) → ((h : ℕ) → h < size H → T (not (meets g h))) → covered G H g ≡ false
+  unfolding covered
+  covered-none g f = off (covered G H g) (not-T (covered G H g) (λ t.
+      let r = any-e (meets g) (upto (size H)) t in
+      T-not (meets g (r .0)) (f (r .0) (upto-e (size H) (r .0) (r .1))) (r .2)))
+
+  -- g is an entry that is not covered
+  abbrev pub misses : ℕ → Bool
+  misses g = (node G g) .entry && not (covered G H g)
+
+  pub uncovered-at : (g : ℕ) → g < size G → ((u : ℕ) → u < g → T (not (misses u))) → T (misses g) → uncovered G H ≡ g
+  unfolding uncovered
+  uncovered-at g h f t = least-at misses (size G) g h f t
+
+  pub uncovered-none : ((u : ℕ) → u < size G → T (not (misses u))) → uncovered G H ≡ size G
+  unfolding uncovered
+  uncovered-none f = least-none misses (size G) f
+
+  -- the verdict, by the entry that a "no" names
+  pub yes-past : size G ≤ uncovered G H → simulates G H ≡ true
+  yes-past h = T-eq (simulates G H) (simulates-covers G H .1 (λ g l t. uncovered-lowest G H g (omega arith) t))
+
+  uncovered-misses : uncovered G H < size G → T (misses (uncovered G H))
+  unfolding uncovered
+  uncovered-misses h = least-hit misses (size G) h
+
+  pub no-below : uncovered G H < size G → simulates G H ≡ false
+  no-below h = off (simulates G H) (not-T (simulates G H) (λ t.
+      let at = uncovered G H in
+      let m = uncovered-misses h in
+      T-not (covered G H at) (and-r ((node G at) .entry) (not (covered G H at)) m) (simulates-covers G H .0 t at h (and-l ((node G at) .entry) (not (covered G H at)) m))))
+
 -- ---- the bytes of the relation
 
 -- bit h of a line
@@ -249,3 +297,8 @@ module _ (G H : Graph) where
       ap (λ (n : ℕ). bit n (h % 8)) (getD-each 32 (λ (g : ℕ). relation-line (related G H g)) (λ g. line-size (related G H g)) (span 0 (size G)) g (h / 8) 0 0 b a
       ∙ ap (λ (i : ℕ). getD (relation-line (related G H i)) (h / 8) 0) (getD-span 0 (size G) g 0 hg ∙ zero-add g))
       ∙ line-bit (related G H g) h hh
+
+  -- a line for each node
+  pub relation-lines : relation-bytes G H ≡ each (λ (g : ℕ). relation-line (related G H g)) (span 0 (size G))
+  unfolding relation-bytes
+  relation-lines = refl

@@ -1,0 +1,32 @@
+use Rattle.judging.proofs.DecideLaws.{desk-strides}
+use Rattle.judging.proofs.SimulateLaws.{does-desk}
+use Rattle.judging.specs.Compare.{compared-answer}
+use borrow.Author.Needs.{needs}
+use Rattle.judging.proofs.compare.Statement.{statement}
+use Rattle.judging.proofs.compare.Tie as tie
+
+-- src/lib.rt:36:56
+desk-requires : tie.Need-desk-requires
+desk-requires c κs = search needs
+
+-- src/lib.rt:36:5
+compare-within-requires : tie.Need-compare-within-requires
+compare-within-requires c κs = desk-strides (c .desk .result) (c .desk .ensures)
+
+-- src/lib.rt:33:1
+same-length : tie.Need-same-length
+same-length c = search needs
+
+-- src/lib.rt:33:1
+same-length-2 : tie.Need-same-length-2
+same-length-2 c = search needs
+
+-- src/lib.rt:33:1
+returns : tie.Need-returns
+returns c = let k = c .before .before .before .before .before .before .before .before .before .before .before .before in
+    let j = c .before .before .before .before .compare-within in
+    does-desk (c .before .before .before .before .before .desk .result) (k .args .first .now) (k .args .second .now) (k .args .out .now) (k .args .work .now) (j .last .1 .1 .0) (j .last .1 .1 .1 .0) (compared-answer (j .result)) (c .before .before .before .before .before .desk .ensures) (j .ensures)
+
+pub compare-spec : {M : Type 1} → statement M
+compare-spec =
+    tie.close (tie.spec desk-requires compare-within-requires same-length same-length-2 returns)

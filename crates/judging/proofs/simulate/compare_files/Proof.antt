@@ -1,0 +1,55 @@
+use Rattle.judging.proofs.SimulateLaws.{file-counts, first-refused, first-passed}
+use Rattle.judging.specs.Compare.{compared-answer}
+use borrow.Author.Needs.{needs}
+use Rattle.judging.proofs.simulate.compare_files.Statement.{statement}
+use Rattle.judging.proofs.simulate.compare_files.Tie as tie
+
+-- src/simulate.rt:105:11
+check-graph-requires : tie.Need-check-graph-requires
+check-graph-requires c κs = search needs
+
+-- src/simulate.rt:106:26
+enum-known-refusal : tie.Need-enum-known-refusal
+enum-known-refusal c = search needs
+
+-- src/simulate.rt:107:29
+enum-known-nodes : tie.Need-enum-known-nodes
+enum-known-nodes c = search needs
+
+-- src/simulate.rt:108:13
+compare-second-requires : tie.Need-compare-second-requires
+compare-second-requires c κs = let k = c .before .before .before .before .before .before .before .before .before .before in
+    let x = c .before .before .before .nodes .given in
+    let n = file-counts (k .args .limits) (k .args .first .now) 1 (c .before .before .before .before .before .check-graph .result) (x .0 .0) (x .0 .1 .0) (c .before .before .before .before .before .check-graph .ensures) (x .1) in
+    (n .0, (n .1, (n .2, (k .pre .0, k .pre .1))))
+
+-- src/simulate.rt:101:1
+returns : tie.Need-returns
+returns c = let k = c .before .before .before .before .before .before .before .before in first-refused (k .args .limits) (k .args .first .now) (k .args .second .now) (k .args .out .now) (c .before .before .before .check-graph .result) (c .before .refusal .given .0 .0) (c .before .before .before .check-graph .ensures) (c .before .refusal .given .1)
+
+-- src/simulate.rt:101:1
+same-length : tie.Need-same-length
+same-length c = search needs
+
+-- src/simulate.rt:101:1
+same-length-2 : tie.Need-same-length-2
+same-length-2 c = search needs
+
+-- src/simulate.rt:101:1
+returns-2 : tie.Need-returns-2
+returns-2 c = let k = c .before .before .before .before .before .before .before .before .before .before .before .before .before .before .before in
+    let x = c .before .before .before .before .before .before .before .before .nodes .given in
+    first-passed (k .args .limits) (k .args .first .now) (k .args .second .now) (k .args .out .now) (c .before .before .before .before .before .before .before .before .before .before .check-graph .result) (x .0 .0) (x .0 .1 .0) (c .before .before .before .before .compare-second .last .1 .1 .0) (compared-answer (c .before .before .before .before .compare-second .result)) (c .before .before .before .before .before .before .before .before .before .before .check-graph .ensures) (x .1) (c .before .before .before .before .compare-second .ensures)
+
+pub compare-files-spec : {M : Type 1} → statement M
+compare-files-spec =
+    tie.close
+    (tie.spec
+    check-graph-requires
+    enum-known-refusal
+    enum-known-nodes
+    compare-second-requires
+    returns
+    same-length
+    same-length-2
+    returns-2)

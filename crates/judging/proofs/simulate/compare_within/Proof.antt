@@ -1,0 +1,58 @@
+use mathlib.Core.Path.{sym, ap, _∙_}
+use native.Mathlib.Omega.{arith}
+use Prim.Native.Nat.{ℕ}
+use lib.ListN.{replicate}
+use Rattle.judging.proofs.SimulateLaws.{does-nothing, does-compare}
+use Rattle.judging.specs.Compare.{compared-answer}
+use borrow.Author.Needs.{needs}
+use Rattle.judging.proofs.simulate.compare_within.Statement.{statement}
+use Rattle.judging.proofs.simulate.compare_within.Tie as tie
+
+-- src/simulate.rt:119:34
+whole-requires : tie.Need-whole-requires
+whole-requires c κs = search needs
+
+-- src/simulate.rt:119:9
+returns : tie.Need-returns
+returns c = let k = c .before .before .before .before .before .before in does-nothing (k .args .limits) (k .args .first .now) (k .args .second .now) (k .args .out .now) (k .args .work .now) (c .whole .result) (c .before .if1 .taken) (c .whole .ensures)
+
+-- src/simulate.rt:121:5
+clear-requires : tie.Need-clear-requires
+clear-requires c κs = search needs
+
+-- src/simulate.rt:122:9
+compare-files-requires : tie.Need-compare-files-requires
+compare-files-requires c κs = let k = c .before .before .before .before .before .before .before .before .before .before .before in
+    let x = c .before .before .before .before .clear in
+    (k .pre, (x .ensures ∙ ap (λ (n : ℕ). replicate n 0) (sym (x .kept .0)), omega (arith, x .kept .0, c .before .before .before .before .before .before .if1 .left)))
+
+-- src/simulate.rt:123:5
+clear-requires-2 : tie.Need-clear-requires-2
+clear-requires-2 c κs = search needs
+
+-- src/simulate.rt:114:1
+same-length : tie.Need-same-length
+same-length c = search needs
+
+-- src/simulate.rt:114:1
+same-length-2 : tie.Need-same-length-2
+same-length-2 c = search needs
+
+-- src/simulate.rt:114:1
+returns-2 : tie.Need-returns-2
+returns-2 c = let k = c .before .before .before .before .before .before .before .before .before .before .before .before .before .before .before .before .before .before .before .before in
+    let j = c .before .before .before .before .before .before .before .before .compare-files in
+    does-compare (k .args .limits) (k .args .first .now) (k .args .second .now) (k .args .out .now) (k .args .work .now) (j .last .1 .1 .0) (c .before .before .clear2 .last .0) (compared-answer (j .result)) (c .before .before .before .before .before .before .before .before .before .before .before .before .before .before .before .if1 .left) (j .ensures) (c .before .before .clear2 .ensures ∙ ap (λ (n : ℕ). replicate n 0) (j .kept .1 .1 .1 .0 ∙ c .before .before .before .before .before .before .before .before .before .before .before .before .before .clear .kept .0))
+
+pub compare-within-spec : {M : Type 1} → statement M
+compare-within-spec =
+    tie.close
+    (tie.spec
+    whole-requires
+    returns
+    clear-requires
+    compare-files-requires
+    clear-requires-2
+    same-length
+    same-length-2
+    returns-2)

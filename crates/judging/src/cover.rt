@@ -1,0 +1,82 @@
+// The largest simulation once it is found: which entries it covers, the lowest that it does not, and its bytes.
+ghost use mathlib.Core.Path.{_≡_};
+ghost use mathlib.Core.Bool.{_&&_, not};
+ghost use mathlib.Core.List.{_++_};
+ghost use Prim.Native.Nat.{_*_, _≤_, _<_};
+ghost use lib.ListN.{length, drop};
+ghost use Rattle.files.specs.Graph.{node};
+ghost use Rattle.files.specs.Decode.{decode-graph};
+ghost use Rattle.judging.specs.Refinement.{Both, Settled};
+ghost use Rattle.judging.specs.Simulation.{covered, uncovered, relation-bytes};
+use crate::sizes::Sizes;
+use files::cells::has_bit;
+use files::encode::LINE;
+use files::encode::put_line;
+use files::graph::NodeAt;
+use files::graph::node_at;
+
+// Whether node h of the second graph is an entry.
+fn is_entry(first: &[u8], second: &[u8], s: Sizes, h: usize) -> bool
+    requires { ⌜ ((Both s (now first) (now second))) × (h < s .nodes2) ⌝ }
+    ensures { λ t. ⌜ t ≡ (node (decode-graph (now (second .entry))) h) .entry ⌝ }
+{
+    let NodeAt::Is(v) = node_at(second, h, 2) else {
+        return false;
+    };
+    v.entry
+}
+
+// Whether an entry of the second graph is related to node g.
+fn is_covered(first: &[u8], second: &[u8], s: Sizes, work: &[u8], g: usize) -> bool
+    requires { ⌜ ((Both s (now first) (now second))) × ((g < s .nodes) × ((156960 ≤ length (now work)) × (Settled (decode-graph (now first)) (decode-graph (now second)) (now work)))) ⌝ }
+    ensures { λ t. ⌜ t ≡ covered (decode-graph (now (first .entry))) (decode-graph (now (second .entry))) g ⌝ }
+{
+    let mut h = 0;
+    while h < s.nodes2 {
+        let entry = is_entry(first, second, s, h);
+        if entry & has_bit(work, 0, Sizes::STRIDE * g + h) {
+            return true;
+        }
+        h += 1;
+    }
+    false
+}
+
+// Whether node g is an entry that no entry of the second graph is related to.
+fn is_uncovered(first: &[u8], second: &[u8], s: Sizes, work: &[u8], g: usize) -> bool
+    requires { ⌜ ((Both s (now first) (now second))) × ((g < s .nodes) × ((156960 ≤ length (now work)) × (Settled (decode-graph (now first)) (decode-graph (now second)) (now work)))) ⌝ }
+    ensures { λ t. ⌜ t ≡ ((node (decode-graph (now (first .entry))) g) .entry && not (covered (decode-graph (now (first .entry))) (decode-graph (now (second .entry))) g)) ⌝ }
+{
+    let NodeAt::Is(v) = node_at(first, g, 1) else {
+        return false;
+    };
+    let covered = is_covered(first, second, s, work, g);
+    v.entry & !covered
+}
+
+// The lowest uncovered entry, or the number of nodes.
+pub fn first_uncovered(first: &[u8], second: &[u8], s: Sizes, work: &[u8]) -> usize
+    requires { ⌜ ((Both s (now first) (now second))) × ((156960 ≤ length (now work)) × (Settled (decode-graph (now first)) (decode-graph (now second)) (now work))) ⌝ }
+    ensures { λ t. ⌜ t ≡ uncovered (decode-graph (now (first .entry))) (decode-graph (now (second .entry))) ⌝ }
+{
+    let mut g = 0;
+    while g < s.nodes {
+        if is_uncovered(first, second, s, work, g) {
+            return g;
+        }
+        g += 1;
+    }
+    g
+}
+
+// Writes the relation, 32 bytes for each node of the first graph.
+pub fn write_relation(first: &[u8], second: &[u8], s: Sizes, work: &[u8], out: &mut [u8])
+    requires { ⌜ ((Both s (now first) (now second))) × ((156960 ≤ length (now work)) × ((Settled (decode-graph (now first)) (decode-graph (now second)) (now work)) × (32 * s .nodes ≤ length (now out)))) ⌝ }
+    ensures { λ _. ⌜ now (out .exit) ≡ relation-bytes (decode-graph (now (first .entry))) (decode-graph (now (second .entry))) ++ drop (length (relation-bytes (decode-graph (now (first .entry))) (decode-graph (now (second .entry))))) (now (out .entry)) ⌝ }
+{
+    let mut g = 0;
+    while g < s.nodes {
+        put_line(out, g, work, LINE * g);
+        g += 1;
+    }
+}

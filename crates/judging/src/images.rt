@@ -1,0 +1,102 @@
+// Whole images: for one node v of the first graph and each label, the nodes of the second graph that an edge of that label leads from to what v is related to; and
+// narrowing by them what the nodes with an edge to v are related to. `match_all` states that after it every edge of the first graph is matched, by what is related or
+// by what was dropped since.
+ghost use mathlib.Core.Path.{_≡_};
+ghost use Prim.Native.Nat.{ℕ, _+_, _≤_, _<_};
+ghost use lib.Dec.{T};
+ghost use lib.ListN.{length};
+ghost use Rattle.files.specs.Decode.{decode-graph};
+ghost use Rattle.judging.specs.Chains.{Outside};
+ghost use Rattle.judging.specs.Refinement.{Both, rel, image, edge, image-after, Reaches, Imaged, Refining, Shrank, NodeMatched, AllMatched};
+use crate::relation::drop_pair;
+use crate::sizes::Sizes;
+use files::cells::clear;
+use files::cells::get16;
+use files::cells::has_bit;
+use files::cells::put_bit;
+use files::encode::LINE;
+use files::graph::EdgeAt;
+use files::graph::edge_at;
+
+// Puts where edge j of the second graph comes from into the image of its label, if it leads to what v is related to.
+fn image_edge(first: &[u8], second: &[u8], s: Sizes, work: &mut [u8], v: usize, j: usize)
+    requires { ⌜ ((Both s (now first) (now second))) × ((v < s .nodes) × ((j < s .edges2) × (156960 ≤ length (now work)))) ⌝ }
+    ensures { λ _. ⌜ (now (work .exit)) ≡ image-after (decode-graph (now (second .entry))) (now (work .entry)) v j ⌝ }
+{
+    let EdgeAt::Is(e) = edge_at(second, s.nodes2, j, 2) else {
+        return;
+    };
+    if has_bit(work, 0, Sizes::STRIDE * v + e.to) {
+        put_bit(work, Sizes::IMAGES + LINE * (e.label as usize), e.from);
+    }
+}
+
+// The images of node v of the first graph, one for each label.
+fn images(first: &[u8], second: &[u8], s: Sizes, work: &mut [u8], v: usize)
+    requires { ⌜ ((Both s (now first) (now second))) × ((v < s .nodes) × (156960 ≤ length (now work))) ⌝ }
+    ensures { λ _. ⌜ (Imaged (decode-graph (now (second .entry))) (now (work .entry)) v (now (work .exit))) × (Outside 8192 8480 (now (work .entry)) (now (work .exit))) ⌝ }
+{
+    clear(&mut work[Sizes::IMAGES..Sizes::FIRST_HEADS]);
+    let mut j = 0;
+    while j < s.edges2 {
+        image_edge(first, second, s, work, v, j);
+        j += 1;
+    }
+}
+
+// Drops from what edge e of the first graph comes from all that is not in the image of its label.
+fn narrow(first: &[u8], second: &[u8], s: Sizes, work: &mut [u8], tail: usize, e: usize) -> usize
+    requires { ⌜ ((Both s (now first) (now second))) × ((e < s .edges) × ((Refining (decode-graph (now first)) (decode-graph (now second)) tail (now work)) × ((h : ℕ) → h < 256 → Reaches (decode-graph (now second)) (λ (x : ℕ). T (rel (now work) ((edge (decode-graph (now first)) e) .to) x)) h ((edge (decode-graph (now first)) e) .label) → T (image (now work) ((edge (decode-graph (now first)) e) .label) h)))) ⌝ }
+    ensures { λ t. ⌜ (Shrank (decode-graph (now (first .entry))) (decode-graph (now (second .entry))) tail t (now (work .entry)) (now (work .exit))) × ((h : ℕ) → h < 256 → T (rel (now (work .exit)) ((edge (decode-graph (now (first .entry))) e) .from) h) → T (image (now (work .entry)) ((edge (decode-graph (now (first .entry))) e) .label) h)) ⌝ }
+{
+    let EdgeAt::Is(x) = edge_at(first, s.nodes, e, 1) else {
+        return tail;
+    };
+    let base = Sizes::IMAGES + LINE * (x.label as usize);
+    let mut h = 0;
+    let mut end = tail;
+    while h < s.nodes2 {
+        if !has_bit(work, base, h) {
+            end = drop_pair(work, end, x.from, h);
+        }
+        h += 1;
+    }
+    end
+}
+
+// Narrows by the images of node v all that an edge of the first graph leads from to v.
+fn narrow_all(
+    first: &[u8],
+    second: &[u8],
+    s: Sizes,
+    work: &mut [u8],
+    tail: usize,
+    v: usize,
+) -> usize
+    requires { ⌜ ((Both s (now first) (now second))) × ((v < s .nodes) × ((Refining (decode-graph (now first)) (decode-graph (now second)) tail (now work)) × (Imaged (decode-graph (now second)) (now work) v (now work)))) ⌝ }
+    ensures { λ t. ⌜ (Shrank (decode-graph (now (first .entry))) (decode-graph (now (second .entry))) tail t (now (work .entry)) (now (work .exit))) × (NodeMatched (decode-graph (now (first .entry))) (decode-graph (now (second .entry))) 0 t (now (work .exit)) v) ⌝ }
+{
+    let mut at = get16(work, Sizes::FIRST_HEADS, v) as usize;
+    let mut end = tail;
+    while at > 0 {
+        let e = at - 1;
+        end = narrow(first, second, s, work, end, e);
+        at = get16(work, Sizes::FIRST_NEXTS, e) as usize;
+    }
+    end
+}
+
+// Narrows by the images of every node. The queue's end.
+pub fn match_all(first: &[u8], second: &[u8], s: Sizes, work: &mut [u8]) -> usize
+    requires { ⌜ ((Both s (now first) (now second))) × (Refining (decode-graph (now first)) (decode-graph (now second)) 0 (now work)) ⌝ }
+    ensures { λ t. ⌜ (Refining (decode-graph (now (first .entry))) (decode-graph (now (second .entry))) t (now (work .exit))) × (AllMatched (decode-graph (now (first .entry))) (decode-graph (now (second .entry))) 0 t (now (work .exit))) ⌝ }
+{
+    let mut v = 0;
+    let mut end = 0;
+    while v < s.nodes {
+        images(first, second, s, work, v);
+        end = narrow_all(first, second, s, work, end, v);
+        v += 1;
+    }
+    end
+}
