@@ -31,7 +31,12 @@ struct tintboulder_answer tintboulder_check_interface(const uint8_t *file, size_
 struct tintboulder_answer tintboulder_judge(const uint8_t *graph, size_t graph_length, const uint8_t *property, size_t property_length, uint8_t *out,
                                             size_t out_length, uint8_t *work, size_t work_length);
 
-/* The least length of the work buffer of a call: 1 judge; 0 for other numbers. */
+/* Does the second graph simulate the first? Verdict 1: yes. Verdict 2: no; first is the lowest uncovered entry. The largest relation is written to out either way,
+   32 bytes for each node of the first graph. work is as above, of at least tintboulder_work(2) bytes. */
+struct tintboulder_answer tintboulder_compare(const uint8_t *first, size_t first_length, const uint8_t *second, size_t second_length, uint8_t *out,
+                                              size_t out_length, uint8_t *work, size_t work_length);
+
+/* The least length of the work buffer of a call: 1 judge, 2 compare; 0 for other numbers. */
 uint64_t tintboulder_work(uint64_t call);
 
 #ifdef __cplusplus

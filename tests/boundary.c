@@ -1,5 +1,5 @@
-/* The header against the static library: one accepted and one refused file of each kind; judging, with the buffers it is lent. Exits with the number of answers
-   that are wrong. */
+/* The header against the static library: one accepted and one refused file of each kind; judging and comparing, with the buffers they are
+   lent. Exits with the number of answers that are wrong. */
 #include "../include/tintboulder.h"
 
 #include <string.h>
@@ -18,7 +18,17 @@ static int refuses(check *checks, const uint8_t *file, size_t length, uint32_t n
     return a.verdict == 0 && a.number == number && a.first == 1 && a.second == record && a.third == 0 && a.fourth == 0;
 }
 
-enum { WORK = 41664, SHEET = 12, ROOM = SHEET + 2 };
+typedef struct tintboulder_answer on_two_files(const uint8_t *, size_t, const uint8_t *, size_t, uint8_t *, size_t, uint8_t *, size_t);
+
+/* A call on two files that has verdict 2: its value, and the bytes that it writes. */
+struct example {
+    on_two_files *call;
+    const uint8_t *first, *second, *result;
+    size_t first_length, second_length, result_length;
+    uint64_t value;
+};
+
+enum { MOST_OUT = 66, MOST_WORK = 196608 };
 
 static int filled(const uint8_t *bytes, size_t length, uint8_t with)
 {
@@ -28,20 +38,45 @@ static int filled(const uint8_t *bytes, size_t length, uint8_t with)
     return i == length;
 }
 
-/* Example P6 with this much output and work: the answer's numbers, the sheet or no change in out, and zeros or no change in work. */
-static int judges(size_t out_length, size_t work_length, uint32_t verdict, uint32_t number)
+/* The example with this much output and work: the answer's numbers, the result or no change in out, and zeros or no change in what was lent of work. */
+static int answers(const struct example *e, size_t out_length, size_t work_length, uint32_t verdict, uint32_t number)
+{
+    static uint8_t out[MOST_OUT], work[MOST_WORK];
+    size_t written = verdict == 2 ? e->result_length : 0;
+    struct tintboulder_answer a;
+    memset(out, 7, MOST_OUT);
+    memset(work, 7, MOST_WORK);
+    a = e->call(e->first, e->first_length, e->second, e->second_length, out, out_length, work, work_length);
+    return a.verdict == verdict && a.number == number && a.first == (verdict == 2 ? e->value : 0) && a.second == 0 && a.third == 0 && a.fourth == 0
+        && memcmp(out, e->result, written) == 0 && filled(out + written, MOST_OUT - written, 7) && filled(work, work_length, number == 13 ? 7 : 0)
+        && filled(work + work_length, MOST_WORK - work_length, 7);
+}
+
+/* Its verdict, and the refusals 12 and 13. */
+static int wrong_answers(const struct example *e, size_t work_length)
+{
+    return !answers(e, e->result_length + 2, work_length, 2, 0) + !answers(e, e->result_length - 1, work_length, 0, 12)
+        + !answers(e, e->result_length, work_length - 1, 0, 13);
+}
+
+/* Example P6. */
+static int wrong_judging(void)
 {
     static const uint8_t graph[] = {1, 1, 0, 1, 0, 0, 1, 1, 1, 0, 0, 0, 2, 0, 1, 1, 0, 0};
     static const uint8_t property[] = {3, 9, 1, 1, 0, 0, 3, 6, 0, 0, 0, 0};
-    static const uint8_t sheet[SHEET] = {0, 0, 1, 1, 0, 255, 1, 1, 0, 255, 0, 255};
-    static uint8_t out[ROOM], work[WORK];
-    size_t written = verdict == 2 ? SHEET : 0;
-    struct tintboulder_answer a;
-    memset(out, 7, ROOM);
-    memset(work, 7, WORK);
-    a = tintboulder_judge(graph, sizeof graph, property, sizeof property, out, out_length, work, work_length);
-    return a.verdict == verdict && a.number == number && a.first == written / 6 && a.second == 0 && a.third == 0 && a.fourth == 0
-        && memcmp(out, sheet, written) == 0 && filled(out + written, ROOM - written, 7) && filled(work, WORK, number == 13 ? 7 : 0);
+    static const uint8_t sheet[] = {0, 0, 1, 1, 0, 255, 1, 1, 0, 255, 0, 255};
+    static const struct example p6 = {tintboulder_judge, graph, property, sheet, sizeof graph, sizeof property, sizeof sheet, 2};
+    return wrong_answers(&p6, 41664) + (tintboulder_work(1) != 41664);
+}
+
+/* Example P9 behind a node that has nothing to match: the entry is node 1. */
+static int wrong_comparing(void)
+{
+    static const uint8_t first[] = {1, 1, 0, 0, 0, 0, 1, 1, 0, 1, 0, 0, 2, 1, 0, 1, 0, 0};
+    static const uint8_t second[] = {1, 1, 0, 1, 0, 0};
+    static const uint8_t relation[64] = {1};
+    static const struct example p9 = {tintboulder_compare, first, second, relation, sizeof first, sizeof second, sizeof relation, 1};
+    return wrong_answers(&p9, 156960) + (tintboulder_work(2) != 156960);
 }
 
 int main(void)
@@ -59,9 +94,8 @@ int main(void)
     wrong += !refuses(tintboulder_check_rules, rules, 12, 4, 1);
     wrong += !accepts(tintboulder_check_interface, interface, 6, 0);
     wrong += !refuses(tintboulder_check_interface, interface, 12, 2, 1);
-    wrong += !(tintboulder_work(1) == WORK && tintboulder_work(0) == 0);
-    wrong += !judges(ROOM, WORK, 2, 0);
-    wrong += !judges(SHEET - 1, WORK, 0, 12);
-    wrong += !judges(ROOM, WORK - 1, 0, 13);
+    wrong += wrong_judging();
+    wrong += wrong_comparing();
+    wrong += tintboulder_work(0) != 0;
     return wrong;
 }

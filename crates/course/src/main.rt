@@ -1,15 +1,19 @@
 // Runs the examples of data/ through the proved code, one after the other as the arguments name them. The first letter of a name tells what its file is: a graph,
-// property, rule or interface file is checked, and its line has `accepted`, nodes and records, or `refused`, number, file and record; `judge` names a call on two
-// files, and its verdict's line is followed by the records that it wrote.
+// property, rule or interface file is checked, and its line has `accepted`, nodes and records, or `refused`, number, file and record; `judge` and `compare` name a
+// call on two files, and its verdict's line is followed by the records or the relation's lines that it wrote.
+ghost use mathlib.Core.Path.{_≡_};
 ghost use Prim.Native.Nat.{_+_, _*_, _≤_, _<_};
 ghost use lib.ListN.{length};
 use files::cells::wide;
 use files::check::Checked;
+use files::encode::LINE;
 use files::record::Limits;
 use files::record::Record;
 use files::refusal::Refusal;
+use judging::answers::Compared;
 use judging::answers::Judged;
 use judging::shape::Shape;
+use judging::sizes::Sizes;
 use libc::STDOUT_FILENO;
 
 // Room for the longest example: 257 nodes or 4,097 edges with their nodes.
@@ -60,18 +64,25 @@ fn say_byte(b: u8) {
     say_number(b as u64);
 }
 
-// Record i of what a call wrote, as decimals.
+// Bytes as decimals, in a line.
+fn say_bytes(bytes: &[u8]) {
+    if bytes.len() > 0 {
+        io::print_decimal(STDOUT_FILENO, wide(bytes[0]) as u64);
+    }
+    let mut i = 1;
+    while i < bytes.len() {
+        say_byte(bytes[i]);
+        i += 1;
+    }
+    say(b"\n");
+}
+
+// Record i of what a call wrote.
 fn say_record(out: &[u8], i: usize)
     requires { ⌜ 6 * i + 6 ≤ length (now out) ⌝ }
 {
     let p = Record::LEN * i;
-    io::print_decimal(STDOUT_FILENO, wide(out[p]) as u64);
-    say_byte(out[p + 1]);
-    say_byte(out[p + 2]);
-    say_byte(out[p + 3]);
-    say_byte(out[p + 4]);
-    say_byte(out[p + 5]);
-    say(b"\n");
+    say_bytes(&out[p..p + Record::LEN]);
 }
 
 fn at_most(n: usize, all: usize) -> usize
@@ -109,25 +120,65 @@ fn say_judged(answer: Judged, out: &[u8]) {
     }
 }
 
+// Line g of a relation.
+fn say_line(out: &[u8], g: usize)
+    requires { ⌜ 32 * g + 32 ≤ length (now out) ⌝ }
+{
+    let p = LINE * g;
+    say_bytes(&out[p..p + LINE]);
+}
+
+fn say_lines(out: &[u8]) {
+    let end = out.len() / LINE;
+    let mut g = 0;
+    while g < end {
+        say_line(out, g);
+        g += 1;
+    }
+}
+
+fn say_compared(answer: Compared, out: &[u8]) {
+    match answer {
+        Compared::Yes => {
+            say(b": yes\n");
+            say_lines(out);
+        }
+        Compared::No(g) => {
+            say(b": no");
+            say_number(g as u64);
+            say(b"\n");
+            say_lines(out);
+        }
+        Compared::Refused(r) => {
+            say_refused(r);
+            say(b"\n");
+        }
+    }
+}
+
 fn two_bytes(low: u8, high: u8) -> usize
     ensures { λ r. ⌜ r < 65536 ⌝ }
 {
     wide(low) + 256 * wide(high)
 }
 
-// The published length where the flag is 1.
-fn work_length(flag: u8) -> usize
-    ensures { λ r. ⌜ r ≤ 41664 ⌝ }
+// The published length of the call that a letter names, where the flag is 1.
+fn work_length(letter: u8, flag: u8) -> usize
+    ensures { λ r. ⌜ r ≤ 156960 ⌝ }
 {
-    if flag == 1 {
+    if flag == 0 {
+        return 0;
+    }
+    if letter == b'j' {
         return Shape::ROOM;
     }
-    0
+    Sizes::ROOM
 }
 
-fn judge_files(
-    graph: &[u8],
-    property: &[u8],
+fn call_on(
+    letter: u8,
+    first: &[u8],
+    second: &[u8],
     out: &mut [u8],
     work: &mut [u8],
     room: usize,
@@ -135,25 +186,37 @@ fn judge_files(
 )
     requires { ⌜ (room ≤ length (now out)) × (lent ≤ length (now work)) ⌝ }
 {
-    let answer = judging::judge(graph, property, &mut out[..room], &mut work[..lent]);
-    say_judged(answer, &out[..room]);
+    if letter == b'j' {
+        let answer = judging::judge(first, second, &mut out[..room], &mut work[..lent]);
+        say_judged(answer, &out[..room]);
+        return;
+    }
+    let answer = judging::compare(first, second, &mut out[..room], &mut work[..lent]);
+    say_compared(answer, &out[..room]);
+}
+
+fn work_buffer() -> [u8; 156960]
+    ensures { λ r. ⌜ 156960 ≡ length r ⌝ }
+{
+    [0; 156960]
 }
 
 // A call on two files. The example starts with the first file's length and the output's length, two bytes each, low byte first, then 1 for a work buffer of the
 // published length or 0 for none, then 0; the first file and the second follow.
-fn judge(example: &[u8]) {
+fn call(letter: u8, example: &[u8]) {
     if example.len() < Record::LEN {
         return;
     }
     let split = Record::LEN + two_bytes(example[0], example[1]);
     let room = two_bytes(example[2], example[3]);
-    let lent = work_length(example[4]);
+    let lent = work_length(letter, example[4]);
     if example.len() < split {
         return;
     }
     let mut out = [0u8; 65536];
-    let mut work = [0u8; 41664];
-    judge_files(
+    let mut work = work_buffer();
+    call_on(
+        letter,
         &example[Record::LEN..split],
         &example[split..],
         &mut out,
@@ -176,8 +239,8 @@ fn one(i: usize) {
     let n = io::read_full(fd, &mut file);
     libc::close(fd);
     say(&name[..length]);
-    if name[0] == b'j' {
-        judge(&file[..n]);
+    if (name[0] == b'j') | (name[0] == b'c') {
+        call(name[0], &file[..n]);
         return;
     }
     say_checked(check(name[0], &file[..n]));

@@ -10,6 +10,7 @@ use Rattle.files.specs.declared.check.Checked.the-variants.{Accepted, Refused}
 use Rattle.files.specs.declared.refusal.Refusal.{Refusal}
 use Rattle.files.specs.Outcome.{Outcome, answer, out-after, work-after}
 use Rattle.files.specs.Outcome as outcome
+use Rattle.judging.specs.Compare.{compare-room}
 use Rattle.judging.specs.Judge.{judge-room}
 use Rattle.exports.specs.declared.Answer.{Answer}
 
@@ -39,4 +40,4 @@ pub record Gives (o : Outcome) (out work out′ work′ : List ℕ) (a : Answer)
 
 -- the published length of a call's work buffer, by the call's number
 abbrev pub work-lengths : ℕ → ℕ
-work-lengths call = cond (eqb call 1) judge-room 0
+work-lengths call = cond (eqb call 1) judge-room (cond (eqb call 2) compare-room 0)

@@ -5,12 +5,15 @@ ghost use Rattle.files.specs.Refusal.{graph, property, rules, interface};
 ghost use Rattle.files.specs.Checking.{checked};
 ghost use lib.ListN.{length};
 ghost use Rattle.judging.specs.Judge.{judged, judged-answer};
+ghost use Rattle.judging.specs.Compare.{compared, compared-answer};
 ghost use Rattle.exports.specs.Boundary.{refused-numbers, verdict-numbers, checked-numbers, answer-numbers, Gives, work-lengths};
 use files::check::Checked;
 use files::record::Limits;
 use files::refusal::Refusal;
+use judging::answers::Compared;
 use judging::answers::Judged;
 use judging::shape::Shape;
+use judging::sizes::Sizes;
 
 // Verdict 0 is a refusal: its number, file (first) and record (second). Other verdicts carry their values from first on.
 #[repr(C)]
@@ -121,13 +124,53 @@ pub extern "C" fn tintboulder_judge(
     judged_answer(judging::judge(graph, property, out, work))
 }
 
-// The published length of a call's work buffer: 1 is judge; 0 for other numbers.
+fn compared_answer(c: Compared) -> Answer
+    ensures { λ a. ⌜ a ≡ answer-numbers (compared-answer c) ⌝ }
+{
+    match c {
+        Compared::Yes => Answer {
+            verdict: 1,
+            number: 0,
+            first: 0,
+            second: 0,
+            third: 0,
+            fourth: 0,
+        },
+        Compared::No(entry) => Answer {
+            verdict: 2,
+            number: 0,
+            first: entry as u64,
+            second: 0,
+            third: 0,
+            fourth: 0,
+        },
+        Compared::Refused(r) => refused(r),
+    }
+}
+
+// Compares two graphs: verdict 1 yes, 2 no, with the lowest uncovered entry of the first; the largest simulation is written to `out` under either verdict.
+#[no_mangle]
+pub extern "C" fn tintboulder_compare(
+    first: &[u8],
+    second: &[u8],
+    out: &mut [u8],
+    work: &mut [u8],
+) -> Answer
+    ensures { λ a. ⌜ Gives (compared desk (now (first .entry)) (now (second .entry)) (length (now (out .entry))) (length (now (work .entry)))) (now (out .entry)) (now (work .entry)) (now (out .exit)) (now (work .exit)) a ⌝ }
+{
+    compared_answer(judging::compare(first, second, out, work))
+}
+
+// The published length of a call's work buffer: 1 is judge, 2 compare; 0 for other numbers.
 #[no_mangle]
 pub extern "C" fn tintboulder_work(call: u64) -> u64
     ensures { λ n. ⌜ n ≡ work-lengths call ⌝ }
 {
     if call == 1 {
         return Shape::ROOM as u64;
+    }
+    if call == 2 {
+        return Sizes::ROOM as u64;
     }
     0
 }

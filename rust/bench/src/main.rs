@@ -3,6 +3,7 @@
 mod inputs;
 mod judge;
 mod side_by_side;
+mod simulation;
 
 use side_by_side::{print_header, print_line};
 use std::io;
@@ -14,7 +15,9 @@ second: takes its memory from the allocator in every call and clears nothing aft
 
 fn main() -> io::Result<()> {
     println!("{NOTE}");
-    for (call, inputs) in [(compare::judge::CALL, judge::inputs()?)] {
+    let judging = (compare::judge::CALL, judge::inputs()?);
+    let comparing = (compare::simulation::CALL, simulation::inputs()?);
+    for (call, inputs) in [judging, comparing] {
         print_header(call.name);
         for input in &inputs {
             print_line(&call, input);

@@ -6,13 +6,14 @@ pub mod judge;
 mod minimal;
 pub mod pairs;
 mod report;
+pub mod simulation;
 mod tally;
 
 use generator::generate::{Kind, Random};
 use pairs::Call;
 use tally::Tally;
 
-const CALLS: &[Call] = &[judge::CALL];
+const CALLS: &[Call] = &[judge::CALL, simulation::CALL];
 
 /// Prints a line for each call, or ends with the report of a difference.
 pub fn run(seed: u64, count: u64) -> Result<(), String> {

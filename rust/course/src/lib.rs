@@ -1,6 +1,8 @@
 //! The examples of crates/course: one for each refusal 1 to 8 and each limit, the files of the case studies, and calls on two files.
 
+mod calls;
 mod cases;
+mod compared;
 mod examples;
 mod judged;
 
@@ -28,6 +30,9 @@ pub fn examples() -> io::Result<Vec<Example>> {
     all.extend(judged::of_the_paper());
     all.extend(judged::of_lent_buffers());
     all.extend(judged::of_cases(&cases));
+    all.extend(compared::of_the_paper());
+    all.extend(compared::of_lent_buffers());
+    all.extend(compared::of_cases(&cases));
     Ok(all)
 }
 
@@ -35,7 +40,10 @@ pub fn examples() -> io::Result<Vec<Example>> {
 pub fn line(example: &Example) -> String {
     let Example { name, bytes } = example;
     if name.starts_with("judge-") {
-        return judged::lines(name, bytes);
+        return judged::lines(name, &calls::Call::of(bytes));
+    }
+    if name.starts_with("compare-") {
+        return compared::lines(name, &calls::Call::of(bytes));
     }
     let nodes = match name.as_bytes().first() {
         Some(b'g') => check_graph(bytes, &Limits::DESK).map(|graph| graph.nodes.len()),

@@ -2,8 +2,10 @@
 
 mod boundary;
 mod checks;
+mod compare;
 mod judge;
 
 pub use boundary::{Answer, OnTwoFiles, Refusal};
 pub use checks::{check_graph, check_interface, check_property, check_rules, Accepted};
+pub use compare::{compare, Compared, COMPARE};
 pub use judge::{judge, Judged, JUDGE};

@@ -5,13 +5,17 @@ use Rattle.exports.proofs.tintboulder_work.Tie as tie
 use Rattle.exports.proofs.tintboulder_work.Reads as reads
 use Rattle.exports.proofs.tintboulder_work.Lts as lts
 
--- src/lib.rt:130:9
+-- src/lib.rt:170:9
 returns : tie.Need-returns
 returns c = rw (eq-eqb _ _ (c .if1 .taken)) refl
 
--- src/lib.rt:125:1
+-- src/lib.rt:173:9
 returns-2 : tie.Need-returns-2
-returns-2 c = rw (ne-eqb _ _ (c .if1 .left)) refl
+returns-2 c = rw (ne-eqb _ _ (c .before .if1 .left), eq-eqb _ _ (c .if2 .taken)) refl
+
+-- src/lib.rt:165:1
+returns-3 : tie.Need-returns-3
+returns-3 c = rw (ne-eqb _ _ (c .before .if1 .left), ne-eqb _ _ (c .if2 .left)) refl
 
 pub tintboulder-work-spec : {M : Type 1} → statement M
-tintboulder-work-spec = tie.close (tie.spec returns returns-2)
+tintboulder-work-spec = tie.close (tie.spec returns returns-2 returns-3)
