@@ -9,7 +9,7 @@ use Rattle.files.specs.declared.record.Parsed.{Parsed}
 use Rattle.files.specs.declared.record.Parsed.the-variants.{Node, Edge, Row, Rule, Interface, Wrong, Other}
 use Rattle.files.specs.Interface.{Interface as Sets}
 use Rattle.files.specs.Sides.{foreign-node, foreign-call}
-use Rattle.files.specs.Checking.{is-wrong, edge-out, edges-out, rule-out, rules-out, past-of, method-of, crossing-of, is-or-of}
+use Rattle.files.specs.Checking.{is-wrong, edge-out, edges-out, rule-out, rules-out, edge-past, row-past, method-of, crossing-of, is-or-of}
 use Rattle.files.proofs.record.Parsed
 
 abbrev pub but-node : List ℕ
@@ -20,9 +20,6 @@ but-edge = 0 ∷ 2 ∷ 3 ∷ 4 ∷ 5 ∷ 6 ∷ []
 
 abbrev pub but-row : List ℕ
 but-row = 0 ∷ 1 ∷ 3 ∷ 4 ∷ 5 ∷ 6 ∷ []
-
-abbrev pub but-edge-row : List ℕ
-but-edge-row = 0 ∷ 3 ∷ 4 ∷ 5 ∷ 6 ∷ []
 
 abbrev pub but-rule : List ℕ
 but-rule = 0 ∷ 1 ∷ 2 ∷ 4 ∷ 5 ∷ 6 ∷ []
@@ -78,14 +75,23 @@ no-next-rule s w c d (Interface p q) k = refl
 no-next-rule s w c d Wrong k = refl
 no-next-rule s w c d Other k = refl
 
-pub nothing-past : (n : ℕ) (x : Parsed) → OneOf but-edge-row (tagOf Parsed.the-type x) → false ≡ past-of n x
-nothing-past i (Node m r e) k = refl
-nothing-past i (Edge f l t) k = absurd (miss but-edge-row 1 tt k)
-nothing-past i (Row o a b) k = absurd (miss but-edge-row 2 tt k)
-nothing-past i (Rule q v m n p) k = refl
-nothing-past i (Interface p q) k = refl
-nothing-past i Wrong k = refl
-nothing-past i Other k = refl
+pub no-edge-past : (n : ℕ) (x : Parsed) → OneOf but-edge (tagOf Parsed.the-type x) → false ≡ edge-past n x
+no-edge-past i (Node m r e) k = refl
+no-edge-past i (Edge f l t) k = absurd (miss but-edge 1 tt k)
+no-edge-past i (Row o a b) k = refl
+no-edge-past i (Rule q v m n p) k = refl
+no-edge-past i (Interface p q) k = refl
+no-edge-past i Wrong k = refl
+no-edge-past i Other k = refl
+
+pub no-row-past : (n : ℕ) (x : Parsed) → OneOf but-row (tagOf Parsed.the-type x) → false ≡ row-past n x
+no-row-past i (Node m r e) k = refl
+no-row-past i (Edge f l t) k = refl
+no-row-past i (Row o a b) k = absurd (miss but-row 2 tt k)
+no-row-past i (Rule q v m n p) k = refl
+no-row-past i (Interface p q) k = refl
+no-row-past i Wrong k = refl
+no-row-past i Other k = refl
 
 pub no-crossing : (l : List ℕ) (n : ℕ) (x : Parsed) → OneOf but-edge (tagOf Parsed.the-type x) → false ≡ crossing-of l n x
 no-crossing h i (Node m r e) k = refl

@@ -95,15 +95,27 @@ abbrev pub disordered-at : List ℕ → ℕ → Bool
 disordered-at l zero = false
 disordered-at l (suc i) = edges-out (parsed-at l i) (parsed-at l (suc i)) || rules-out (parsed-at l i) (parsed-at l (suc i))
 
+abbrev pub edge-past : ℕ → Parsed → Bool
+edge-past n (Node m r e) = false
+edge-past n (Edge f l t) = leb n f || leb n t
+edge-past n (Row o a b) = false
+edge-past n (Rule q v m k p) = false
+edge-past n (Interface p q) = false
+edge-past n Wrong = false
+edge-past n Other = false
+
+abbrev pub row-past : ℕ → Parsed → Bool
+row-past n (Node m r e) = false
+row-past n (Edge f l t) = false
+row-past n (Row o a b) = (takes-rows o && (leb n a || leb n b)) || (eqb o 9 && leb n b)
+row-past n (Rule q v m k p) = false
+row-past n (Interface p q) = false
+row-past n Wrong = false
+row-past n Other = false
+
 -- 7: an edge or a row names what is not below n
 abbrev pub past-of : ℕ → Parsed → Bool
-past-of n (Node m r e) = false
-past-of n (Edge f l t) = leb n f || leb n t
-past-of n (Row o a b) = (takes-rows o && (leb n a || leb n b)) || (eqb o 9 && leb n b)
-past-of n (Rule q v m k p) = false
-past-of n (Interface p q) = false
-past-of n Wrong = false
-past-of n Other = false
+past-of n p = edge-past n p || row-past n p
 
 abbrev pub method-of : Parsed → ℕ
 method-of (Node m r e) = m

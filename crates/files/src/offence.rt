@@ -2,15 +2,12 @@
 // States that `offends` is the definition's test of a number at a record.
 ghost use mathlib.Core.Path.{_≡_};
 ghost use mathlib.Core.List.{[], _∷_};
-ghost use mathlib.Core.Bool.{_&&_, _||_};
-ghost use lib.Dec.{eqb, leb};
 ghost use Prim.Native.Nat.{_+_, _*_, _≤_};
 ghost use lib.ListN.{length};
 ghost use Rattle.files.specs.Basics.Lexical.{before};
-ghost use Rattle.files.specs.Record.{takes-rows};
 ghost use Rattle.files.specs.Refusal.{edge-before, misplaced};
 ghost use Rattle.files.specs.FileKind.{kind-of};
-ghost use Rattle.files.specs.Checking.{parsed-at, is-wrong, edges-out, rules-out, disordered-at, past-of, method-of, crossing-of, is-or-of, offends};
+ghost use Rattle.files.specs.Checking.{parsed-at, is-wrong, edges-out, rules-out, disordered-at, edge-past, row-past, past-of, method-of, crossing-of, is-or-of, offends};
 use crate::parse::kind_at;
 use crate::parse::parse;
 use crate::record::Parsed;
@@ -141,23 +138,33 @@ fn disordered(records: &[u8], i: usize) -> bool
     edges_out(p, q) | rules_out(p, q)
 }
 
+// An edge that names a node that is not below n.
+fn edge_past(p: Parsed, n: usize) -> bool
+    ensures { λ r. ⌜ r ≡ edge-past n p ⌝ }
+{
+    let Parsed::Edge { from, to, .. } = p else {
+        return false;
+    };
+    (n <= from) | (n <= to)
+}
+
+// A row that names a row that is not below n.
+fn row_past(p: Parsed, n: usize) -> bool
+    ensures { λ r. ⌜ r ≡ row-past n p ⌝ }
+{
+    let Parsed::Row { operator, a, b } = p else {
+        return false;
+    };
+    let named_a = n <= (a as usize);
+    let named_b = n <= (b as usize);
+    (((operator == 7) | (operator == 8)) & (named_a | named_b)) | ((operator == 9) & named_b)
+}
+
 // 7: an edge names a node, or a row a row, that is not below n.
 fn past(p: Parsed, n: usize) -> bool
     ensures { λ r. ⌜ r ≡ past-of n p ⌝ }
 {
-    match p {
-        Parsed::Edge { from, to, .. } => (n <= from) | (n <= to),
-        Parsed::Row { operator, a, b } => row_past(operator, a, b, n),
-        _ => false,
-    }
-}
-
-fn row_past(operator: u8, a: u8, b: u8, n: usize) -> bool
-    ensures { λ r. ⌜ r ≡ (takes-rows operator && (leb n a || leb n b)) || (eqb operator 9 && leb n b) ⌝ }
-{
-    let named_a = n <= (a as usize);
-    let named_b = n <= (b as usize);
-    (((operator == 7) | (operator == 8)) & (named_a | named_b)) | ((operator == 9) & named_b)
+    edge_past(p, n) | row_past(p, n)
 }
 
 // The method of node g; 0 where record g does not read as a node.

@@ -116,7 +116,7 @@ over-same L interface l p w = refl
 past-same : (k : Kind) (l : List ℕ) (i : ℕ) → Reads k (record-at l i) → past-of (bound-of k l) (parsed-at l i) ≡ past k l i
 unfolding counted
 past-same graph l i (inl a) = rw (a .1, a .0)
-past-same graph l i (inr a) = rw (a .1, a .0)
+past-same graph l i (inr a) = rw (a .1, a .0) (or-false _)
 past-same property l i a = rw a
 past-same rules l i a = rw (a .1)
 past-same interface l i a = rw a

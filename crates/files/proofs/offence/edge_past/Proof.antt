@@ -1,0 +1,22 @@
+use Rattle.files.proofs.Tags.{no-edge-past}
+use mathlib.Core.Path.{refl}
+use borrow.Author.Needs.{needs}
+use Rattle.files.proofs.offence.edge_past.Statement.{statement}
+use Rattle.files.proofs.offence.edge_past.Tie as tie
+use Rattle.files.proofs.offence.edge_past.Reads as reads
+use Rattle.files.proofs.offence.edge_past.Lts as lts
+
+-- src/offence.rt:144:24
+enum-known-p : tie.Need-enum-known-p
+enum-known-p c = search needs
+
+-- src/offence.rt:145:9
+returns : tie.Need-returns
+returns c = no-edge-past (c .before .args .n) (c .before .args .p) (c .match .keys2)
+
+-- src/offence.rt:141:1
+returns-2 : tie.Need-returns-2
+returns-2 c = rw (c .before .p .given .1) refl
+
+pub edge-past-spec : {M : Type 1} → statement M
+edge-past-spec = tie.close (tie.spec enum-known-p returns returns-2)
