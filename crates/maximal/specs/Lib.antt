@@ -1,3 +1,5 @@
 pub mod Model
 pub mod Closure
+pub mod Masks
+pub mod Collected
 pub mod Modelling

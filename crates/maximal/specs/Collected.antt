@@ -1,0 +1,61 @@
+-- Minimal supports as the code finds them: each or-row is settled by naming one operand, the branch that names the second forbids the first, a branch with a forbidden
+-- row is cut, and a list of sets keeps none that another one is within. Laws says that what is collected are the minimal supports.
+use mathlib.Core.Bool.{Bool, true, false, not, cond, _&&_}
+use mathlib.Core.List.{List, [], _∷_, _++_}
+use Prim.Native.Nat.{ℕ, zero, suc, _^_}
+use lib.Bits.{bitOr}
+use lib.Dec.{eqb}
+use lib.ListN.{length}
+use Rattle.files.specs.Basics.Least.{least}
+use Rattle.files.specs.Basics.Lists.{keep}
+use Rattle.files.specs.Basics.Tables.{tally}
+use Rattle.files.specs.Basics.Tests.{any}
+use Rattle.files.specs.Decode.{row-rec}
+use Rattle.files.specs.Property.{Row, always, never, returns, not-returns, in-method, not-in-method, both, either, box, row, is-either}
+use Rattle.maximal.specs.Masks.{member, within, apart, completion, untrue}
+pub mod Laws
+
+-- row x, an "or", has neither operand in set s
+abbrev pub unsettled : Row → ℕ → Bool
+unsettled always s = false
+unsettled never s = false
+unsettled returns s = false
+unsettled not-returns s = false
+unsettled (in-method a) s = false
+unsettled (not-in-method a) s = false
+unsettled (both a b) s = false
+unsettled (either a b) s = not (member s a) && not (member s b)
+unsettled (box l b) s = false
+
+-- the lowest or-row of set s that has no operand in it, or the number of rows
+pub first-open : List Row → ℕ → ℕ
+first-open P s = least (λ r. member s r && unsettled (row P r) s) (length P)
+
+-- the operands as they stand in the row's record
+abbrev pub operand-a : List Row → ℕ → ℕ
+operand-a P r = (row-rec (row P r)) .second
+
+abbrev pub operand-b : List Row → ℕ → ℕ
+operand-b P r = (row-rec (row P r)) .third
+
+-- set s is added where no set of the list is within it; then the sets that it is within are dropped
+pub inserted : List ℕ → ℕ → List ℕ
+inserted A s = cond (any (λ u. within u s) A) A (keep (λ u. not (within s u)) A ++ s ∷ [])
+
+-- the completed set s, free of the rows of x: added where all its or-rows are settled; otherwise one is settled by its first operand, then by its second without the first
+pub collected : List Row → ℕ → ℕ → ℕ → List ℕ → List ℕ
+collected P zero s x A = cond (apart s x) (cond (eqb (first-open P s) (length P)) (inserted A s) A) A
+collected P (suc k) s x A =
+    cond (apart s x)
+    (cond (eqb (first-open P s) (length P)) (inserted A s)
+    (collected P k (bitOr s (completion P (2 ^ operand-b P (first-open P s)))) (bitOr x (2 ^ operand-a P (first-open P s)))
+    (collected P k (bitOr s (completion P (2 ^ operand-a P (first-open P s)))) x A)))
+    A
+
+-- as many or-rows as the property has
+pub or-count : List Row → ℕ
+or-count P = tally (λ r. is-either (row P r)) (length P)
+
+-- the minimal supports of set o at method m and flag f, by naming at most k operands
+pub supports-of : List Row → ℕ → ℕ → Bool → ℕ → List ℕ
+supports-of P k m f o = collected P k (completion P o) (untrue P m f) []
