@@ -65,7 +65,8 @@ fn graphs_are_of_their_interface() {
         let graph = generate::graph_of(&mut random, Size::Small, bytes[1], bytes[2]);
         let interface = files::check_interface(&bytes).expect("a valid interface");
         let graph = files::check_graph(&graph, &Limits::DESK).expect("a valid graph");
-        assert_eq!(graph.first_outside(&interface), None);
+        assert!(graph.nodes.iter().all(|node| interface.provides(node.method)));
+        assert!(graph.edges.iter().all(|edge| edge.label == 0 || interface.requires(edge.label)));
     }
 }
 

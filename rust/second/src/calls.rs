@@ -1,141 +1,276 @@
-//! The calls, with their refusals in the published order: the work buffer,
-//! each file in argument order, the start method, then 9 to 12.
+//! The public calls: their refusals in the published order, then what they say.
 
-use crate::compare::Simulation;
-use crate::files::{self, Fault};
+use crate::files::{check_graph, check_interface, check_property, check_rules, Fault};
 use crate::graph::Graph;
-use crate::join::{join as joined, show as shown};
-use crate::judge::fault_sheet;
+use crate::join::joined;
 use crate::model::maximal_model;
-use crate::record::{Interface, Limits, METHODS, RECORD_LEN};
+use crate::monitor::Monitor;
+use crate::record::{method, Interface, Limits, Record, Rule, INTERNAL, RECORD_LEN};
 use crate::refusal::{number, Refusal};
-use crate::watch::trail;
-use crate::Outcome;
+use crate::set::ByteSet;
+use crate::sheet::fault_sheet;
+use crate::simulation::{largest_simulation, uncovered_entry};
+use crate::trail::bad_trail;
+use crate::{Outcome, Sides};
 
-const GOOD: u32 = 1;
-const POOR: u32 = 2;
+/// Holds, yes, written, shown or clean.
+const POSITIVE: u32 = 1;
+/// Fails, no or bad.
+const NEGATIVE: u32 = 2;
 
-/// Lengths of the buffers a caller lends, and the published one.
-pub struct Lent {
-    pub out_len: usize,
-    pub work_len: usize,
-    pub room: usize,
+/// Judging: does the graph satisfy the property?
+pub fn judge(
+    limits: &Limits,
+    graph: &[u8],
+    property: &[u8],
+    out_len: usize,
+    work_len: usize,
+    room: usize,
+) -> Outcome {
+    outcome(|| {
+        check_work(work_len, room)?;
+        let graph = in_file(1, check_graph(graph, limits))?;
+        let rows = in_file(2, check_property(property, limits))?;
+        say_records(fault_sheet(&graph, &rows), out_len)
+    })
 }
 
-impl Lent {
-    fn has_room(&self) -> Result<(), Refusal> {
-        demand(self.work_len >= self.room, number::SHORT_WORK)
-    }
+/// Comparing: does the second graph simulate the first?
+pub fn compare(
+    limits: &Limits,
+    first: &[u8],
+    second: &[u8],
+    out_len: usize,
+    work_len: usize,
+    room: usize,
+) -> Outcome {
+    outcome(|| {
+        check_work(work_len, room)?;
+        let first = in_file(1, check_graph(first, limits))?;
+        let second = in_file(2, check_graph(second, limits))?;
+        let related = largest_simulation(&first, &second);
+        let written = related.iter().flat_map(ByteSet::bytes).collect();
+        match uncovered_entry(&first, &second, &related) {
+            None => say(POSITIVE, vec![], written, out_len),
+            Some(entry) => say(NEGATIVE, vec![entry as u64], written, out_len),
+        }
+    })
 }
 
-type Answer = Result<Outcome, Refusal>;
-
-pub fn judge(limits: &Limits, graph: &[u8], property: &[u8], lent: &Lent) -> Answer {
-    lent.has_room()?;
-    let graph = in_file(1, files::check_graph(graph, limits))?;
-    let property = in_file(2, files::check_property(property, limits))?;
-    match fault_sheet(&graph, &property) {
-        None => write(GOOD, &[], Vec::new(), 0),
-        Some(sheet) => write(POOR, &[sheet.len()], sheet.concat(), lent.out_len),
-    }
+/// Modelling: the maximal model of the interface and property.
+pub fn model(
+    limits: &Limits,
+    interface: &[u8],
+    property: &[u8],
+    out_len: usize,
+    work_len: usize,
+    room: usize,
+) -> Outcome {
+    outcome(|| {
+        check_work(work_len, room)?;
+        let interface = in_file(1, check_interface(interface))?;
+        let rows = in_file(2, check_property(property, limits))?;
+        let model = small(maximal_model(limits, &interface, &rows))?;
+        say(POSITIVE, sizes(&model), model.bytes(), out_len)
+    })
 }
 
-pub fn compare(limits: &Limits, first: &[u8], second: &[u8], lent: &Lent) -> Answer {
-    lent.has_room()?;
-    let first = in_file(1, files::check_graph(first, limits))?;
-    let second = in_file(2, files::check_graph(second, limits))?;
-    let simulation = Simulation::of(&first, &second);
-    match simulation.uncovered {
-        None => write(GOOD, &[], simulation.bytes(), lent.out_len),
-        Some(entry) => write(POOR, &[entry], simulation.bytes(), lent.out_len),
-    }
+/// Joining: both graphs in one, and their interfaces united.
+pub fn join(
+    limits: &Limits,
+    interface1: &[u8],
+    graph1: &[u8],
+    interface2: &[u8],
+    graph2: &[u8],
+    out_len: usize,
+) -> Outcome {
+    outcome(|| {
+        let interface1 = in_file(1, check_interface(interface1))?;
+        let graph1 = in_file(2, check_graph(graph1, limits))?;
+        let interface2 = in_file(3, check_interface(interface2))?;
+        let graph2 = in_file(4, check_graph(graph2, limits))?;
+        check_of_interface(2, &graph1, &interface1)?;
+        check_of_interface(4, &graph2, &interface2)?;
+        check_disjoint(&interface1, &interface2)?;
+        let graph = small(joined(limits, &graph1, &graph2))?;
+        let united = interface1.united(&interface2);
+        let mut values = sizes(&graph);
+        values.extend([united.provided, united.required].map(u64::from));
+        say(POSITIVE, values, graph.bytes(), out_len)
+    })
 }
 
-pub fn model(limits: &Limits, interface: &[u8], property: &[u8], lent: &Lent) -> Answer {
-    lent.has_room()?;
-    let interface = in_file(1, files::check_interface(interface))?;
-    let property = in_file(2, files::check_property(property, limits))?;
-    let too_large = Refusal::of_call(number::TOO_LARGE);
-    let model = maximal_model(limits, &interface, &property).ok_or(too_large)?;
-    let values = [model.nodes.len(), model.edges.len()];
-    write(GOOD, &values, model.bytes(), lent.out_len)
+/// Showing: the record of a node of the joined graph, in the file it came from.
+pub fn show(limits: &Limits, graph1: &[u8], graph2: &[u8], number: usize) -> Outcome {
+    outcome(|| {
+        let first = in_file(1, check_graph(graph1, limits))?.nodes.len();
+        let second = in_file(2, check_graph(graph2, limits))?.nodes.len();
+        let (file, node) = if number < first {
+            (graph1, number)
+        } else {
+            (graph2, number - first)
+        };
+        if number >= first + second {
+            return Err(Refusal::of_call(number::PAST_THE_LAST));
+        }
+        let written = file[node * RECORD_LEN..][..RECORD_LEN].to_vec();
+        say(POSITIVE, vec![], written, RECORD_LEN)
+    })
 }
 
-pub fn join(limits: &Limits, sides: [(&[u8], &[u8]); 2], out_len: usize) -> Answer {
-    let [first, second] = sides;
-    let (interface1, graph1) = (
-        in_file(1, files::check_interface(first.0))?,
-        in_file(2, files::check_graph(first.1, limits))?,
-    );
-    let (interface2, graph2) = (
-        in_file(3, files::check_interface(second.0))?,
-        in_file(4, files::check_graph(second.1, limits))?,
-    );
-    of_interface(2, &graph1, &interface1)?;
-    of_interface(4, &graph2, &interface2)?;
-    let shared = interface1.provided & interface2.provided;
-    demand(shared == 0, number::NOT_OF_INTERFACE)?;
-    let nodes = graph1.nodes.len() + graph2.nodes.len();
-    let edges = graph1.edges.len() + graph2.edges.len();
-    demand(nodes <= limits.nodes && edges <= limits.edges, number::TOO_LARGE)?;
-    let provided = interface1.provided | interface2.provided;
-    let required = interface1.required | interface2.required;
-    let values = [nodes, edges, usize::from(provided), usize::from(required)];
-    write(GOOD, &values, joined(&graph1, &graph2).bytes(), out_len)
-}
-
-pub fn show(limits: &Limits, graph1: &[u8], graph2: &[u8], number: usize) -> Answer {
-    let first = in_file(1, files::check_graph(graph1, limits))?;
-    let second = in_file(2, files::check_graph(graph2, limits))?;
-    let record = shown((&first, graph1), (&second, graph2), number)
-        .ok_or(Refusal::of_call(number::PAST_THE_LAST))?;
-    write(GOOD, &[], record.to_vec(), RECORD_LEN)
-}
-
+/// Watching: is a run of the graph bad?
+#[expect(
+    clippy::too_many_arguments,
+    reason = "three files, a method and three lengths are given"
+)]
 pub fn watch(
     limits: &Limits,
     interface: &[u8],
     graph: &[u8],
     rules: &[u8],
     start: u8,
-    lent: &Lent,
-) -> Answer {
-    lent.has_room()?;
-    let interface = in_file(1, files::check_interface(interface))?;
-    let graph = in_file(2, files::check_graph(graph, limits))?;
-    let rules = in_file(3, files::check_rules(rules))?;
-    let start = usize::from(start);
-    demand((1..=METHODS).contains(&start), number::RANGE)?;
-    of_interface(2, &graph, &interface)?;
-    let closed = interface.required & !interface.provided == 0;
-    demand(closed && interface.provides(start), number::NOT_PROVIDED)?;
-    match trail(&graph, &rules, start) {
-        None => write(GOOD, &[], Vec::new(), 0),
-        Some(trail) => write(POOR, &[trail.len()], trail.concat(), lent.out_len),
-    }
+    out_len: usize,
+    work_len: usize,
+    room: usize,
+) -> Outcome {
+    outcome(|| {
+        check_work(work_len, room)?;
+        let interface = in_file(1, check_interface(interface))?;
+        let graph = in_file(2, check_graph(graph, limits))?;
+        let rules = in_file(3, check_rules(rules))?;
+        let start = check_start(start)?;
+        check_of_interface(2, &graph, &interface)?;
+        check_provided(&interface, start)?;
+        say_runs(&graph, &rules, start, out_len)
+    })
 }
 
-fn demand(met: bool, number: u8) -> Result<(), Refusal> {
-    if met {
+/// The composed verdict: is a run of the known graph joined with the other side's model bad?
+pub fn compose(
+    limits: &Limits,
+    sides: &Sides,
+    rules: &[u8],
+    start: u8,
+    out_len: usize,
+    lent: [(usize, usize); 2],
+) -> Outcome {
+    outcome(|| {
+        lent.into_iter()
+            .try_for_each(|(work_len, room)| check_work(work_len, room))?;
+        let known_interface = in_file(1, check_interface(sides.known_interface))?;
+        let known = in_file(2, check_graph(sides.known_graph, limits))?;
+        let other_interface = in_file(3, check_interface(sides.other_interface))?;
+        let rows = in_file(4, check_property(sides.property, limits))?;
+        let rules = in_file(5, check_rules(rules))?;
+        let start = check_start(start)?;
+        check_of_interface(2, &known, &known_interface)?;
+        check_disjoint(&known_interface, &other_interface)?;
+        check_provided(&known_interface.united(&other_interface), start)?;
+        let model = small(maximal_model(limits, &other_interface, &rows))?;
+        let graph = small(joined(limits, &known, &model))?;
+        say_runs(&graph, &rules, start, out_len)
+    })
+}
+
+fn outcome(call: impl FnOnce() -> Result<Outcome, Refusal>) -> Outcome {
+    call().unwrap_or_else(Outcome::Refused)
+}
+
+fn in_file<T>(file: u8, checked: Result<T, Fault>) -> Result<T, Refusal> {
+    checked.map_err(|(number, record)| Refusal {
+        number,
+        file,
+        record,
+    })
+}
+
+/// Refuses by a number that no single file causes, unless the condition is met.
+fn check(condition: bool, number: u8) -> Result<(), Refusal> {
+    if condition {
         Ok(())
     } else {
         Err(Refusal::of_call(number))
     }
 }
 
-fn in_file<T>(file: u8, checked: Result<T, Fault>) -> Result<T, Refusal> {
-    checked.map_err(|(number, record)| Refusal { number, file, record })
+fn check_work(work_len: usize, room: usize) -> Result<(), Refusal> {
+    check(work_len >= room, number::SHORT_WORK)
 }
 
-fn of_interface(file: u8, graph: &Graph, interface: &Interface) -> Result<(), Refusal> {
-    match graph.first_outside(interface) {
-        Some(record) => in_file(file, Err((number::NOT_OF_INTERFACE, record))),
+fn check_start(start: u8) -> Result<usize, Refusal> {
+    method(start).ok_or(Refusal::of_call(number::RANGE))
+}
+
+fn check_of_interface(file: u8, graph: &Graph, interface: &Interface) -> Result<(), Refusal> {
+    let node = graph
+        .nodes
+        .iter()
+        .position(|node| !interface.provides(node.method));
+    let unrequired = |label| label != INTERNAL && !interface.requires(label);
+    let edge = graph.edges.iter().position(|edge| unrequired(edge.label));
+    match node.or(edge.map(|edge| graph.nodes.len() + edge)) {
+        Some(record) => Err(Refusal {
+            number: number::NOT_OF_INTERFACE,
+            file,
+            record,
+        }),
         None => Ok(()),
     }
 }
 
-fn write(verdict: u32, values: &[usize], bytes: Vec<u8>, out_len: usize) -> Answer {
-    demand(bytes.len() <= out_len, number::SHORT_OUTPUT)?;
-    let values = values.iter().map(|&value| value as u64).collect();
-    Ok(Outcome::Said { verdict, values, written: bytes })
+fn check_disjoint(first: &Interface, second: &Interface) -> Result<(), Refusal> {
+    check(
+        first.provided & second.provided == 0,
+        number::NOT_OF_INTERFACE,
+    )
+}
+
+fn check_provided(interface: &Interface, start: usize) -> Result<(), Refusal> {
+    let closed = interface.required & !interface.provided == 0;
+    check(closed && interface.provides(start), number::NOT_PROVIDED)
+}
+
+/// A graph that is not there because it would pass the limits is refused.
+fn small(graph: Option<Graph>) -> Result<Graph, Refusal> {
+    graph.ok_or(Refusal::of_call(number::TOO_LARGE))
+}
+
+fn sizes(graph: &Graph) -> Vec<u64> {
+    vec![graph.nodes.len() as u64, graph.edges.len() as u64]
+}
+
+fn say(
+    verdict: u32,
+    values: Vec<u64>,
+    written: Vec<u8>,
+    out_len: usize,
+) -> Result<Outcome, Refusal> {
+    check(written.len() <= out_len, number::SHORT_OUTPUT)?;
+    Ok(Outcome::Said {
+        verdict,
+        values,
+        written,
+    })
+}
+
+/// The negative verdict with the records that explain it, or else the positive one.
+fn say_records(records: Option<Vec<Record>>, out_len: usize) -> Result<Outcome, Refusal> {
+    match records {
+        None => say(POSITIVE, vec![], vec![], out_len),
+        Some(records) => say(
+            NEGATIVE,
+            vec![records.len() as u64],
+            records.concat(),
+            out_len,
+        ),
+    }
+}
+
+fn say_runs(
+    graph: &Graph,
+    rules: &[Rule],
+    start: usize,
+    out_len: usize,
+) -> Result<Outcome, Refusal> {
+    say_records(bad_trail(graph, &Monitor::new(rules), start), out_len)
 }

@@ -1,73 +1,78 @@
-//! Reading files. Each check gives the lowest number from 1 to 8 that any
-//! record of the file earns, with the first record that earns it. The steps
-//! of a check therefore run in the order of the numbers, each over the whole
-//! file, and the first step that finds something ends it.
+//! Checks of single files. Every check below is made in the order of the refusal numbers and over
+//! the whole file, so the first one that fails gives the lowest number.
 
 use crate::graph::Graph;
 use crate::record::{kind, Edge, Interface, Limits, Node, Record, Row, Rule, RECORD_LEN};
 use crate::refusal::number;
 
-/// Refusal number and record.
+/// The lowest number among 1 to 8 that a file offends by, and the first record that does.
 pub type Fault = (u8, usize);
 
-/// Nodes, then edges.
+/// Checks a file of nodes followed by edges.
 pub fn check_graph(bytes: &[u8], limits: &Limits) -> Result<Graph, Fault> {
     let records = split(bytes)?;
-    let count = records.iter().take_while(|r| r[0] == kind::NODE).count();
-    let (nodes, edges) = records.split_at(count);
-    expect_kind(edges, kind::EDGE, count)?;
-    let nodes = parse_all(nodes, 0, Node::parse)?;
-    let edges = parse_all(edges, count, Edge::parse)?;
-    expect_ascending(&edges, count, |edge| *edge)?;
-    if nodes.len() > limits.nodes || edges.len() > limits.edges {
-        return Err((number::LIMIT, 0));
-    }
-    let past_the_last = |edge: &Edge| edge.from >= count || edge.to >= count;
-    expect_none(edges.iter(), count, number::PAST_THE_LAST, past_the_last)?;
-    let between_methods = |edge: &Edge| nodes[edge.from].method != nodes[edge.to].method;
-    expect_none(edges.iter(), count, number::BETWEEN_METHODS, between_methods)?;
+    let count = records
+        .iter()
+        .take_while(|record| record[0] == kind::NODE)
+        .count();
+    let (node_records, edge_records) = records.split_at(count);
+    check_all(edge_records, count, number::KIND, |record| {
+        record[0] == kind::EDGE
+    })?;
+    let nodes = parse(node_records, 0, Node::from_record)?;
+    let edges = parse(edge_records, count, Edge::from_record)?;
+    check_order(&edges, count, |edge| *edge)?;
+    check_limit(nodes.len() <= limits.nodes && edges.len() <= limits.edges)?;
+    check_all(&edges, count, number::PAST_THE_LAST, |edge| {
+        edge.from < count && edge.to < count
+    })?;
+    check_all(&edges, count, number::BETWEEN_METHODS, |edge| {
+        nodes[edge.from].method == nodes[edge.to].method
+    })?;
     Ok(Graph::new(nodes, edges))
 }
 
-/// The equations of a property; row 0 is the root.
+/// Checks a file of rows.
 pub fn check_property(bytes: &[u8], limits: &Limits) -> Result<Vec<Row>, Fault> {
-    let records = split(bytes)?;
-    expect_kind(records, kind::ROW, 0)?;
-    let rows = parse_all(records, 0, Row::parse)?;
+    let rows = uniform(bytes, kind::ROW, Row::from_record)?;
     let ors = rows.iter().filter(|row| matches!(row, Row::Or(..))).count();
-    if rows.len() > limits.rows || ors > limits.ors {
-        return Err((number::LIMIT, 0));
-    }
-    if rows.is_empty() {
-        return Err((number::EMPTY, 0));
-    }
-    let missing = |row: &Row| row.operands().is_some_and(|(a, b)| a.max(b) >= rows.len());
-    expect_none(rows.iter(), 0, number::PAST_THE_LAST, missing)?;
+    check_limit(rows.len() <= limits.rows && ors <= limits.ors)?;
+    check_not_empty(&rows)?;
+    check_all(&rows, 0, number::PAST_THE_LAST, |row| {
+        row.operands().all(|operand| operand < rows.len())
+    })?;
     Ok(rows)
 }
 
-/// The rules of a monitor, by key.
+/// Checks a file of rules, which may be empty.
 pub fn check_rules(bytes: &[u8]) -> Result<Vec<Rule>, Fault> {
-    let records = split(bytes)?;
-    expect_kind(records, kind::RULE, 0)?;
-    let rules = parse_all(records, 0, Rule::parse)?;
-    expect_ascending(&rules, 0, Rule::key)?;
+    let rules = uniform(bytes, kind::RULE, Rule::from_record)?;
+    check_order(&rules, 0, Rule::key)?;
     Ok(rules)
 }
 
-/// Exactly one record.
+/// Checks a file of exactly one interface record.
 pub fn check_interface(bytes: &[u8]) -> Result<Interface, Fault> {
     let records = split(bytes)?;
-    let Some((first, others)) = records.split_first() else {
-        return Err((number::EMPTY, 0));
-    };
-    if first[0] != kind::INTERFACE {
-        return Err((number::KIND, 0));
-    }
-    if !others.is_empty() {
-        return Err((number::KIND, 1));
-    }
-    Interface::parse(first).ok_or((number::RANGE, 0))
+    let (first, rest) = records.split_at(records.len().min(1));
+    check_all(first, 0, number::KIND, |record| {
+        record[0] == kind::INTERFACE
+    })?;
+    check_all(rest, 1, number::KIND, |_| false)?;
+    let interfaces = parse(first, 0, Interface::from_record)?;
+    check_not_empty(&interfaces)?;
+    Ok(interfaces[0])
+}
+
+/// The items of a file whose records are all of one kind.
+fn uniform<T>(
+    bytes: &[u8],
+    kind: u8,
+    from_record: impl Fn(&Record) -> Option<T>,
+) -> Result<Vec<T>, Fault> {
+    let records = split(bytes)?;
+    check_all(records, 0, number::KIND, |record| record[0] == kind)?;
+    parse(records, 0, from_record)
 }
 
 fn split(bytes: &[u8]) -> Result<&[Record], Fault> {
@@ -77,34 +82,53 @@ fn split(bytes: &[u8]) -> Result<&[Record], Fault> {
     }
 }
 
-/// `first` is the place in the file of the first item, here and below.
-fn expect_kind(records: &[Record], kind: u8, first: usize) -> Result<(), Fault> {
-    expect_none(records.iter(), first, number::KIND, |record| record[0] != kind)
-}
-
-fn parse_all<T>(
+/// Takes the records' fields; `start` is the number of the first of them in the file.
+fn parse<T>(
     records: &[Record],
-    first: usize,
-    parse: fn(&Record) -> Option<T>,
+    start: usize,
+    from_record: impl Fn(&Record) -> Option<T>,
 ) -> Result<Vec<T>, Fault> {
-    let parsed = |(at, record)| parse(record).ok_or((number::RANGE, first + at));
-    records.iter().enumerate().map(parsed).collect()
+    let parsed = records.iter().enumerate();
+    parsed
+        .map(|(at, record)| from_record(record).ok_or((number::RANGE, start + at)))
+        .collect()
 }
 
-/// Of two neighbours out of order, the later one offends.
-fn expect_ascending<T, K: Ord>(items: &[T], first: usize, key: fn(&T) -> K) -> Result<(), Fault> {
-    let broken = |pair: &[T]| key(&pair[0]) >= key(&pair[1]);
-    expect_none(items.windows(2), first + 1, number::ORDER, broken)
-}
-
-fn expect_none<T>(
-    mut items: impl Iterator<Item = T>,
-    first: usize,
+/// Refuses by `number` the first item that is not as it should be.
+fn check_all<T>(
+    items: &[T],
+    start: usize,
     number: u8,
-    offends: impl Fn(T) -> bool,
+    accepted: impl Fn(&T) -> bool,
 ) -> Result<(), Fault> {
-    match items.position(offends) {
-        Some(at) => Err((number, first + at)),
+    match items.iter().position(|item| !accepted(item)) {
+        Some(at) => Err((number, start + at)),
         None => Ok(()),
+    }
+}
+
+fn check_order<T, K: Ord>(items: &[T], start: usize, key: impl Fn(&T) -> K) -> Result<(), Fault> {
+    match items
+        .windows(2)
+        .position(|pair| key(&pair[0]) >= key(&pair[1]))
+    {
+        Some(at) => Err((number::ORDER, start + at + 1)),
+        None => Ok(()),
+    }
+}
+
+fn check_limit(kept: bool) -> Result<(), Fault> {
+    if kept {
+        Ok(())
+    } else {
+        Err((number::LIMIT, 0))
+    }
+}
+
+fn check_not_empty<T>(items: &[T]) -> Result<(), Fault> {
+    if items.is_empty() {
+        Err((number::EMPTY, 0))
+    } else {
+        Ok(())
     }
 }

@@ -1,68 +1,96 @@
-//! A flow graph with its edges indexed by source and by target.
+//! Flow graphs with their edges found by source and by target.
 
-use crate::record::{Edge, Interface, Node, INTERNAL};
+use crate::record::{Edge, Node, LABELS};
 
+/// A flow graph. Its edges ascend by (from, label, to).
 #[derive(Clone, Debug)]
 pub struct Graph {
     pub nodes: Vec<Node>,
-    /// In file order, which is by source.
     pub edges: Vec<Edge>,
-    out_starts: Vec<usize>,
-    by_target: Vec<Edge>,
-    in_starts: Vec<usize>,
+    by_source: Index,
+    by_target: Index,
+    /// The edges again, ascending by (to, label, from).
+    reversed: Vec<Edge>,
+}
+
+/// Where the edges of each (node, label) start in a list ordered by node and label.
+#[derive(Clone, Debug)]
+struct Index {
+    starts: Vec<usize>,
+}
+
+impl Index {
+    fn new(nodes: usize, edges: &[Edge], node: impl Fn(&Edge) -> usize) -> Index {
+        let mut starts = vec![0; nodes * LABELS + 1];
+        for edge in edges {
+            starts[node(edge) * LABELS + edge.label + 1] += 1;
+        }
+        for slot in 1..starts.len() {
+            starts[slot] += starts[slot - 1];
+        }
+        Index { starts }
+    }
+
+    fn of_node<'a>(&self, edges: &'a [Edge], node: usize) -> &'a [Edge] {
+        &edges[self.starts[node * LABELS]..self.starts[(node + 1) * LABELS]]
+    }
+
+    fn of_label<'a>(&self, edges: &'a [Edge], node: usize, label: usize) -> &'a [Edge] {
+        let slot = node * LABELS + label;
+        &edges[self.starts[slot]..self.starts[slot + 1]]
+    }
 }
 
 impl Graph {
-    /// Edges must be in file order and name nodes of the graph.
+    /// Builds the indexes; `edges` must ascend and join nodes of the graph.
     pub fn new(nodes: Vec<Node>, edges: Vec<Edge>) -> Graph {
-        let out_starts = bucket_starts(nodes.len(), edges.iter().map(|edge| edge.from));
-        let in_starts = bucket_starts(nodes.len(), edges.iter().map(|edge| edge.to));
-        let mut by_target = edges.clone();
-        let mut free = in_starts.clone();
+        let by_source = Index::new(nodes.len(), &edges, |edge| edge.from);
+        let by_target = Index::new(nodes.len(), &edges, |edge| edge.to);
+        let mut next = by_target.starts.clone();
+        let mut reversed = edges.clone();
         for edge in &edges {
-            by_target[free[edge.to]] = *edge;
-            free[edge.to] += 1;
+            let slot = &mut next[edge.to * LABELS + edge.label];
+            reversed[*slot] = *edge;
+            *slot += 1;
         }
-        Graph { nodes, edges, out_starts, by_target, in_starts }
+        Graph {
+            nodes,
+            edges,
+            by_source,
+            by_target,
+            reversed,
+        }
     }
 
-    /// The file that holds this graph.
+    /// The graph as a file.
     pub fn bytes(&self) -> Vec<u8> {
         let nodes = self.nodes.iter().map(Node::record);
-        nodes.chain(self.edges.iter().map(Edge::record)).flatten().collect()
+        let edges = self.edges.iter().map(Edge::record);
+        nodes.chain(edges).flatten().collect()
     }
 
+    /// The edges from a node, ascending by (label, to).
     pub fn outgoing(&self, node: usize) -> &[Edge] {
-        &self.edges[self.out_starts[node]..self.out_starts[node + 1]]
+        self.by_source.of_node(&self.edges, node)
     }
 
+    /// The edges to a node, ascending by (label, from).
     pub fn incoming(&self, node: usize) -> &[Edge] {
-        &self.by_target[self.in_starts[node]..self.in_starts[node + 1]]
+        self.by_target.of_node(&self.reversed, node)
     }
 
-    /// Entry nodes of all methods, ascending.
+    /// The edges from a node with one label, ascending by target.
+    pub(crate) fn outgoing_with(&self, node: usize, label: usize) -> &[Edge] {
+        self.by_source.of_label(&self.edges, node, label)
+    }
+
+    /// The edges to a node with one label, ascending by source.
+    pub(crate) fn incoming_with(&self, node: usize, label: usize) -> &[Edge] {
+        self.by_target.of_label(&self.reversed, node, label)
+    }
+
+    /// The entry nodes of all methods, ascending.
     pub fn entries(&self) -> impl Iterator<Item = usize> + '_ {
         (0..self.nodes.len()).filter(|&node| self.nodes[node].entry)
     }
-
-    /// The first record of the graph's file that is not of the interface.
-    pub fn first_outside(&self, interface: &Interface) -> Option<usize> {
-        let node = |node: &Node| !interface.provides(node.method);
-        let edge = |edge: &Edge| edge.label != INTERNAL && !interface.requires(edge.label);
-        let in_nodes = self.nodes.iter().position(node);
-        in_nodes.or_else(|| Some(self.nodes.len() + self.edges.iter().position(edge)?))
-    }
-}
-
-/// Where each bucket starts when items are sorted by key below `count`, and
-/// at the end where the last one stops: the first half of a counting sort.
-fn bucket_starts(count: usize, keys: impl Iterator<Item = usize>) -> Vec<usize> {
-    let mut starts = vec![0; count + 1];
-    for key in keys {
-        starts[key + 1] += 1;
-    }
-    for bucket in 0..count {
-        starts[bucket + 1] += starts[bucket];
-    }
-    starts
 }

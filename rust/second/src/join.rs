@@ -1,31 +1,19 @@
-//! Joining two graphs, and showing a joined node in the file it came from.
+//! Joining two flow graphs.
 
 use crate::graph::Graph;
-use crate::record::{Edge, RECORD_LEN};
+use crate::record::{Edge, Limits};
 
-/// The second graph's nodes follow the first's. Its edges start at the later
-/// nodes, so appending them keeps the order of edges.
-pub fn join(first: &Graph, second: &Graph) -> Graph {
+/// Both graphs side by side, the second's nodes after the first's; `None` when this passes the
+/// limits. The edges are then in order: all sources of the second come after those of the first.
+pub(crate) fn joined(limits: &Limits, first: &Graph, second: &Graph) -> Option<Graph> {
     let shift = first.nodes.len();
-    let renumbered =
-        |edge: &Edge| Edge { from: edge.from + shift, label: edge.label, to: edge.to + shift };
-    let mut nodes = first.nodes.clone();
-    nodes.extend(&second.nodes);
-    let mut edges = first.edges.clone();
-    edges.extend(second.edges.iter().map(renumbered));
-    Graph::new(nodes, edges)
-}
-
-/// A graph and the file it was read from.
-pub type Source<'a> = (&'a Graph, &'a [u8]);
-
-/// The record of a node of the joined graph, `None` past the last one.
-pub fn show<'a>(first: Source<'a>, second: Source<'a>, number: usize) -> Option<&'a [u8]> {
-    let ((graph, bytes), at) = match number.checked_sub(first.0.nodes.len()) {
-        Some(later) => (second, later),
-        None => (first, number),
-    };
-    // Node n is record n of its file.
-    let record = || &bytes[at * RECORD_LEN..][..RECORD_LEN];
-    (at < graph.nodes.len()).then(record)
+    let nodes = [first.nodes.as_slice(), &second.nodes].concat();
+    let moved = second.edges.iter().map(|edge| Edge {
+        from: edge.from + shift,
+        label: edge.label,
+        to: edge.to + shift,
+    });
+    let edges: Vec<Edge> = first.edges.iter().copied().chain(moved).collect();
+    let fits = nodes.len() <= limits.nodes && edges.len() <= limits.edges;
+    fits.then(|| Graph::new(nodes, edges))
 }

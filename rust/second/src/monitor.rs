@@ -1,38 +1,38 @@
-//! Monitors: how a state moves on calls and returns.
+//! Monitors over calls and returns, and sets of their states.
 
 use crate::record::{Event, Rule, METHODS, STATES};
 
-/// Methods count from 1, so that place 0 stays unused.
-type Moves = [[[u8; METHODS + 1]; METHODS + 1]; STATES];
+/// A set of monitor states; state s is the bit of weight 2^s.
+pub(crate) type States = u8;
 
-pub struct Monitor {
-    calls: Moves,
-    returns: Moves,
+/// The states of a set, ascending.
+pub(crate) fn members(states: States) -> impl Iterator<Item = usize> {
+    (0..STATES).filter(move |state| states >> state & 1 == 1)
+}
+
+/// For each event and state, the next state by the two methods of the event.
+pub(crate) struct Monitor {
+    next: [[[[usize; METHODS]; METHODS]; STATES]; 2],
 }
 
 impl Monitor {
-    /// Without a rule, the state stays; the bad state has no rule.
     pub fn new(rules: &[Rule]) -> Monitor {
-        let mut stay: Moves = Default::default();
-        for (state, moves) in stay.iter_mut().enumerate() {
-            *moves = [[state as u8; METHODS + 1]; METHODS + 1];
-        }
-        let (mut calls, mut returns) = (stay, stay);
+        let stay = std::array::from_fn(|state| [[state; METHODS]; METHODS]);
+        let mut next = [stay; 2];
         for rule in rules {
-            let moves = match rule.event {
-                Event::Call => &mut calls,
-                Event::Return => &mut returns,
-            };
-            moves[rule.state][rule.from][rule.to] = rule.next as u8;
+            next[rule.event as usize][rule.state][rule.from - 1][rule.to - 1] = rule.next;
         }
-        Monitor { calls, returns }
+        Monitor { next }
     }
 
-    pub fn on_call(&self, state: usize, caller: usize, callee: usize) -> usize {
-        usize::from(self.calls[state][caller][callee])
+    /// The state after method `from` calls, or returns to, method `to`.
+    pub fn after(&self, state: usize, event: Event, from: usize, to: usize) -> usize {
+        self.next[event as usize][state][from - 1][to - 1]
     }
 
-    pub fn on_return(&self, state: usize, callee: usize, caller: usize) -> usize {
-        usize::from(self.returns[state][callee][caller])
+    /// The states that the event leads to from some state of a set.
+    pub fn after_any(&self, states: States, event: Event, from: usize, to: usize) -> States {
+        let after = members(states).map(|state| self.after(state, event, from, to));
+        after.fold(0, |all, state| all | 1 << state)
     }
 }

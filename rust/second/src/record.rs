@@ -1,11 +1,12 @@
-//! Records: six bytes each, whatever their kind, and what their fields mean.
+//! The five kinds of six-byte records, their fields and the limits on their number.
 
+/// Length in bytes of every record.
 pub const RECORD_LEN: usize = 6;
 
-/// The bytes of one record.
+/// One record as it stands in a file.
 pub type Record = [u8; RECORD_LEN];
 
-/// The first byte of a record.
+/// First byte of a record.
 pub mod kind {
     pub const NODE: u8 = 1;
     pub const EDGE: u8 = 2;
@@ -14,28 +15,47 @@ pub mod kind {
     pub const INTERFACE: u8 = 5;
 }
 
-/// Methods are numbered from 1 to `METHODS`.
+/// Second byte of a row.
+mod operator {
+    pub const TRUE: u8 = 1;
+    pub const FALSE: u8 = 2;
+    pub const IN: u8 = 3;
+    pub const NOT_IN: u8 = 4;
+    pub const RETURN: u8 = 5;
+    pub const NOT_RETURN: u8 = 6;
+    pub const AND: u8 = 7;
+    pub const OR: u8 = 8;
+    pub const BOX: u8 = 9;
+}
+
+/// Number of methods; they are numbered from 1.
 pub const METHODS: usize = 8;
-/// Label 0 is the internal step, label m a call of method m.
+/// Number of labels: the internal step and a call of each method.
 pub const LABELS: usize = METHODS + 1;
+/// Label of an internal step.
 pub const INTERNAL: usize = 0;
-/// Monitor states are numbered from 0; the last one is bad.
+/// Number of monitor states.
 pub const STATES: usize = 8;
+/// The monitor state that is bad and stays bad.
 pub const BAD: usize = STATES - 1;
 
-/// The largest files accepted. Fields are bytes, so more than 256 nodes or
-/// rows could not be named, whatever the limit.
+/// The largest accepted numbers of nodes, edges, rows and rows with operator "or".
 #[derive(Clone, Copy, Debug, PartialEq, Eq)]
 pub struct Limits {
     pub nodes: usize,
     pub edges: usize,
     pub rows: usize,
-    /// Rows with the operator "or".
     pub ors: usize,
 }
 
 impl Limits {
-    pub const DESK: Limits = Limits { nodes: 256, edges: 4096, rows: 32, ors: 12 };
+    /// The published limits.
+    pub const DESK: Limits = Limits {
+        nodes: 256,
+        edges: 4096,
+        rows: 32,
+        ors: 12,
+    };
 }
 
 #[derive(Clone, Copy, Debug, PartialEq, Eq)]
@@ -45,24 +65,6 @@ pub struct Node {
     pub entry: bool,
 }
 
-impl Node {
-    /// `None` when a field is out of its range; the same for the other kinds.
-    pub fn parse(record: &Record) -> Option<Node> {
-        match *record {
-            [kind::NODE, method @ 1..=8, returns @ 0..=1, entry @ 0..=1, 0, 0] => {
-                Some(Node { method: usize::from(method), returns: returns == 1, entry: entry == 1 })
-            }
-            _ => None,
-        }
-    }
-
-    pub fn record(&self) -> Record {
-        let (returns, entry) = (u8::from(self.returns), u8::from(self.entry));
-        [kind::NODE, self.method as u8, returns, entry, 0, 0]
-    }
-}
-
-/// Edges are ordered by source, label, target: the order of a graph file.
 #[derive(Clone, Copy, Debug, PartialEq, Eq, PartialOrd, Ord)]
 pub struct Edge {
     pub from: usize,
@@ -70,28 +72,6 @@ pub struct Edge {
     pub to: usize,
 }
 
-impl Edge {
-    pub fn parse(record: &Record) -> Option<Edge> {
-        match *record {
-            [kind::EDGE, from, label @ 0..=8, to, 0, 0] => Some(Edge {
-                from: usize::from(from),
-                label: usize::from(label),
-                to: usize::from(to),
-            }),
-            _ => None,
-        }
-    }
-
-    pub fn record(&self) -> Record {
-        let (from, label, to) = (self.from as u8, self.label as u8, self.to as u8);
-        [kind::EDGE, from, label, to, 0, 0]
-    }
-}
-
-/// The row that a graph must hold at its entries.
-pub const ROOT: usize = 0;
-
-/// One equation of a property; operands are row numbers.
 #[derive(Clone, Copy, Debug, PartialEq, Eq)]
 pub enum Row {
     True,
@@ -105,58 +85,13 @@ pub enum Row {
     Box { label: usize, row: usize },
 }
 
-impl Row {
-    pub fn parse(record: &Record) -> Option<Row> {
-        let [kind::ROW, operator, a, b, 0, 0] = *record else {
-            return None;
-        };
-        let (first, second) = (usize::from(a), usize::from(b));
-        match (operator, a, b) {
-            (1, 0, 0) => Some(Row::True),
-            (2, 0, 0) => Some(Row::False),
-            (3, 1..=8, 0) => Some(Row::In(first)),
-            (4, 1..=8, 0) => Some(Row::NotIn(first)),
-            (5, 0, 0) => Some(Row::Return),
-            (6, 0, 0) => Some(Row::NotReturn),
-            (7, _, _) => Some(Row::And(first, second)),
-            (8, _, _) => Some(Row::Or(first, second)),
-            (9, 0..=8, _) => Some(Row::Box { label: first, row: second }),
-            _ => None,
-        }
-    }
-
-    /// The rows this one names, one of them twice where it names only one.
-    pub fn operands(&self) -> Option<(usize, usize)> {
-        match *self {
-            Row::And(a, b) | Row::Or(a, b) => Some((a, b)),
-            Row::Box { row, .. } => Some((row, row)),
-            _ => None,
-        }
-    }
-
-    /// Whether the row is false at every node with this method and flag
-    /// for its own sake, without regard to other rows.
-    pub fn refuted_at(&self, method: usize, returns: bool) -> bool {
-        match *self {
-            Row::False => true,
-            Row::In(wanted) => method != wanted,
-            Row::NotIn(shunned) => method == shunned,
-            Row::Return => !returns,
-            Row::NotReturn => returns,
-            Row::True | Row::And(..) | Row::Or(..) | Row::Box { .. } => false,
-        }
-    }
-}
-
 #[derive(Clone, Copy, Debug, PartialEq, Eq, PartialOrd, Ord)]
 pub enum Event {
-    /// The first method calls the second.
     Call,
-    /// The first method returns to the second.
     Return,
 }
 
-/// What the monitor does in a state on an event between two methods.
+/// In `state`, the event between methods `from` and `to` leads to state `next`.
 #[derive(Clone, Copy, Debug, PartialEq, Eq)]
 pub struct Rule {
     pub state: usize,
@@ -166,54 +101,167 @@ pub struct Rule {
     pub next: usize,
 }
 
-impl Rule {
-    pub fn parse(record: &Record) -> Option<Rule> {
-        match *record {
-            [kind::RULE, state @ 0..=6, event @ 1..=2, from @ 1..=8, to @ 1..=8, next @ 0..=7] => {
-                Some(Rule {
-                    state: usize::from(state),
-                    event: if event == 1 { Event::Call } else { Event::Return },
-                    from: usize::from(from),
-                    to: usize::from(to),
-                    next: usize::from(next),
-                })
-            }
-            _ => None,
-        }
-    }
-
-    /// What at most one rule may have.
-    pub fn key(&self) -> (usize, Event, usize, usize) {
-        (self.state, self.event, self.from, self.to)
-    }
-}
-
-/// Two sets of methods; the bit of weight 2^(m-1) stands for method m.
+/// Sets of methods; the bit of weight 2^(m-1) stands for method m.
 #[derive(Clone, Copy, Debug, PartialEq, Eq)]
 pub struct Interface {
     pub provided: u8,
     pub required: u8,
 }
 
-impl Interface {
-    pub fn parse(record: &Record) -> Option<Interface> {
-        match *record {
-            [kind::INTERFACE, provided, required, 0, 0, 0] => {
-                Some(Interface { provided, required })
-            }
+fn flag(byte: u8) -> Option<bool> {
+    match byte {
+        0 => Some(false),
+        1 => Some(true),
+        _ => None,
+    }
+}
+
+/// The number of a method, if `byte` is one.
+pub(crate) fn method(byte: u8) -> Option<usize> {
+    Some(usize::from(byte)).filter(|number| (1..=METHODS).contains(number))
+}
+
+/// `byte` as a number below `end`.
+fn below(end: usize, byte: u8) -> Option<usize> {
+    Some(usize::from(byte)).filter(|&number| number < end)
+}
+
+// Each `from_record` is `None` when a field is out of range or an unused byte is not 0.
+// Node and row numbers are taken as they are: their range depends on the rest of the file.
+
+impl Node {
+    pub fn record(&self) -> Record {
+        let method = self.method as u8;
+        [
+            kind::NODE,
+            method,
+            self.returns.into(),
+            self.entry.into(),
+            0,
+            0,
+        ]
+    }
+
+    pub(crate) fn from_record(record: &Record) -> Option<Node> {
+        let [kind::NODE, number, returns, entry, 0, 0] = *record else {
+            return None;
+        };
+        Some(Node {
+            method: method(number)?,
+            returns: flag(returns)?,
+            entry: flag(entry)?,
+        })
+    }
+}
+
+impl Edge {
+    pub fn record(&self) -> Record {
+        let [from, label, to] = [self.from, self.label, self.to].map(|field| field as u8);
+        [kind::EDGE, from, label, to, 0, 0]
+    }
+
+    pub(crate) fn from_record(record: &Record) -> Option<Edge> {
+        let [kind::EDGE, from, label, to, 0, 0] = *record else {
+            return None;
+        };
+        Some(Edge {
+            from: usize::from(from),
+            label: below(LABELS, label)?,
+            to: usize::from(to),
+        })
+    }
+}
+
+impl Row {
+    pub(crate) fn from_record(record: &Record) -> Option<Row> {
+        let [kind::ROW, operator, a, b, 0, 0] = *record else {
+            return None;
+        };
+        let operands = (usize::from(a), usize::from(b));
+        match (operator, a, b) {
+            (operator::TRUE, 0, 0) => Some(Row::True),
+            (operator::FALSE, 0, 0) => Some(Row::False),
+            (operator::IN, _, 0) => method(a).map(Row::In),
+            (operator::NOT_IN, _, 0) => method(a).map(Row::NotIn),
+            (operator::RETURN, 0, 0) => Some(Row::Return),
+            (operator::NOT_RETURN, 0, 0) => Some(Row::NotReturn),
+            (operator::AND, _, _) => Some(Row::And(operands.0, operands.1)),
+            (operator::OR, _, _) => Some(Row::Or(operands.0, operands.1)),
+            (operator::BOX, _, _) => below(LABELS, a).map(|label| Row::Box {
+                label,
+                row: operands.1,
+            }),
             _ => None,
         }
     }
 
-    pub fn provides(&self, method: usize) -> bool {
-        has_method(self.provided, method)
+    /// The numbers of the rows this row names.
+    pub(crate) fn operands(&self) -> impl Iterator<Item = usize> {
+        let (a, b) = match *self {
+            Row::And(a, b) | Row::Or(a, b) => (Some(a), Some(b)),
+            Row::Box { row, .. } => (Some(row), None),
+            _ => (None, None),
+        };
+        a.into_iter().chain(b)
     }
 
-    pub fn requires(&self, method: usize) -> bool {
-        has_method(self.required, method)
+    /// Whether the row, read without its operands, is false at a method and return flag.
+    pub(crate) fn is_false_at(&self, at: usize, returns: bool) -> bool {
+        match *self {
+            Row::False => true,
+            Row::In(method) => method != at,
+            Row::NotIn(method) => method == at,
+            Row::Return => !returns,
+            Row::NotReturn => returns,
+            Row::True | Row::And(..) | Row::Or(..) | Row::Box { .. } => false,
+        }
     }
 }
 
-fn has_method(set: u8, method: usize) -> bool {
-    set >> (method - 1) & 1 == 1
+impl Rule {
+    pub(crate) fn from_record(record: &Record) -> Option<Rule> {
+        let [kind::RULE, state, event, from, to, next] = *record else {
+            return None;
+        };
+        Some(Rule {
+            state: below(BAD, state)?,
+            event: match event {
+                1 => Event::Call,
+                2 => Event::Return,
+                _ => return None,
+            },
+            from: method(from)?,
+            to: method(to)?,
+            next: below(STATES, next)?,
+        })
+    }
+
+    /// What the rule is about: at most one rule of a file has it.
+    pub(crate) fn key(&self) -> (usize, Event, usize, usize) {
+        (self.state, self.event, self.from, self.to)
+    }
+}
+
+impl Interface {
+    pub(crate) fn from_record(record: &Record) -> Option<Interface> {
+        let [kind::INTERFACE, provided, required, 0, 0, 0] = *record else {
+            return None;
+        };
+        Some(Interface { provided, required })
+    }
+
+    pub fn provides(&self, method: usize) -> bool {
+        self.provided >> (method - 1) & 1 == 1
+    }
+
+    pub fn requires(&self, method: usize) -> bool {
+        self.required >> (method - 1) & 1 == 1
+    }
+
+    pub(crate) fn united(&self, other: &Interface) -> Interface {
+        Interface {
+            provided: self.provided | other.provided,
+            required: self.required | other.required,
+        }
+    }
 }

@@ -1,6 +1,6 @@
-//! Refusals: why a call says no verdict, and where its input offends.
+//! The refusals and their numbers.
 
-/// The numbers of the refusal table.
+/// Why a call is refused.
 pub mod number {
     pub const LENGTH: u8 = 1;
     pub const KIND: u8 = 2;
@@ -17,18 +17,21 @@ pub mod number {
     pub const SHORT_WORK: u8 = 13;
 }
 
+/// A refusal with its place: the file's position from 1 and the first offending record from 0.
 #[derive(Clone, Copy, Debug, PartialEq, Eq)]
 pub struct Refusal {
     pub number: u8,
-    /// Position of the file among the arguments, from 1; 0 for no file.
     pub file: u8,
-    /// First offending record, from 0.
     pub record: usize,
 }
 
 impl Refusal {
-    /// A refusal that no file is to blame for.
-    pub fn of_call(number: u8) -> Refusal {
-        Refusal { number, file: 0, record: 0 }
+    /// A refusal that no single file causes.
+    pub(crate) fn of_call(number: u8) -> Refusal {
+        Refusal {
+            number,
+            file: 0,
+            record: 0,
+        }
     }
 }

@@ -1,164 +1,130 @@
-//! Summaries: what a whole call can yield, without looking at stacks.
+//! Summaries: the monitor states in which a whole call can end.
 
 use crate::graph::Graph;
-use crate::monitor::Monitor;
-use crate::record::{Edge, Rule, INTERNAL, METHODS, STATES};
+use crate::monitor::{members, Monitor, States};
+use crate::record::{Edge, Event, INTERNAL, METHODS, STATES};
+use crate::set::ByteSet;
+use std::collections::VecDeque;
 
-/// Monitor states, one bit each.
-pub type StateSet = u8;
+/// For each method and monitor state at its entry, the states at its return nodes.
+pub(crate) type Summaries = [[States; STATES]; METHODS];
 
-pub fn members(set: StateSet) -> impl Iterator<Item = usize> {
-    (0..STATES).filter(move |state| set >> state & 1 == 1)
-}
-
-/// A graph that a monitor watches.
-pub struct Program<'a> {
-    pub graph: &'a Graph,
-    pub monitor: Monitor,
-    /// Entry nodes by method, ascending.
-    pub entries: [Vec<usize>; METHODS + 1],
-}
-
-impl<'a> Program<'a> {
-    pub fn new(graph: &'a Graph, rules: &[Rule]) -> Program<'a> {
-        let mut entries: [Vec<usize>; METHODS + 1] = Default::default();
-        for entry in graph.entries() {
-            entries[graph.nodes[entry].method].push(entry);
+pub(crate) fn summaries(graph: &Graph, monitor: &Monitor) -> Summaries {
+    let mut closure = Closure {
+        graph,
+        monitor,
+        reached: vec![[0; STATES]; graph.nodes.len()],
+        fresh: vec![[0; STATES]; graph.nodes.len()],
+        waiting: [[[ByteSet::EMPTY; STATES]; STATES]; METHODS],
+        summaries: [[0; STATES]; METHODS],
+        queue: VecDeque::new(),
+    };
+    for node in graph.entries() {
+        for entry_state in 0..STATES {
+            closure.add(Point { node, entry_state }, 1 << entry_state);
         }
-        Program { graph, monitor: Monitor::new(rules), entries }
     }
-
-    pub fn method(&self, node: usize) -> usize {
-        self.graph.nodes[node].method
+    while let Some(point) = closure.queue.pop_front() {
+        closure.take(point);
     }
-
-    fn returns(&self, node: usize) -> bool {
-        self.graph.nodes[node].returns
-    }
-
-    /// A return node runs no edge.
-    pub fn runs(&self, edge: &Edge) -> bool {
-        !self.returns(edge.from)
-    }
-
-    /// The callee's state at its entry when the edge's call is made.
-    pub fn called(&self, edge: &Edge, state: usize) -> usize {
-        self.monitor.on_call(state, self.method(edge.from), edge.label)
-    }
+    closure.summaries
 }
 
-/// For each method and monitor state at its entry, the states in which a
-/// call can arrive at one of the method's return nodes.
-pub struct Summaries {
-    returned: [[StateSet; STATES]; METHODS + 1],
-}
-
-/// A node and a monitor state, within a call that entered with a state.
+/// A node and the monitor state in which the run of its method began.
 #[derive(Clone, Copy)]
-struct Fact {
-    entered: usize,
+struct Point {
     node: usize,
-    state: usize,
+    entry_state: usize,
 }
 
-/// A call that waits for its callee to return: how it goes on, and where.
-#[derive(Clone, Copy)]
-struct Caller {
-    entered: usize,
-    target: usize,
-}
-
-struct Summarizing<'a> {
-    program: &'a Program<'a>,
+/// Finds the states in which every point is reached.
+struct Closure<'a> {
+    graph: &'a Graph,
+    monitor: &'a Monitor,
+    /// For each node and entry state, the states in which it is reached.
+    reached: Vec<[States; STATES]>,
+    /// Those of the reached states that are new since the point was last taken.
+    fresh: Vec<[States; STATES]>,
+    /// For each method called, its entry state and the caller's entry state, the nodes at which
+    /// callers go on.
+    waiting: [[[ByteSet; STATES]; STATES]; METHODS],
     summaries: Summaries,
-    /// States met, by node and state at the entry.
-    met: Vec<[StateSet; STATES]>,
-    callers: [[Vec<Caller>; STATES]; METHODS + 1],
-    open: Vec<Fact>,
+    /// The points with new states.
+    queue: VecDeque<Point>,
 }
 
-impl Summaries {
-    pub fn of(program: &Program) -> Summaries {
-        let mut summarizing = Summarizing {
-            program,
-            summaries: Summaries { returned: Default::default() },
-            met: vec![Default::default(); program.graph.nodes.len()],
-            callers: Default::default(),
-            open: Vec::new(),
-        };
-        for node in program.graph.entries() {
-            for entered in 0..STATES {
-                summarizing.meet(Fact { entered, node, state: entered });
-            }
-        }
-        while let Some(fact) = summarizing.open.pop() {
-            summarizing.follow(fact);
-        }
-        summarizing.summaries
-    }
-
-    /// The states after the edge's call has returned, from a state before it.
-    pub fn passed_over(&self, program: &Program, edge: &Edge, state: usize) -> StateSet {
-        let caller = program.method(edge.from);
-        let returned = self.returned[edge.label][program.called(edge, state)];
-        let after = |state| program.monitor.on_return(state, edge.label, caller);
-        members(returned).fold(0, |set, state| set | 1 << after(state))
-    }
-}
-
-impl Summarizing<'_> {
-    fn meet(&mut self, fact: Fact) {
-        let met = &mut self.met[fact.node][fact.entered];
-        if *met >> fact.state & 1 == 0 {
-            *met |= 1 << fact.state;
-            self.open.push(fact);
-        }
-    }
-
-    fn follow(&mut self, fact: Fact) {
-        let program = self.program;
-        if program.returns(fact.node) {
-            return self.give_back(fact);
-        }
-        for edge in program.graph.outgoing(fact.node) {
-            if edge.label == INTERNAL {
-                self.meet(Fact { node: edge.to, ..fact });
-            } else {
-                self.wait(fact, edge);
-            }
-        }
-    }
-
-    /// A return node: every caller goes on, unless it knows the state.
-    fn give_back(&mut self, fact: Fact) {
-        let method = self.program.method(fact.node);
-        let returned = &mut self.summaries.returned[method][fact.entered];
-        if *returned >> fact.state & 1 == 1 {
+impl Closure<'_> {
+    fn add(&mut self, point: Point, states: States) {
+        let Point { node, entry_state } = point;
+        let new = states & !self.reached[node][entry_state];
+        if new == 0 {
             return;
         }
-        *returned |= 1 << fact.state;
-        for at in 0..self.callers[method][fact.entered].len() {
-            let caller = self.callers[method][fact.entered][at];
-            self.resume(caller, method, fact.state);
+        if self.fresh[node][entry_state] == 0 {
+            self.queue.push_back(point);
+        }
+        self.reached[node][entry_state] |= new;
+        self.fresh[node][entry_state] |= new;
+    }
+
+    fn take(&mut self, point: Point) {
+        let states = std::mem::take(&mut self.fresh[point.node][point.entry_state]);
+        let graph = self.graph;
+        if graph.nodes[point.node].returns {
+            return self.end_call(point, states);
+        }
+        for edges in graph
+            .outgoing(point.node)
+            .chunk_by(|a, b| a.label == b.label)
+        {
+            let next = match edges[0].label {
+                INTERNAL => states,
+                _ => self.call(point, states, edges),
+            };
+            for edge in edges {
+                self.add(
+                    Point {
+                        node: edge.to,
+                        ..point
+                    },
+                    next,
+                );
+            }
         }
     }
 
-    /// A call: go on with the states known so far, and wait for more.
-    fn wait(&mut self, fact: Fact, edge: &Edge) {
-        let entered = self.program.called(edge, fact.state);
-        let caller = Caller { entered: fact.entered, target: edge.to };
-        self.callers[edge.label][entered].push(caller);
-        for state in members(self.summaries.returned[edge.label][entered]) {
-            self.resume(caller, edge.label, state);
+    /// Lets runs wait at the targets of edges that call one method, and gives the states in which
+    /// they go on after the returns known so far.
+    fn call(&mut self, point: Point, states: States, edges: &[Edge]) -> States {
+        let callee = edges[0].label;
+        let caller = self.graph.nodes[point.node].method;
+        let targets = edges.iter().map(|edge| edge.to).collect();
+        let mut ends = 0;
+        for entered in members(self.monitor.after_any(states, Event::Call, caller, callee)) {
+            let waiting = &mut self.waiting[callee - 1][entered][point.entry_state];
+            *waiting = waiting.union(&targets);
+            ends |= self.summaries[callee - 1][entered];
         }
+        self.monitor.after_any(ends, Event::Return, callee, caller)
     }
 
-    fn resume(&mut self, caller: Caller, callee: usize, state: usize) {
-        let method = self.program.method(caller.target);
-        self.meet(Fact {
-            entered: caller.entered,
-            node: caller.target,
-            state: self.program.monitor.on_return(state, callee, method),
-        });
+    /// Lets every waiting caller go on with those states at a return node that are new to the
+    /// summary.
+    fn end_call(&mut self, point: Point, states: States) {
+        let callee = self.graph.nodes[point.node].method;
+        let summary = &mut self.summaries[callee - 1][point.entry_state];
+        let new = states & !*summary;
+        *summary |= new;
+        if new == 0 {
+            return;
+        }
+        for entry_state in 0..STATES {
+            let waiting = self.waiting[callee - 1][point.entry_state][entry_state];
+            for node in waiting.iter() {
+                let caller = self.graph.nodes[node].method;
+                let next = self.monitor.after_any(new, Event::Return, callee, caller);
+                self.add(Point { node, entry_state }, next);
+            }
+        }
     }
 }

@@ -1,166 +1,176 @@
-//! Case studies of the trade, with the verdicts their sources claim.
+//! The verdicts that the case studies claim.
 
 mod support;
 
-use second::Outcome;
+use second::{Outcome, Sides};
 use support::*;
 
-/// A file of the one case study that a test is about.
-fn of(case: &'static str) -> impl Fn(&str) -> Vec<u8> {
-    move |name| data(&format!("{case}/{name}.txt"))
+fn judge_case(name: &str, graph: &str, property: &str) -> Outcome {
+    judge(
+        &case(&format!("{name}/{graph}.txt")),
+        &case(&format!("{name}/{property}.txt")),
+    )
 }
 
-fn clean() -> Outcome {
-    said(1, &[], vec![])
+fn model_case(name: &str, interface: &str, property: &str) -> Outcome {
+    model(
+        &case(&format!("{name}/{interface}.txt")),
+        &case(&format!("{name}/{property}.txt")),
+    )
 }
 
-fn size(outcome: Outcome) -> Vec<u64> {
-    parts(outcome).1
+fn watch_case(name: &str, graph: &str, start: u8) -> Outcome {
+    let [interface, graph, rules] =
+        ["interface", graph, "rules"].map(|file| case(&format!("{name}/{file}.txt")));
+    watch(&interface, &graph, &rules, start)
 }
 
-/// Verdict and values of a comparison.
-fn simulates(first: &[u8], second: &[u8]) -> (u32, Vec<u64>) {
-    let (verdict, values, _) = parts(compare(first, second));
-    (verdict, values)
+fn compose_case(name: &str, property: &str, start: u8) -> Outcome {
+    let names = ["interface", "graph", "interface2", property, "rules"];
+    let [known_interface, known_graph, other_interface, property, rules] =
+        names.map(|file| case(&format!("{name}/{file}.txt")));
+    let sides = Sides {
+        known_interface: &known_interface,
+        known_graph: &known_graph,
+        other_interface: &other_interface,
+        property: &property,
+    };
+    compose(&sides, &rules, start)
+}
+
+fn assert_verdict(outcome: &Outcome, expected: u32) {
+    assert!(
+        matches!(outcome, Outcome::Said { verdict, .. } if *verdict == expected),
+        "{outcome:?}"
+    );
+}
+
+/// Checks that the models of some properties of a case simulate each other.
+fn assert_equal_models(name: &str, properties: &[&str]) {
+    let interface = case(&format!("{name}/interface.txt"));
+    let bytes = |property| model_bytes(&interface, &case(&format!("{name}/{property}.txt")));
+    let models: Vec<Vec<u8>> = properties.iter().map(bytes).collect();
+    for first in &models {
+        for second in &models {
+            assert_verdict(&compare(first, second), 1);
+        }
+    }
 }
 
 #[test]
 fn a_never_calls_b() {
-    let of = of("a-never-calls-b");
-    let verdict = |property: &str, start| {
-        let known = (&of("interface")[..], &of("graph")[..]);
-        composed(known, (&of("interface2"), &of(property)), &of("rules"), start)
-    };
-    for start in [1, 2] {
-        assert_eq!(verdict("property", start), clean());
-        assert_eq!(verdict("property2", start), clean());
+    let name = "a-never-calls-b";
+    for property in ["property", "property2"] {
+        assert_eq!(compose_case(name, property, 1), positive());
+        assert_eq!(compose_case(name, property, 2), positive());
     }
-    let trail = file("1 0 0 0 1 0 / 1 0 2 2 5 7");
-    assert_eq!(verdict("property-true", 1), said(2, &[2], trail));
-}
-
-#[test]
-fn a_never_calls_b_has_two_models() {
-    let of = of("a-never-calls-b");
-    let (_, size, first) = parts(model(&of("interface2"), &of("property")));
-    assert_eq!(size, [12, 56]);
-    let (_, size, second) = parts(model(&of("interface2"), &of("property2")));
-    assert_eq!(size, [10, 48]);
-    assert_eq!(simulates(&first, &second).0, 2);
-    assert_eq!(simulates(&second, &first).0, 2);
+    assert_eq!(
+        compose_case(name, "property-true", 1),
+        explained("1 0 0 0 1 0 / 1 0 2 2 5 7")
+    );
+    assert_model_size(&model_case(name, "interface2", "property"), 12, 56);
+    assert_model_size(&model_case(name, "interface2", "property2"), 10, 48);
+    let interface = case("a-never-calls-b/interface2.txt");
+    let [first, second] = ["property", "property2"]
+        .map(|property| model_bytes(&interface, &case(&format!("{name}/{property}.txt"))));
+    assert_verdict(&compare(&first, &second), 2);
+    assert_verdict(&compare(&second, &first), 2);
 }
 
 #[test]
 fn evenodd_composed() {
-    let of = of("evenodd-composed");
-    let known = (&of("interface")[..], &of("graph")[..]);
-    let other = (&of("interface2")[..], &of("property")[..]);
-    assert_eq!(composed(known, other, &of("rules"), 1), clean());
-    assert_eq!(size(model(other.0, other.1)), [6, 20]);
-    assert_eq!(judge(&of("graph2"), other.1), clean());
-    let sheet =
-        file("0 0 0 11 0 2 / 0 11 0 255 0 255 / 0 2 0 4 0 255 / 0 4 1 1 0 255 / 1 1 0 255 0 255");
-    assert_eq!(judge(&of("graph2-bad"), other.1), said(2, &[5], sheet));
+    let name = "evenodd-composed";
+    assert_eq!(compose_case(name, "property", 1), positive());
+    assert_model_size(&model_case(name, "interface2", "property"), 6, 20);
+    assert_eq!(judge_case(name, "graph2", "property"), positive());
+    let sheet = "0 0 0 11 0 2 / 0 11 0 255 0 255 / 0 2 0 4 0 255 / 0 4 1 1 0 255 / 1 1 0 255 0 255";
+    assert_eq!(judge_case(name, "graph2-bad", "property"), explained(sheet));
 }
 
 #[test]
 fn evenodd_tailrec() {
-    let of = of("evenodd-tailrec");
-    assert_eq!(judge(&of("graph"), &of("property")), clean());
-    assert_eq!(watch(&of("interface"), &of("graph"), &of("rules"), 1), clean());
-    let (_, size, model) = parts(model(&of("interface"), &of("property")));
-    assert_eq!(size, [10, 52]);
-    assert_eq!(simulates(&of("graph"), &model), (1, vec![]));
+    let name = "evenodd-tailrec";
+    assert_eq!(judge_case(name, "graph", "property"), positive());
+    assert_eq!(watch_case(name, "graph", 1), positive());
+    assert_model_size(&model_case(name, "interface", "property"), 10, 52);
+    let [interface, graph, property] =
+        ["interface", "graph", "property"].map(|file| case(&format!("{name}/{file}.txt")));
+    assert_verdict(&compare(&graph, &model_bytes(&interface, &property)), 1);
 }
 
 #[test]
 fn example37() {
-    let of = of("example37");
-    let written = |property| parts(model(&of("interface"), &of(property))).2;
-    assert_eq!(written("property"), of("graph"));
-    assert_eq!(written("property2"), of("graph2"));
-    assert_eq!(simulates(&of("graph"), &of("graph2")), (2, vec![6]));
-    assert_eq!(simulates(&of("graph2"), &of("graph")), (2, vec![1]));
-    assert_eq!(of("rules"), []);
+    let [first, second] = ["example37/graph.txt", "example37/graph2.txt"].map(case);
+    for (one, other, entry) in [(&first, &second, 6), (&second, &first, 1)] {
+        let outcome = compare(one, other);
+        assert!(
+            matches!(&outcome, Outcome::Said { verdict: 2, values, .. } if *values == [entry]),
+            "{outcome:?}"
+        );
+    }
+    let models = [("property", 12, 64, first), ("property2", 8, 48, second)];
+    for (property, nodes, edges, expected) in models {
+        assert_eq!(
+            model_case("example37", "interface", property),
+            said(1, &[nodes, edges], expected)
+        );
+    }
 }
 
 #[test]
 fn figure4() {
-    let of = of("figure4");
-    let recurring = parts(model(&of("interface"), &of("property"))).2;
-    assert_eq!(recurring, of("graph"));
-    let (_, size, plain) = parts(model(&of("interface"), &of("property-true")));
-    assert_eq!(size, [8, 48]);
-    assert_eq!(simulates(&recurring, &plain).0, 1);
-    assert_eq!(simulates(&plain, &recurring).0, 1);
-    let outcome = watch(&of("interface"), &of("graph"), &of("rules"), 1);
-    assert_eq!(outcome, refused(10, 0, 0));
+    let expected = said(1, &[4, 24], case("figure4/graph.txt"));
+    assert_eq!(model_case("figure4", "interface", "property"), expected);
+    assert_model_size(&model_case("figure4", "interface", "property-true"), 8, 48);
+    assert_equal_models("figure4", &["property", "property-true"]);
+    assert_eq!(watch_case("figure4", "graph", 1), refused(10, 0, 0));
 }
 
 #[test]
 fn inlining_fig5() {
-    let of = of("inlining-fig5");
-    let interface = of("interface");
-    let trail =
-        file("0 0 0 0 0 0 / 0 0 1 0 2 0 / 2 0 1 0 4 0 / 4 0 1 0 5 0 / 5 0 1 0 6 0 / 6 0 3 1 7 7");
-    let outcome = watch(&interface, &of("folded-expected"), &of("rules"), 1);
-    assert_eq!(outcome, said(2, &[6], trail));
-    // Before folding, only a private method calls the public one.
-    for graph in ["graph", "graph-norec"] {
-        assert_eq!(watch(&interface, &of(graph), &of("rules"), 1), clean());
-    }
+    let trail = "0 0 0 0 0 0 / 0 0 1 0 2 0 / 2 0 1 0 4 0 / 4 0 1 0 5 0 / 5 0 1 0 6 0 / 6 0 3 1 7 7";
+    assert_eq!(
+        watch_case("inlining-fig5", "folded-expected", 1),
+        explained(trail)
+    );
+    assert_eq!(judge_case("inlining-fig5", "graph", "property"), positive());
 }
 
 #[test]
 fn purse_decomposition() {
-    let of = of("purse-decomposition");
-    let verdict = |property| {
-        let known = (&of("interface")[..], &of("graph")[..]);
-        composed(known, (&of("interface2"), &of(property)), &of("rules"), 5)
-    };
-    assert_eq!(verdict("property"), clean());
-    let trail = file("9 0 0 0 9 0 / 9 0 2 5 9 7");
-    assert_eq!(verdict("property-weak"), said(2, &[2], trail));
-}
-
-#[test]
-fn purse_of_two_unwritten_sides() {
-    let (purse, loyalty) = (of("purse-sigma-p"), of("purse-sigma-l"));
-    let known = parts(model(&purse("interface"), &purse("property"))).2;
-    let other = (&loyalty("interface")[..], &loyalty("property")[..]);
-    let verdict = composed((&purse("interface"), &known), other, &loyalty("rules"), 5);
-    assert_eq!(verdict, clean());
-}
-
-/// Both sides of the purse: the model as printed, and a literal property of
-/// another size whose model simulates it and is simulated by it.
-fn purse_side(case: &'static str, edges: u64, literal_size: [u64; 2]) {
-    let of = of(case);
-    let (_, size, exclusive) = parts(model(&of("interface"), &of("property")));
-    assert_eq!((size, &exclusive), (vec![8, edges], &of("model-expected")));
-    let (_, size, literal) = parts(model(&of("interface"), &of("property-literal")));
-    assert_eq!(size, literal_size);
-    assert_eq!(simulates(&exclusive, &literal).0, 1);
-    assert_eq!(simulates(&literal, &exclusive).0, 1);
-    for property in ["property", "property-literal"] {
-        assert_eq!(judge(&of("graph"), &of(property)), clean());
-    }
-    // Operator 10 is not one of this table's.
-    let later = of("property-wish2");
-    let ten = later.chunks(6).position(|row| row[1] == 10).expect("a row");
-    assert_eq!(judge(&of("graph"), &later), refused(3, 2, ten));
+    let name = "purse-decomposition";
+    assert_eq!(compose_case(name, "property", 5), positive());
+    assert_eq!(
+        compose_case(name, "property-weak", 5),
+        explained("9 0 0 0 9 0 / 9 0 2 5 9 7")
+    );
 }
 
 #[test]
 fn purse_sigma_l() {
-    purse_side("purse-sigma-l", 120, [28, 312]);
-    let of = of("purse-sigma-l");
+    let name = "purse-sigma-l";
+    let expected = said(1, &[8, 120], case("purse-sigma-l/model-expected.txt"));
+    assert_eq!(model_case(name, "interface", "property"), expected);
+    assert_model_size(&model_case(name, "interface", "property-literal"), 28, 312);
+    assert_equal_models(name, &["property", "property-literal"]);
     for property in ["property", "property-literal"] {
-        assert_eq!(parts(judge(&of("graph-bad"), &of(property))).0, 2);
+        assert_eq!(judge_case(name, "graph", property), positive());
+        assert_verdict(&judge_case(name, "graph-bad", property), 2);
     }
 }
 
 #[test]
 fn purse_sigma_p() {
-    purse_side("purse-sigma-p", 88, [48, 272]);
+    let name = "purse-sigma-p";
+    let expected = said(1, &[8, 88], case("purse-sigma-p/model-expected.txt"));
+    assert_eq!(model_case(name, "interface", "property"), expected);
+    assert_eq!(
+        case("purse-sigma-p/model-expected.txt"),
+        case("purse-decomposition/graph.txt")
+    );
+    assert_model_size(&model_case(name, "interface", "property-literal"), 48, 272);
+    assert_equal_models(name, &["property", "property-literal"]);
+    for property in ["property", "property-literal"] {
+        assert_eq!(judge_case(name, "graph", property), positive());
+    }
 }

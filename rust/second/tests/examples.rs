@@ -1,144 +1,273 @@
-//! The course examples.
+//! Every example of the refusal table and of the course.
 
 mod support;
 
+use second::{Limits, Sides};
 use support::*;
 
+const ONE_NODE: &str = "1 1 0 1";
+
+// The refusal table.
+
 #[test]
-fn p1_model_of_no_call_and_return() {
-    let property = file("3 7 1 3 / 3 9 1 2 / 3 2 / 3 5");
-    let model_file = file(
-        "1 1 0 0 / 1 1 1 0 / 1 1 1 1 \
-         / 2 0 0 0 / 2 0 0 1 / 2 0 1 0 / 2 0 1 1 \
-         / 2 1 0 0 / 2 1 0 1 / 2 1 1 0 / 2 1 1 1 / 2 2 0 0 / 2 2 0 1",
+fn number_1_length() {
+    assert_eq!(judge(&[1, 1, 0, 0, 0], &file("3 1")), refused(1, 1, 0));
+    assert_eq!(judge(&[9; 7], &file("3 1")), refused(1, 1, 0));
+}
+
+#[test]
+fn number_2_kind() {
+    assert_eq!(
+        judge(&file("1 1 / 2 0 0 0 / 1 1"), &file("3 1")),
+        refused(2, 1, 2)
     );
-    assert_eq!(model(&file("5 1 1"), &property), said(1, &[3, 10], model_file));
+    assert_eq!(model(&file("5 1 / 5 1"), &file("3 1")), refused(2, 1, 1));
+    assert_eq!(model(&file("5 1 / 7 1"), &file("3 1")), refused(2, 1, 1));
+    assert_eq!(model(&file("4 1"), &file("3 1")), refused(2, 1, 0));
+    assert_eq!(
+        judge(&file("1 9 / 1 1 / 3 1"), &file("3 1")),
+        refused(2, 1, 2)
+    );
 }
 
 #[test]
-fn p2_or_of_itself_is_true_everywhere() {
-    let (verdict, values, _) = parts(model(&file("5 1 0"), &file("3 8 0 0")));
-    assert_eq!((verdict, values), (1, vec![4, 8]));
-    assert_eq!(judge(&file("1 1 0 1"), &file("3 8 0 0")), said(1, &[], vec![]));
+fn number_3_range() {
+    assert_eq!(judge(&file("1 9"), &file("3 1")), refused(3, 1, 0));
+    let graphs = [
+        "1 0",
+        "1 1 2",
+        "1 1 0 2",
+        "1 1 0 0 1",
+        "1 1 / 2 0 9 0",
+        "1 1 / 2 0 0 0 0 1",
+    ];
+    for (graph, record) in graphs.into_iter().zip([0, 0, 0, 0, 1, 1]) {
+        assert_eq!(
+            judge(&file(graph), &file("3 1")),
+            refused(3, 1, record),
+            "{graph}"
+        );
+    }
+    let rows = [
+        "3 0", "3 10", "3 1 1", "3 2 0 1", "3 3 0", "3 3 9", "3 4 1 1", "3 5 1", "3 6 0 1",
+    ];
+    for row in rows
+        .into_iter()
+        .chain(["3 7 0 0 1", "3 9 9 0", "3 9 0 0 0 1"])
+    {
+        assert_eq!(judge(&[], &file(row)), refused(3, 2, 0), "{row}");
+    }
 }
 
 #[test]
-fn p3_false_has_no_state() {
-    assert_eq!(model(&file("5 255 255"), &file("3 2")), said(1, &[0, 0], vec![]));
+fn number_3_range_of_watching() {
+    let rules = [
+        "4 7 1 1 1 0",
+        "4 0 0 1 1 0",
+        "4 0 3 1 1 0",
+        "4 0 1 0 1 0",
+        "4 0 1 1 9 0",
+    ];
+    for rule in rules.into_iter().chain(["4 0 1 1 1 8"]) {
+        assert_eq!(
+            watch(&file("5 1"), &[], &file(rule), 1),
+            refused(3, 3, 0),
+            "{rule}"
+        );
+    }
+    assert_eq!(model(&file("5 1 1 1"), &file("3 1")), refused(3, 1, 0));
+    assert_eq!(watch(&file("5 1"), &[], &[], 0), refused(3, 0, 0));
+    assert_eq!(watch(&file("5 1"), &[], &[], 9), refused(3, 0, 0));
 }
 
 #[test]
-fn p4_empty_graph_satisfies_false() {
-    assert_eq!(judge(&[], &file("3 2")), said(1, &[], vec![]));
+fn number_4_order() {
+    assert_eq!(
+        judge(&file("1 1 / 2 0 0 0 / 2 0 0 0"), &file("3 1")),
+        refused(4, 1, 2)
+    );
+    let rules = "4 0 1 1 1 7 / 4 0 1 1 2 1 / 4 0 1 1 2 3";
+    assert_eq!(watch(&file("5 1"), &[], &file(rules), 1), refused(4, 3, 2));
 }
 
 #[test]
-fn p5_literal_fails() {
-    let sheet = file("0 0 0 255 0 255");
-    assert_eq!(judge(&file("1 1 0 1"), &file("3 5")), said(2, &[1], sheet));
+fn number_5_limit() {
+    assert_eq!(
+        judge(&file(&vec![ONE_NODE; 257].join("/")), &file("3 1")),
+        refused(5, 1, 0)
+    );
 }
 
 #[test]
-fn p6_box_fails() {
+fn number_6_empty() {
+    assert_eq!(judge(&[], &[]), refused(6, 2, 0));
+    assert_eq!(model(&[], &file("3 1")), refused(6, 1, 0));
+}
+
+#[test]
+fn number_7_past_the_last() {
+    assert_eq!(
+        judge(&file("1 1 / 2 0 0 1"), &file("3 1")),
+        refused(7, 1, 1)
+    );
+    assert_eq!(judge(&[], &file("3 7 0 1")), refused(7, 2, 0));
+    assert_eq!(judge(&[], &file("3 1 / 3 9 8 2")), refused(7, 2, 1));
+}
+
+#[test]
+fn number_8_between_methods() {
+    assert_eq!(
+        judge(&file("1 1 / 1 2 / 2 0 0 1"), &file("3 1")),
+        refused(8, 1, 2)
+    );
+}
+
+#[test]
+fn number_9_not_of_interface() {
+    let (first, node) = (file("5 1"), file(ONE_NODE));
+    assert_eq!(join([&first, &[], &first, &[]]), refused(9, 0, 0));
+    assert_eq!(join([&first, &[], &file("5 2"), &node]), refused(9, 4, 0));
+    assert_eq!(
+        watch(&first, &file("1 1 / 2 0 1 0"), &[], 1),
+        refused(9, 2, 1)
+    );
+    let sides = Sides {
+        known_interface: &first,
+        known_graph: &node,
+        other_interface: &first,
+        property: &file("3 1"),
+    };
+    assert_eq!(compose(&sides, &[], 1), refused(9, 0, 0));
+}
+
+#[test]
+fn number_10_not_provided() {
+    assert_eq!(watch(&file("5 1 2"), &[], &[], 1), refused(10, 0, 0));
+    assert_eq!(watch(&file("5 1"), &[], &[], 2), refused(10, 0, 0));
+}
+
+#[test]
+fn number_11_too_large() {
+    let [many, rest] = [200, 57].map(|count| vec![ONE_NODE; count].join("/"));
+    let rest = rest.replace("1 1", "1 2");
+    let [one, two] = ["5 1", "5 2"].map(file);
+    assert_eq!(
+        join([&one, &file(&many), &two, &file(&rest)]),
+        refused(11, 0, 0)
+    );
+    let fits = file(rest.strip_suffix("/1 2 0 1").expect("the last node"));
+    let outcome = join([&one, &file(&many), &two, &fits]);
+    assert_eq!(
+        outcome,
+        said(1, &[256, 0, 3, 0], [file(&many), fits].concat())
+    );
+}
+
+#[test]
+fn number_12_short_output() {
+    let (graph, property) = (file(ONE_NODE), file("3 5"));
+    let outcome = |out_len| second::judge(&Limits::DESK, &graph, &property, out_len, 0, 0);
+    assert_eq!(outcome(5), refused(12, 0, 0));
+    assert_eq!(outcome(6), explained("0 0 0 255 0 255"));
+}
+
+#[test]
+fn number_13_short_work() {
+    let outcome = |work_len| second::judge(&Limits::DESK, &[1], &[], 0, work_len, 1);
+    assert_eq!(outcome(0), refused(13, 0, 0));
+    assert_eq!(outcome(1), refused(1, 1, 0));
+    let sides = Sides {
+        known_interface: &[],
+        known_graph: &[],
+        other_interface: &[],
+        property: &[],
+    };
+    for (lent, number, file) in [
+        ([(0, 1), (1, 1)], 13, 0),
+        ([(1, 1), (0, 1)], 13, 0),
+        ([(1, 1); 2], 6, 1),
+    ] {
+        let outcome = second::compose(&Limits::DESK, &sides, &[], 1, 0, lent);
+        assert_eq!(outcome, refused(number, file, 0));
+    }
+}
+
+#[test]
+fn showing_refuses_by_7_past_both_graphs() {
+    let (first, second) = (file(ONE_NODE), file("1 2 1 0 / 1 2 0 0 / 2 1 0 1"));
+    assert_eq!(show(&first, &second, 0), said(1, &[], first.clone()));
+    assert_eq!(show(&first, &second, 1), said(1, &[], file("1 2 1 0")));
+    assert_eq!(show(&first, &second, 2), said(1, &[], file("1 2 0 0")));
+    assert_eq!(show(&first, &second, 3), refused(7, 0, 0));
+    assert_eq!(show(&first, &file("1 0"), 3), refused(3, 2, 0));
+}
+
+// The course.
+
+#[test]
+fn course_1_model() {
+    let nodes = "1 1 0 0 / 1 1 1 0 / 1 1 1 1";
+    let edges = "2 0 0 0 / 2 0 0 1 / 2 0 1 0 / 2 0 1 1 / 2 1 0 0 / 2 1 0 1 / 2 1 1 0 / 2 1 1 1";
+    let expected = file(&format!("{nodes} / {edges} / 2 2 0 0 / 2 2 0 1"));
+    let property = file("3 7 1 3 / 3 9 1 2 / 3 2 / 3 5");
+    assert_eq!(
+        model(&file("5 1 1"), &property),
+        said(1, &[3, 10], expected)
+    );
+}
+
+#[test]
+fn course_2_to_4_greatest_solution_and_false() {
+    assert_model_size(&model(&file("5 1"), &file("3 8 0 0")), 4, 8);
+    assert_eq!(model(&file("5 1"), &file("3 2")), said(1, &[0, 0], vec![]));
+    assert_eq!(judge(&[], &file("3 2")), positive());
+    assert_eq!(judge(&file(ONE_NODE), &file("3 8 0 0")), positive());
+}
+
+#[test]
+fn course_5_to_7_sheets() {
+    assert_eq!(
+        judge(&file(ONE_NODE), &file("3 5")),
+        explained("0 0 0 255 0 255")
+    );
     let graph = file("1 1 0 1 / 1 1 1 0 / 2 0 1 1");
-    let sheet = file("0 0 1 1 0 255 / 1 1 0 255 0 255");
-    assert_eq!(judge(&graph, &file("3 9 1 1 / 3 6")), said(2, &[2], sheet));
+    let sheet = "0 0 1 1 0 255 / 1 1 0 255 0 255";
+    assert_eq!(judge(&graph, &file("3 9 1 1 / 3 6")), explained(sheet));
+    assert_eq!(judge(&graph, &file("3 9 0 1 / 3 6")), positive());
 }
 
 #[test]
-fn p7_box_without_edge_holds() {
-    let graph = file("1 1 0 1 / 1 1 1 0 / 2 0 1 1");
-    assert_eq!(judge(&graph, &file("3 9 0 1 / 3 6")), said(1, &[], vec![]));
-}
-
-/// The relation that relates each of the nodes to the set with this byte.
-fn relation(nodes: usize, first_byte: u8) -> Vec<u8> {
-    let mut bytes = vec![0; nodes * 32];
-    bytes.iter_mut().step_by(32).for_each(|byte| *byte = first_byte);
-    bytes
-}
-
-#[test]
-fn p8_cycle_and_self_loop_simulate_each_other() {
+fn course_8_and_9_simulation() {
     let cycle = file("1 1 0 1 / 1 1 0 1 / 2 0 0 1 / 2 1 0 0");
-    let self_loop = file("1 1 0 1 / 2 0 0 0");
-    assert_eq!(compare(&cycle, &self_loop), said(1, &[], relation(2, 1)));
-    assert_eq!(compare(&self_loop, &cycle), said(1, &[], relation(1, 3)));
+    let own_loop = file("1 1 0 1 / 2 0 0 0");
+    let row = |byte: u8| [&[byte][..], &[0; 31]].concat();
+    assert_eq!(
+        compare(&cycle, &own_loop),
+        said(1, &[], [row(1), row(1)].concat())
+    );
+    assert_eq!(compare(&own_loop, &cycle), said(1, &[], row(3)));
+    assert_eq!(compare(&own_loop, &file(ONE_NODE)), said(2, &[0], row(0)));
 }
 
 #[test]
-fn p9_edgeless_entry_does_not_simulate() {
-    let self_loop = file("1 1 0 1 / 2 0 0 0");
-    assert_eq!(compare(&self_loop, &file("1 1 0 1")), said(2, &[0], relation(1, 0)));
+fn course_10_and_11_trails() {
+    let (interface, rules) = (file("5 1 1"), file("4 0 2 1 1 7"));
+    let never_returns = file("1 1 0 1 / 1 1 1 0 / 2 0 1 1");
+    assert_eq!(watch(&interface, &never_returns, &rules, 1), positive());
+    let returns = file("1 1 0 1 / 1 1 1 0 / 1 1 1 1 / 2 0 1 1");
+    let trail = "0 0 0 0 0 0 / 0 0 3 1 1 7";
+    assert_eq!(watch(&interface, &returns, &rules, 1), explained(trail));
 }
 
 #[test]
-fn p10_call_that_never_returns_is_not_passed_over() {
-    let graph = file("1 1 0 1 / 1 1 1 0 / 2 0 1 1");
-    let outcome = watch(&file("5 1 1"), &graph, &file("4 0 2 1 1 7"), 1);
-    assert_eq!(outcome, said(1, &[], vec![]));
-}
-
-#[test]
-fn p11_call_that_returns_is_passed_over() {
-    let graph = file("1 1 0 1 / 1 1 1 0 / 1 1 1 1 / 2 0 1 1");
-    let outcome = watch(&file("5 1 1"), &graph, &file("4 0 2 1 1 7"), 1);
-    assert_eq!(outcome, said(2, &[2], file("0 0 0 0 0 0 / 0 0 3 1 1 7")));
-}
-
-#[test]
-fn example_12_limits() {
-    let nodes = |count| file("1 1 0 1").repeat(count);
-    let rows = |count| file("3 1").repeat(count);
-    let ors = |count| file("3 8 0 0").repeat(count);
-    let holds = said(1, &[], vec![]);
-    assert_eq!(judge(&nodes(256), &rows(32)), holds);
-    assert_eq!(judge(&nodes(257), &rows(32)), refused(5, 1, 0));
-    assert_eq!(judge(&nodes(1), &rows(33)), refused(5, 2, 0));
-    assert_eq!(judge(&nodes(1), &ors(12)), holds);
-    assert_eq!(judge(&nodes(1), &ors(13)), refused(5, 2, 0));
-}
-
-#[test]
-fn call_with_a_bad_event_inside_may_be_passed_over() {
-    let graph = file("1 1 0 1 / 1 1 1 0 / 1 2 0 1 / 1 2 1 0 / 1 3 1 1 / 2 0 2 1 / 2 2 3 3");
-    let outcome = watch(&file("5 7 6"), &graph, &file("4 0 1 2 3 7"), 1);
-    assert_eq!(outcome, said(2, &[2], file("0 0 0 0 0 0 / 0 0 3 2 1 7")));
-}
-
-#[test]
-fn return_names_the_caller_on_the_stack() {
-    // Method 3 is called by 1 and by 2, and only its return to 2 is bad.
-    let graph = "1 1 0 1 / 1 1 1 0 / 1 2 0 1 / 1 2 1 0 / 1 3 1 1 / 2 0 3 1";
-    let rules = file("4 0 2 3 2 7");
-    assert_eq!(watch(&file("5 7 4"), &file(graph), &rules, 1), said(1, &[], vec![]));
-    let called = file(&format!("{graph} / 2 2 3 3"));
-    let trail = file("2 0 0 0 2 0 / 2 0 3 3 3 7");
-    assert_eq!(watch(&file("5 7 4"), &called, &rules, 2), said(2, &[2], trail));
-    assert_eq!(watch(&file("5 7 4"), &called, &rules, 1), said(1, &[], vec![]));
-}
-
-#[test]
-fn return_node_runs_no_edge() {
-    let graph = file("1 1 1 1 / 1 1 1 0 / 2 0 1 1");
-    let outcome = watch(&file("5 1 1"), &graph, &file("4 0 1 1 1 7"), 1);
-    assert_eq!(outcome, said(1, &[], vec![]));
-}
-
-#[test]
-fn method_without_entry_is_neither_called_nor_started() {
-    let graph = file("1 1 0 1 / 1 1 1 0 / 1 2 1 0 / 2 0 2 1");
-    let rules = file("4 0 1 1 2 7");
-    assert_eq!(watch(&file("5 3 2"), &graph, &rules, 1), said(1, &[], vec![]));
-    assert_eq!(watch(&file("5 3 2"), &graph, &rules, 2), said(1, &[], vec![]));
-}
-
-#[test]
-fn joined_node_is_shown_in_its_own_file() {
-    let (first, second) = (file("1 1 0 1 / 2 0 0 0"), file("1 2 1 0 / 1 3 0 1 / 2 1 4 1"));
-    assert_eq!(show(&first, &second, 0), said(1, &[], file("1 1 0 1")));
-    assert_eq!(show(&first, &second, 2), said(1, &[], file("1 3 0 1")));
-    let joined = file("1 1 0 1 / 1 2 1 0 / 1 3 0 1 / 2 0 0 0 / 2 2 4 2");
-    let outcome = join([(&file("5 1 0"), &first), (&file("5 6 8"), &second)]);
-    assert_eq!(outcome, said(1, &[3, 2, 7, 8], joined));
+fn course_12_limits() {
+    assert_eq!(
+        judge(&file(&vec![ONE_NODE; 256].join("/")), &file("3 1")),
+        positive()
+    );
+    for (row, most) in [("3 1", 32), ("3 8 0 0", 12)] {
+        let property = |count| file(&vec![row; count].join("/"));
+        assert_eq!(judge(&[], &property(most)), positive());
+        assert_eq!(judge(&[], &property(most + 1)), refused(5, 2, 0));
+    }
 }

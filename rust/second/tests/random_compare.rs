@@ -1,11 +1,11 @@
 //! Simulation against naive refinement, on random files.
 
-mod support;
+mod oracle;
 
 use generator::generate::{self, Random, Size};
 use second::files::check_graph;
 use second::graph::Graph;
-use support::*;
+use oracle::*;
 
 /// All pairs that agree, less those with an edge that is not matched, until
 /// none of these is left.
@@ -56,7 +56,7 @@ fn check(first_file: &[u8], second_file: &[u8]) -> usize {
         Some(entry) => said(2, &[entry as u64], bytes),
     };
     assert_eq!(
-        support::compare(first_file, second_file),
+        oracle::compare(first_file, second_file),
         expected,
         "{first_file:?} {second_file:?}"
     );

@@ -1,11 +1,11 @@
 //! The checks of files against a list of all that offends in them, and
 //! joining against its definition, on random files.
 
-mod support;
+mod oracle;
 
 use generator::generate::{self, Kind, Random, Size};
 use second::files::{check_graph, check_interface, check_property, check_rules, Fault};
-use support::*;
+use oracle::*;
 
 /// Everything that could offend in a file; the least of it is the refusal.
 fn all_faults(kind: Kind, bytes: &[u8]) -> Vec<Fault> {

@@ -1,6 +1,6 @@
 //! Judging against levels evaluated one after the other, on random files.
 
-mod support;
+mod oracle;
 
 use generator::generate::{self, Random, Size};
 use second::files::{check_graph, check_property};
@@ -8,7 +8,7 @@ use second::graph::Graph;
 use second::record::Row;
 use second::Outcome;
 use std::collections::VecDeque;
-use support::*;
+use oracle::*;
 
 /// The first level at which each row is false, by node and row.
 type Ranks = Vec<Vec<Option<usize>>>;

@@ -1,13 +1,13 @@
 //! The model against supports found by trying every set of rows, and against
 //! its purpose: it simulates exactly the graphs that satisfy the property.
 
-mod support;
+mod oracle;
 
 use generator::generate::{self, Random, Size};
 use second::files::{check_interface, check_property};
 use second::record::{Interface, Row};
 use std::collections::BTreeSet;
-use support::*;
+use oracle::*;
 
 /// Method, flag and rows as a sum of powers of two.
 type State = (usize, bool, u32);
@@ -123,7 +123,7 @@ fn model_simulates_what_satisfies() {
             continue;
         }
         let (satisfies, _, _) = parts(judge(&graph, &property));
-        let (simulates, _, _) = parts(support::compare(&graph, &parts(outcome).2));
+        let (simulates, _, _) = parts(oracle::compare(&graph, &parts(outcome).2));
         assert_eq!(satisfies, simulates, "{provided} {required} {property:?} {graph:?}");
         verdicts[satisfies as usize] += 1;
     }

@@ -1,14 +1,14 @@
 //! Watching against explicit runs with their stacks, where these can be
 //! explored to the end, and against summaries and trails found naively.
 
-mod support;
+mod oracle;
 
 use generator::generate::{self, Random, Size};
 use second::files::{check_graph, check_rules};
 use second::graph::Graph;
 use second::record::{Event, Rule};
 use std::collections::{BTreeMap, BTreeSet, HashSet};
-use support::*;
+use oracle::*;
 
 const BAD: usize = 7;
 
@@ -19,7 +19,7 @@ struct Watched {
 
 impl Watched {
     fn on(&self, state: usize, event: Event, from: usize, to: usize) -> usize {
-        let rule = self.rules.iter().find(|rule| rule.key() == (state, event, from, to));
+        let rule = self.rules.iter().find(|rule| (rule.state, rule.event, rule.from, rule.to) == (state, event, from, to));
         rule.map_or(state, |rule| rule.next)
     }
 

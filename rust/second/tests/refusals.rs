@@ -1,9 +1,9 @@
 //! The refusal table, its order, and how its sentences are read.
 
-mod support;
+mod oracle;
 
 use second::refusal::number;
-use support::*;
+use oracle::*;
 
 const TRUE: &str = "3 1";
 

@@ -1,82 +1,117 @@
-//! What all tests share: files written in decimals, and calls with enough
-//! room for every result.
+//! Files written in decimals, and calls with as much output and work space as they need.
 
-// Each test program uses a part of this.
-#![allow(dead_code)]
+#![allow(dead_code, reason = "each test file uses only some of these")]
 
-use second::{Limits, Outcome, Refusal};
-use std::path::Path;
+use second::record::RECORD_LEN;
+use second::{Limits, Outcome, Refusal, Sides};
 
-pub const LIMITS: &Limits = &Limits::DESK;
-const ENOUGH: usize = 1 << 20;
+/// More than any result needs.
+pub const ENOUGH: usize = 1 << 20;
 
-/// Records in decimals, separated by slashes; zeros at the end of a record
-/// may be left out.
+/// The bytes of records separated by "/"; missing fields are 0.
 pub fn file(text: &str) -> Vec<u8> {
-    text.split('/').filter(|record| !record.trim().is_empty()).flat_map(record).collect()
+    text.split('/')
+        .filter(|record| !record.trim().is_empty())
+        .flat_map(record)
+        .collect()
 }
 
-fn record(text: &str) -> [u8; 6] {
-    let mut record = [0; 6];
-    for (at, field) in text.split_whitespace().enumerate() {
-        record[at] = field.parse().expect("a decimal byte");
+/// The bytes of a case study's file: one record a line, comments after "#".
+pub fn case(path: &str) -> Vec<u8> {
+    let root = concat!(env!("CARGO_MANIFEST_DIR"), "/../../cases");
+    let text = std::fs::read_to_string(format!("{root}/{path}")).expect("a case file");
+    let lines = text
+        .lines()
+        .filter(|line| !line.starts_with('#') && !line.trim().is_empty());
+    lines.flat_map(record).collect()
+}
+
+fn record(text: &str) -> [u8; RECORD_LEN] {
+    let mut record = [0; RECORD_LEN];
+    for (field, number) in record.iter_mut().zip(text.split_whitespace()) {
+        *field = number.parse().expect("a decimal");
     }
     record
 }
 
-/// A file of a case study: one record a line, and comments.
-pub fn data(name: &str) -> Vec<u8> {
-    let path = Path::new(env!("CARGO_MANIFEST_DIR")).join("../../cases").join(name);
-    let text = std::fs::read_to_string(path).expect("a case study's file");
-    text.lines().filter(|line| !line.starts_with('#')).flat_map(record).collect()
+pub fn refused(number: u8, file: u8, record: usize) -> Outcome {
+    Outcome::Refused(Refusal {
+        number,
+        file,
+        record,
+    })
 }
 
 pub fn said(verdict: u32, values: &[u64], written: Vec<u8>) -> Outcome {
-    Outcome::Said { verdict, values: values.to_vec(), written }
+    Outcome::Said {
+        verdict,
+        values: values.to_vec(),
+        written,
+    }
 }
 
-pub fn refused(number: u8, file: u8, record: usize) -> Outcome {
-    Outcome::Refused(Refusal { number, file, record })
+/// A negative verdict with the records that explain it.
+pub fn explained(records: &str) -> Outcome {
+    let written = file(records);
+    said(2, &[(written.len() / RECORD_LEN) as u64], written)
 }
 
-/// Verdict, values and written bytes of a call that is not refused.
-pub fn parts(outcome: Outcome) -> (u32, Vec<u64>, Vec<u8>) {
-    match outcome {
-        Outcome::Said { verdict, values, written } => (verdict, values, written),
+/// A positive verdict without a result.
+pub fn positive() -> Outcome {
+    said(1, &[], vec![])
+}
+
+pub fn judge(graph: &[u8], property: &[u8]) -> Outcome {
+    second::judge(&Limits::DESK, graph, property, ENOUGH, 0, 0)
+}
+
+pub fn compare(first: &[u8], second: &[u8]) -> Outcome {
+    second::compare(&Limits::DESK, first, second, ENOUGH, 0, 0)
+}
+
+pub fn model(interface: &[u8], property: &[u8]) -> Outcome {
+    second::model(&Limits::DESK, interface, property, ENOUGH, 0, 0)
+}
+
+/// The bytes of a model that is not refused.
+pub fn model_bytes(interface: &[u8], property: &[u8]) -> Vec<u8> {
+    match model(interface, property) {
+        Outcome::Said { written, .. } => written,
         Outcome::Refused(refusal) => panic!("{refusal:?}"),
     }
 }
 
-pub fn judge(graph: &[u8], property: &[u8]) -> Outcome {
-    second::judge(LIMITS, graph, property, ENOUGH, 0, 0)
+/// Checks the numbers of nodes and edges of a model.
+pub fn assert_model_size(outcome: &Outcome, nodes: u64, edges: u64) {
+    let Outcome::Said {
+        verdict: 1, values, ..
+    } = outcome
+    else {
+        panic!("{outcome:?}");
+    };
+    assert_eq!(values, &[nodes, edges]);
 }
 
-pub fn compare(first: &[u8], second: &[u8]) -> Outcome {
-    second::compare(LIMITS, first, second, ENOUGH, 0, 0)
+pub fn join(sides: [&[u8]; 4]) -> Outcome {
+    let [interface1, graph1, interface2, graph2] = sides;
+    second::join(
+        &Limits::DESK,
+        interface1,
+        graph1,
+        interface2,
+        graph2,
+        ENOUGH,
+    )
 }
 
-pub fn model(interface: &[u8], property: &[u8]) -> Outcome {
-    second::model(LIMITS, interface, property, ENOUGH, 0, 0)
-}
-
-pub fn join(sides: [(&[u8], &[u8]); 2]) -> Outcome {
-    let [(interface1, graph1), (interface2, graph2)] = sides;
-    second::join(LIMITS, interface1, graph1, interface2, graph2, ENOUGH)
-}
-
-pub fn show(graph1: &[u8], graph2: &[u8], number: usize) -> Outcome {
-    second::show(LIMITS, graph1, graph2, number)
+pub fn show(first: &[u8], second: &[u8], number: usize) -> Outcome {
+    second::show(&Limits::DESK, first, second, number)
 }
 
 pub fn watch(interface: &[u8], graph: &[u8], rules: &[u8], start: u8) -> Outcome {
-    second::watch(LIMITS, interface, graph, rules, start, ENOUGH, 0, 0)
+    second::watch(&Limits::DESK, interface, graph, rules, start, ENOUGH, 0, 0)
 }
 
-/// The composed verdict: the known graph joined with the model of the
-/// unwritten side, watched.
-pub fn composed(known: (&[u8], &[u8]), other: (&[u8], &[u8]), rules: &[u8], start: u8) -> Outcome {
-    let (_, _, model) = parts(model(other.0, other.1));
-    let (_, values, graph) = parts(join([known, (other.0, &model)]));
-    let interface = [5, values[2] as u8, values[3] as u8, 0, 0, 0];
-    watch(&interface, &graph, rules, start)
+pub fn compose(sides: &Sides, rules: &[u8], start: u8) -> Outcome {
+    second::compose(&Limits::DESK, sides, rules, start, ENOUGH, [(0, 0); 2])
 }

@@ -1,0 +1,82 @@
+//! What all tests share: files written in decimals, and calls with enough
+//! room for every result.
+
+// Each test program uses a part of this.
+#![allow(dead_code)]
+
+use second::{Limits, Outcome, Refusal};
+use std::path::Path;
+
+pub const LIMITS: &Limits = &Limits::DESK;
+const ENOUGH: usize = 1 << 20;
+
+/// Records in decimals, separated by slashes; zeros at the end of a record
+/// may be left out.
+pub fn file(text: &str) -> Vec<u8> {
+    text.split('/').filter(|record| !record.trim().is_empty()).flat_map(record).collect()
+}
+
+fn record(text: &str) -> [u8; 6] {
+    let mut record = [0; 6];
+    for (at, field) in text.split_whitespace().enumerate() {
+        record[at] = field.parse().expect("a decimal byte");
+    }
+    record
+}
+
+/// A file of a case study: one record a line, and comments.
+pub fn data(name: &str) -> Vec<u8> {
+    let path = Path::new(env!("CARGO_MANIFEST_DIR")).join("../../cases").join(name);
+    let text = std::fs::read_to_string(path).expect("a case study's file");
+    text.lines().filter(|line| !line.starts_with('#')).flat_map(record).collect()
+}
+
+pub fn said(verdict: u32, values: &[u64], written: Vec<u8>) -> Outcome {
+    Outcome::Said { verdict, values: values.to_vec(), written }
+}
+
+pub fn refused(number: u8, file: u8, record: usize) -> Outcome {
+    Outcome::Refused(Refusal { number, file, record })
+}
+
+/// Verdict, values and written bytes of a call that is not refused.
+pub fn parts(outcome: Outcome) -> (u32, Vec<u64>, Vec<u8>) {
+    match outcome {
+        Outcome::Said { verdict, values, written } => (verdict, values, written),
+        Outcome::Refused(refusal) => panic!("{refusal:?}"),
+    }
+}
+
+pub fn judge(graph: &[u8], property: &[u8]) -> Outcome {
+    second::judge(LIMITS, graph, property, ENOUGH, 0, 0)
+}
+
+pub fn compare(first: &[u8], second: &[u8]) -> Outcome {
+    second::compare(LIMITS, first, second, ENOUGH, 0, 0)
+}
+
+pub fn model(interface: &[u8], property: &[u8]) -> Outcome {
+    second::model(LIMITS, interface, property, ENOUGH, 0, 0)
+}
+
+pub fn join(sides: [(&[u8], &[u8]); 2]) -> Outcome {
+    let [(interface1, graph1), (interface2, graph2)] = sides;
+    second::join(LIMITS, interface1, graph1, interface2, graph2, ENOUGH)
+}
+
+pub fn show(graph1: &[u8], graph2: &[u8], number: usize) -> Outcome {
+    second::show(LIMITS, graph1, graph2, number)
+}
+
+pub fn watch(interface: &[u8], graph: &[u8], rules: &[u8], start: u8) -> Outcome {
+    second::watch(LIMITS, interface, graph, rules, start, ENOUGH, 0, 0)
+}
+
+/// The composed verdict: the known graph joined with the model of the
+/// unwritten side, watched.
+pub fn composed(known: (&[u8], &[u8]), other: (&[u8], &[u8]), rules: &[u8], start: u8) -> Outcome {
+    let (_, _, model) = parts(model(other.0, other.1));
+    let (_, values, graph) = parts(join([known, (other.0, &model)]));
+    let interface = [5, values[2] as u8, values[3] as u8, 0, 0, 0];
+    watch(&interface, &graph, rules, start)
+}
