@@ -76,7 +76,7 @@ static int wrong_comparing(void)
     static const uint8_t second[] = {1, 1, 0, 1, 0, 0};
     static const uint8_t relation[64] = {1};
     static const struct example p9 = {tintboulder_compare, first, second, relation, sizeof first, sizeof second, sizeof relation, 1};
-    return wrong_answers(&p9, 156960) + (tintboulder_work(2) != 156960);
+    return wrong_answers(&p9, 165152) + (tintboulder_work(2) != 165152);
 }
 
 int main(void)

@@ -164,7 +164,7 @@ fn two_bytes(low: u8, high: u8) -> usize
 
 // The published length of the call that a letter names, where the flag is 1.
 fn work_length(letter: u8, flag: u8) -> usize
-    ensures { λ r. ⌜ r ≤ 156960 ⌝ }
+    ensures { λ r. ⌜ r ≤ 165152 ⌝ }
 {
     if flag == 0 {
         return 0;
@@ -195,10 +195,10 @@ fn call_on(
     say_compared(answer, &out[..room]);
 }
 
-fn work_buffer() -> [u8; 156960]
-    ensures { λ r. ⌜ 156960 ≡ length r ⌝ }
+fn work_buffer() -> [u8; 165152]
+    ensures { λ r. ⌜ 165152 ≡ length r ⌝ }
 {
-    [0; 156960]
+    [0; 165152]
 }
 
 // A call on two files. The example starts with the first file's length and the output's length, two bytes each, low byte first, then 1 for a work buffer of the

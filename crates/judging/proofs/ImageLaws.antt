@@ -1,9 +1,11 @@
--- For the code that builds images and narrows by them: an edge as the code holds it, the part of the buffer that is cleared, and a walk along the edges into a node.
+-- For the code that builds images and narrows by them: an edge as the code holds it, the part of the buffer that is cleared, a row that is copied, and a walk along the
+-- edges into a node.
 use mathlib.Core.Path.{_≡_, refl, sym, ap, subst, _∙_}
 use mathlib.Core.Logic.{inl, inr}
 use mathlib.Core.Bool.{Bool, true, false, not, cond}
 use mathlib.Core.List.{List, _++_, append-assoc}
-use Prim.Native.Nat.{ℕ, _+_, _*_, _-_, _≤_, _<_}
+use Prim.Native.Nat.{ℕ, _+_, _*_, _-_, _/_, _≤_, _<_}
+use native.Mathlib.Decide.{ℕ-discrete}
 use native.Mathlib.Omega.{arith}
 use lib.Dec.{T, eqb→eq}
 use lib.ListN.{length, getD, take, drop, replicate, length-replicate, getD-replicate}
@@ -11,16 +13,18 @@ use lib.Seq.{drop-drop}
 use borrow.Rule.Slice.PartMut.{midOf, putMid, mid-len, same-len-mid}
 use Rattle.files.specs.Access.{edge-held}
 use Rattle.files.specs.Basics.Tests.{eq-eqb}
-use Rattle.files.specs.Cells.{has-bit, put-bit, put-at}
-use Rattle.files.specs.Cells.Laws.{at-inside, at-outside, put-at-is}
+use Rattle.files.specs.Cells.{cell, put-cell, has-bit, put-bit, put-at}
+use Rattle.files.specs.Cells.Laws.{bit-byte, byte-outside, cell-same, cell-one, at-inside, at-outside, put-at-is}
 use Rattle.files.specs.Decode.{decode-graph}
 use Rattle.files.specs.Graph.{Graph, size}
 use Rattle.files.specs.declared.graph.GraphEdge.{GraphEdge}
 use Rattle.judging.specs.declared.sizes.Sizes.{Sizes}
 use Rattle.judging.specs.Chains.{Outside, into}
-use Rattle.judging.specs.Refinement.{Both, code, rel, image, edge, dropped, tail-after, image-after, Imaged, Refining, Shrank, Matched, NodeMatched, AllMatched}
-use Rattle.judging.specs.Refinement.Laws.{matched-kept, node-matched-i, node-matched-kept, by-nodes}
-use Rattle.judging.specs.Refinement.Images.{first-size, second-size, first-edges, second-edges, first-flow, second-flow, first-fits, second-fits, first-edges-fit, second-edges-fit, first-edge-in, second-edge-in, Narrow, Imaging, rel-outside, imaging-start, imaging-on, imaging-end, imaged-same, refining-outside, node-matched-outside, Whole, Narrowed, may-drop, narrow-drop, narrow-keep, narrow-end, whole-still, narrow-matched}
+use Rattle.judging.specs.Refinement.{Both, code, rel, image, held, edge, dropped, tail-after, image-after, Imaged, RowHeld, Refining, Shrank, Matched, NodeMatched, Settling}
+use Rattle.judging.specs.Refinement.Files.{first-size, second-size, first-edges, second-edges, first-flow, second-flow, first-fits, second-fits, first-edges-fit, second-edges-fit, first-edge-in, second-edge-in}
+use Rattle.judging.specs.Refinement.Images.{Narrow, Imaging, rel-outside, imaging-start, imaging-on, imaging-end, imaged-same}
+use Rattle.judging.specs.Refinement.Matches.{matched-kept, node-matched-i}
+use Rattle.judging.specs.Refinement.Narrowing.{Whole, Narrowed, may-drop, narrow-drop, narrow-keep, narrow-end, whole-still, narrow-matched, Matching, refining-held, imaged-held, row-held, matching-more, matching-end}
 
 -- ---- one edge put into the image of its label
 
@@ -43,7 +47,7 @@ mid-is a k w ys e =
     ∙ sym (append-assoc (take a w) ys (drop (a + length ys) w))
     ∙ sym (put-at-is w a ys)
 
-module _ (w ys : List ℕ) (room : 156960 ≤ length w) (zeros : ys ≡ replicate (length (midOf 8192 288 w)) 0) where
+module _ (w ys : List ℕ) (room : 165152 ≤ length w) (zeros : ys ≡ replicate (length (midOf 8192 288 w)) 0) where
   abbrev w′ : List ℕ
   w′ = putMid 8192 288 w ys
 
@@ -75,6 +79,42 @@ module _ (w ys : List ℕ) (room : 156960 ≤ length w) (zeros : ys ≡ replicat
   pub cleared-imaging : (H : Graph) (v : ℕ) → Imaging H w′ v 0 w′
   cleared-imaging H v = imaging-start H w′ v cleared-inside
 
+-- ---- a row of the relation copied
+
+-- k bytes of row v stand in the row of what v holds, and nothing else has changed
+abbrev pub Copied : List ℕ → ℕ → ℕ → List ℕ → Type 0
+Copied w₀ v k w = ((i : ℕ) → i < k → getD w (156960 + 32 * v + i) 0 ≡ getD w₀ (32 * v + i) 0) × Outside (156960 + 32 * v) (156960 + 32 * v + 32) w₀ w
+
+module _ (w₀ w : List ℕ) (v k : ℕ) (hv : v < 256) (x : Copied w₀ v k w) where
+  -- one byte more
+  pub copied-on : 165152 ≤ length w → k < 32 → (b : ℕ) (w′ : List ℕ) → b < 256 → b ≡ cell w (32 * v) 1 k → w′ ≡ put-cell w (156960 + 32 * v) 1 k b → Copied w₀ v (k + 1) w′
+  copied-on room hk b w′ hb is e = subst (Copied w₀ v (k + 1)) (sym e) (λ i l. byte i l (ℕ-discrete i k), beside)
+    where
+      more : List ℕ
+      more = put-cell w (156960 + 32 * v) 1 k b
+
+      byte : (i : ℕ) → i < k + 1 → Dec (i ≡ k) → getD more (156960 + 32 * v + i) 0 ≡ getD w₀ (32 * v + i) 0
+      byte i l (yes z) =
+          ap (λ (n : ℕ). getD more (156960 + 32 * v + n) 0) z
+          ∙ sym (cell-one more (156960 + 32 * v) k)
+          ∙ cell-same w (156960 + 32 * v) 1 k b (omega arith) (omega arith)
+          ∙ is
+          ∙ cell-one w (32 * v) k
+          ∙ x .1 (32 * v + k) (inl (omega arith))
+          ∙ ap (λ (n : ℕ). getD w₀ (32 * v + n) 0) (sym z)
+      byte i l (no n) = byte-outside w (156960 + 32 * v) 1 k b (156960 + 32 * v + i) (inl (omega arith)) ∙ x .0 i (omega arith)
+
+      beside : Outside (156960 + 32 * v) (156960 + 32 * v + 32) w₀ more
+      beside q (inl l) = byte-outside w (156960 + 32 * v) 1 k b q (inl (omega arith)) ∙ x .1 q (inl l)
+      beside q (inr l) = byte-outside w (156960 + 32 * v) 1 k b q (inr (omega arith)) ∙ x .1 q (inr l)
+
+  -- all bytes
+  pub copied-all : 32 ≤ k → (h : ℕ) → h < 256 → held w v h ≡ rel w₀ v h
+  copied-all l h hh =
+      let a : 156960 + (256 * v + h) / 8 ≡ 156960 + 32 * v + h / 8 = omega arith in
+      let b : 32 * v + h / 8 ≡ 0 + (256 * v + h) / 8 = omega arith in
+      bit-byte w w₀ 156960 0 (code v h) (ap (λ (n : ℕ). getD w n 0) a ∙ x .0 (h / 8) (omega arith) ∙ ap (λ (n : ℕ). getD w₀ n 0) b)
+
 module _ (s : Sizes) (f g : List ℕ) (x : Both s f g) where
   abbrev G : Graph
   G = decode-graph f
@@ -102,12 +142,12 @@ module _ (s : Sizes) (f g : List ℕ) (x : Both s f g) where
 
   -- ---- images, edge by edge
 
-  pub image-more : (w₀ w w′ : List ℕ) (v j : ℕ) → v < s .nodes → 156960 ≤ length w → j < s .edges2 → Imaging H w₀ v j w → w′ ≡ image-after H w v j → Imaging H w₀ v (j + 1) w′
+  pub image-more : (w₀ w w′ : List ℕ) (v j : ℕ) → v < s .nodes → 165152 ≤ length w → j < s .edges2 → Imaging H w₀ v j w → w′ ≡ image-after H w v j → Imaging H w₀ v (j + 1) w′
   image-more w₀ w w′ v j hv room hj y e = imaging-on H w₀ w v j (node-fits v hv) (omega arith) narrow-edges (omega (arith, second-edges s f g x)) y w′ e
 
   pub image-all : (w w₁ w₂ : List ℕ) (v j : ℕ) → v < s .nodes → s .edges2 ≤ j → Outside 8192 8480 w w₁ → Imaging H w₁ v j w₂ → Imaged H w v w₂ × Outside 8192 8480 w w₂
   image-all w w₁ w₂ v j hv l o y = (
-    imaged-same H w₁ w w₂ v narrow-edges (λ t ht. sym (rel-outside w w₁ o v t (node-fits v hv) ht)) (imaging-end H w₁ w₂ v j (omega (arith, second-edges s f g x)) y),
+    imaged-same H w₁ w w₂ w₂ v narrow-edges (λ t ht. sym (rel-outside w w₁ o v t (node-fits v hv) ht)) (λ l h hl hh. refl) (imaging-end H w₁ w₂ v j (omega (arith, second-edges s f g x)) y),
     λ q d. y .rest q d ∙ o q d,
   )
 
@@ -125,9 +165,9 @@ module _ (s : Sizes) (f g : List ℕ) (x : Both s f g) where
         is-node : h < size H
         is-node = omega (arith, second-size s f g x)
 
-        pub may-narrow : (u .from < 256) × ((h < 256) × ((rel w (u .from) h ≡ true → end < 65536) × (156960 ≤ length w)))
+        pub may-narrow : (u .from < 256) × ((h < 256) × ((rel w (u .from) h ≡ true → end < 65536) × (165152 ≤ length w)))
         may-narrow =
-            subst (λ (z : GraphEdge). (z .from < 256) × ((h < 256) × ((rel w (z .from) h ≡ true → end < 65536) × (156960 ≤ length w)))) (sym is)
+            subst (λ (z : GraphEdge). (z .from < 256) × ((h < 256) × ((rel w (z .from) h ≡ true → end < 65536) × (165152 ≤ length w)))) (sym is)
             (may-drop G H (first-flow s f g x) (second-flow s f g x) (first-fits s f g x) (second-fits s f g x) (first-edges-fit s f g x) (second-edges-fit s f g x) e inside-edges low tail end w₀ w y h is-node)
 
         image-is : (b c : Bool) → b ≡ has-bit w (8192 + 32 * u .label) h → b ≡ c → image w ((edge G e) .label) h ≡ c
@@ -163,11 +203,11 @@ module _ (s : Sizes) (f g : List ℕ) (x : Both s f g) where
   -- ---- all edges into a node
 
   -- edge e is matched for every node
-  abbrev pub EdgeMatched : ℕ → List ℕ → ℕ → Type 0
-  EdgeMatched tail w e = (h : ℕ) → h < 256 → Matched G H 0 tail w e h
+  abbrev pub EdgeMatched : List ℕ → ℕ → Type 0
+  EdgeMatched w e = (h : ℕ) → h < 256 → Matched G H w e h
 
-  pub edge-matched-kept : (a b : ℕ) (w w′ : List ℕ) → Shrank G H a b w w′ → (e : ℕ) → e < length (G .edges) → EdgeMatched a w e → EdgeMatched b w′ e
-  edge-matched-kept a b w w′ y e he m h hh = matched-kept G H (first-flow s f g x) (second-flow s f g x) (first-fits s f g x) (second-fits s f g x) 0 a b w w′ (omega arith) y e h he hh (m h hh)
+  pub edge-matched-kept : (a b : ℕ) (w w′ : List ℕ) → Shrank G H a b w w′ → (e : ℕ) → e < length (G .edges) → EdgeMatched w e → EdgeMatched w′ e
+  edge-matched-kept a b w w′ y e he m h hh = matched-kept G H (first-flow s f g x) (second-flow s f g x) (first-fits s f g x) (second-fits s f g x) a b w w′ y e h he hh (m h hh)
 
   module _ (tail end : ℕ) (w₀ w : List ℕ) (y : Shrank G H tail end w₀ w) (v e : ℕ) (im : Imaged H w₀ v w₀) (he : e < length (G .edges)) (t : T (into G v e)) where
     leads : (edge G e) .to ≡ v
@@ -185,26 +225,31 @@ module _ (s : Sizes) (f g : List ℕ) (x : Both s f g) where
       ),
     )
 
-    pub narrowed-by : (end′ : ℕ) (w′ : List ℕ) → Shrank G H end end′ w w′ → Narrowed G e w w′ 256 → EdgeMatched end′ w′ e
+    pub narrowed-by : RowHeld w₀ v → (end′ : ℕ) (w′ : List ℕ) → Shrank G H end end′ w w′ → Narrowed G e w w′ 256 → EdgeMatched w′ e
     narrowed-by =
         narrow-matched G H (first-flow s f g x) (second-flow s f g x) (first-fits s f g x) (second-fits s f g x) (first-edges-fit s f g x) (second-edges-fit s f g x) e he ((first-edge-in s f g x e in-file) .2) tail end w₀ w y v leads im
 
-  pub into-matched : (tail : ℕ) (w : List ℕ) (v : ℕ) → ((e : ℕ) → e < length (G .edges) → T (into G v e) → EdgeMatched tail w e) → NodeMatched G H 0 tail w v
-  into-matched tail w v m = node-matched-i G H 0 tail w v (λ e he d. m e he (eq-eqb ((edge G e) .to) v d))
+  pub into-matched : (w : List ℕ) (v : ℕ) → ((e : ℕ) → e < length (G .edges) → T (into G v e) → EdgeMatched w e) → NodeMatched G H w v
+  into-matched w v m =
+      node-matched-i G H (first-flow s f g x) (second-flow s f g x) (first-fits s f g x) (second-fits s f g x) w v (λ e he d. m e he (eq-eqb ((edge G e) .to) v d))
 
   -- ---- all nodes
 
-  module _ (tail : ℕ) (w w₁ : List ℕ) (o : Outside 8192 8480 w w₁) (same : length w₁ ≡ length w) (r : Refining G H tail w) where
-    pub imaged-refining : Refining G H tail w₁
-    imaged-refining = refining-outside G H w w₁ o (first-flow s f g x) (second-flow s f g x) (first-fits s f g x) (second-fits s f g x) tail (omega (arith, same, r .room)) r
+  module _ (tail v : ℕ) (hv : v < s .nodes) (w w₁ w₂ : List ℕ) (m : Matching G H tail v w) (o : Outside 8192 8480 w w₁) (p : Outside (156960 + 32 * v) (156960 + 32 * v + 32) w₁ w₂)
+      (is : (h : ℕ) → h < 256 → held w₂ v h ≡ rel w₁ v h) (long : length w₂ ≡ length w) where
+    pub may-match : Imaged H w v w₁ → (Refining G H tail w₂) × ((Imaged H w₂ v w₂) × (RowHeld w₂ v))
+    may-match im = (
+      refining-held G H (first-flow s f g x) (second-flow s f g x) (first-fits s f g x) (second-fits s f g x) (first-edges-fit s f g x) (second-edges-fit s f g x) tail v w w₁ w₂ (node-fits v hv) m o p is long,
+      (
+        imaged-held G H (first-flow s f g x) (second-flow s f g x) (first-fits s f g x) (second-fits s f g x) (first-edges-fit s f g x) (second-edges-fit s f g x) tail v w w₁ w₂ (node-fits v hv) m o p is long narrow-edges im,
+        row-held G H (first-flow s f g x) (second-flow s f g x) (first-fits s f g x) (second-fits s f g x) (first-edges-fit s f g x) (second-edges-fit s f g x) tail v w w₁ w₂ (node-fits v hv) m o p is long,
+      ),
+    )
 
-    pub imaged-again : (v : ℕ) → v < s .nodes → Imaged H w v w₁ → Imaged H w₁ v w₁
-    imaged-again v hv im = imaged-same H w w₁ w₁ v narrow-edges (λ t ht. rel-outside w w₁ o v t (node-fits v hv) ht) im
+    pub match-more : (end : ℕ) (w₃ : List ℕ) → Shrank G H tail end w₂ w₃ → NodeMatched G H w₃ v → Matching G H end (v + 1) w₃
+    match-more =
+        matching-more G H (first-flow s f g x) (second-flow s f g x) (first-fits s f g x) (second-fits s f g x) (first-edges-fit s f g x) (second-edges-fit s f g x) tail v w w₁ w₂ (node-fits v hv) m o p is long
 
-    pub matched-still : (tail′ : ℕ) (w₂ : List ℕ) → Shrank G H tail tail′ w₁ w₂ → (v : ℕ) → NodeMatched G H 0 tail w v → NodeMatched G H 0 tail′ w₂ v
-    matched-still tail′ w₂ y v m =
-        node-matched-kept G H (first-flow s f g x) (second-flow s f g x) (first-fits s f g x) (second-fits s f g x) 0 tail tail′ w₁ w₂ v (omega arith) y
-        (node-matched-outside G H w w₁ o (first-flow s f g x) (second-flow s f g x) (first-fits s f g x) (second-fits s f g x) 0 tail v m)
-
-  pub matched-all : (tail : ℕ) (w : List ℕ) → ((v : ℕ) → v < s .nodes → NodeMatched G H 0 tail w v) → AllMatched G H 0 tail w
-  matched-all tail w m = by-nodes G H (first-flow s f g x) 0 tail w (λ v h. m v (omega (arith, first-size s f g x)))
+  pub match-end : (tail v : ℕ) (w : List ℕ) → s .nodes ≤ v → Matching G H tail v w → Settling G H 0 tail w
+  match-end tail v w l m =
+      matching-end G H (first-flow s f g x) (second-flow s f g x) (first-fits s f g x) (second-fits s f g x) (first-edges-fit s f g x) (second-edges-fit s f g x) tail v w (omega (arith, first-size s f g x)) m

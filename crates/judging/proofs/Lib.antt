@@ -5,6 +5,7 @@ pub mod DecideLaws
 pub mod HeldLaws
 pub mod ImageLaws
 pub mod LevelLaws
+pub mod LookLaws
 pub mod LostLaws
 pub mod SheetLaws
 pub mod SimulateLaws

@@ -6,7 +6,7 @@ use mathlib.Core.List.{List, [], _∷_, _++_}
 use Prim.Native.Nat.{ℕ, _+_, _*_, _-_, _/_, _%_, _^_, _≤_, _<_}
 use native.Mathlib.Omega.{arith}
 use lib.Dec.{T, eqb, ltb, ltb→lt, lt→ltb}
-use lib.ListN.{length, drop, replicate}
+use lib.ListN.{length, getD, drop, replicate}
 use Rattle.files.specs.Access.{GraphFile}
 use Rattle.files.specs.Basics.Tables.{tally-le}
 use Rattle.files.specs.Basics.Tests.{and-l, and-r, and-i}
@@ -32,12 +32,16 @@ use Rattle.judging.specs.Chains.Laws.{chained-same, chained-none, chaine
 use Rattle.judging.specs.Compare.{compare-said, compared, from-first, from-second, from-relation}
 use Rattle.judging.specs.Compare.Steps.{answers-short, answers-yes, answers-no, compared-short, compared-on}
 use Rattle.judging.specs.Judge.{GraphWithin, Strides}
-use Rattle.judging.specs.Refinement.{Both, rel, Linked, Refining}
+use Rattle.judging.specs.Refinement.{Both, code, rel, held, Linked, Refining}
 use Rattle.judging.specs.Refinement.Lost.{first-size, first-flow, second-flow, first-fits, second-fits, first-edges-fit}
 use Rattle.judging.specs.Simulation.{alike, related, uncovered, relation-bytes}
 use Rattle.judging.specs.Simulation.Laws.{alike-i, related-e, related-simulation, relation-length, yes-past, no-below}
 use Rattle.judging.proofs.ChainLaws.{zero-byte, outside-both}
 use Rattle.judging.proofs.DecideLaws.{no-bit}
+
+-- a bit of a byte that is zero
+zero-bit : (w : List ℕ) (base h : ℕ) → getD w (base + h / 8) 0 ≡ 0 → has-bit w base h ≡ false
+zero-bit w base h e = has-bit-is w base h ∙ ap (λ (x : ℕ). eqb (x / 2 ^ (h % 8) % 2) 1) e ∙ no-bit (h % 8)
 
 module _ (s : Sizes) (f g : List ℕ) (both : Both s f g) where
   abbrev G : Graph
@@ -54,7 +58,7 @@ module _ (s : Sizes) (f g : List ℕ) (both : Both s f g) where
       GraphFile l × ((nodes ≡ nodes-of l) × ((edges ≡ count l - nodes-of l) × ((edges ≤ 4096) × ((heads + 2 * nodes ≤ nexts) × ((nexts + 2 * edges ≤ length w)
       × Chained w heads nexts (into (decode-graph l)) (size (decode-graph l)) 0)))))
 
-  module _ (w : List ℕ) (zeros : w ≡ replicate (length w) 0) (room : 156960 ≤ length w) where
+  module _ (w : List ℕ) (zeros : w ≡ replicate (length w) 0) (room : 165152 ≤ length w) where
     pub may-first : MayChain f (s .nodes) (s .edges) 8480 8992 w
     may-first = (
       both .first-file,
@@ -103,10 +107,13 @@ module _ (s : Sizes) (f g : List ℕ) (both : Both s f g) where
 
     module _ (w₁ : List ℕ) (links : Linked G H w w₁) where
       pub unrelated : (p : ℕ) → p < 65536 → has-bit w₁ 0 p ≡ false
-      unrelated p h =
-          has-bit-is w₁ 0 p
-          ∙ ap (λ (x : ℕ). eqb (x / 2 ^ (p % 8) % 2) 1) (links .rest-kept (0 + p / 8) (inl (omega arith)) ∙ zero-byte w zeros (0 + p / 8))
-          ∙ no-bit (p % 8)
+      unrelated p h = zero-bit w₁ 0 p (links .rest-kept (0 + p / 8) (inl (omega arith)) ∙ zero-byte w zeros (0 + p / 8))
+
+      -- nothing is held
+      pub none-held : (w₂ : List ℕ) → Outside 0 8192 w₁ w₂ → (u v : ℕ) → u < 256 → v < 256 → held w₂ u v ≡ false
+      none-held w₂ o u v hu hv =
+          zero-bit w₂ 156960 (code u v)
+          (o (156960 + code u v / 8) (inr (omega arith)) ∙ links .rest-kept (156960 + code u v / 8) (inr (omega arith)) ∙ zero-byte w zeros (156960 + code u v / 8))
 
       abbrev agreed : ℕ → ℕ → Bool
       agreed u v = ltb u (size G) && (ltb v (size H) && alike (node G u) (node H v))
@@ -210,10 +217,10 @@ module _ (L : Limits) (f g out work : List ℕ) where
   abbrev outcome : Outcome
   outcome = compared L f g (length out) (length work)
 
-  pub does-nothing : (r : Refusal) → length work < 156960 → r ≡ refusal-at 13 0 0 → Does outcome out work out work (refused-answer r)
+  pub does-nothing : (r : Refusal) → length work < 165152 → r ≡ refusal-at 13 0 0 → Does outcome out work out work (refused-answer r)
   does-nothing r h e = does-left outcome r out work (compared-short L f g (length out) (length work) h) e
 
-  pub does-compare : (out′ work′ : List ℕ) (a : Answer) → 156960 ≤ length work → Answers (from-first L f g (length out)) out out′ a → work′ ≡ replicate (length work) 0
+  pub does-compare : (out′ work′ : List ℕ) (a : Answer) → 165152 ≤ length work → Answers (from-first L f g (length out)) out out′ a → work′ ≡ replicate (length work) 0
       → Does outcome out work out′ work′ a
   does-compare out′ work′ a h x e =
       let s : Said = compare-said (decode-graph f) (decode-graph g) in

@@ -1,5 +1,5 @@
--- The search for the largest simulation in a lent buffer: a bit for each pair that is still related, a queue of the pairs that were dropped, and the chains of both
--- graphs' edges by the node they lead to.
+-- The search for the largest simulation in a lent buffer: a bit for each pair that is still related, a queue of the pairs that were dropped, a bit for each
+-- pair that is related or still waits there, and the chains of both graphs' edges by the node they lead to.
 use mathlib.Core.Path.{_≡_}
 use mathlib.Core.Logic.{_⊎_}
 use mathlib.Core.Bool.{Bool, cond, _&&_, _||_}
@@ -18,7 +18,10 @@ use Rattle.judging.specs.Chains.{Chained, Outside, into}
 use Rattle.judging.specs.Simulation.{alike, related}
 pub mod Files
 pub mod Laws
+pub mod Rows
+pub mod Matches
 pub mod Images
+pub mod Narrowing
 pub mod Lost
 pub mod Cover
 
@@ -45,6 +48,10 @@ rel w g h = has-bit w 0 (code g h)
 -- bit h of the image of label l: h has an edge with that label to what one node of the first graph is related to
 abbrev pub image : List ℕ → ℕ → ℕ → Bool
 image w l h = has-bit w (8192 + 32 * l) h
+
+-- g and h are related, or were until they were dropped and are not yet worked off: a match counts as one until then
+abbrev pub held : List ℕ → ℕ → ℕ → Bool
+held w g h = has-bit w 156960 (code g h)
 
 abbrev pub lost-at : List ℕ → ℕ → ℕ
 lost-at w i = cell w 25888 2 i
@@ -78,20 +85,28 @@ pub record Imaged (H : Graph) (w₀ : List ℕ) (v : ℕ) (w : List ℕ) : Type 
 
 -- ---- looking for another match beside edge j
 
--- edges i and j come from one node with one label
-abbrev pub same-run : Graph → ℕ → ℕ → Bool
-same-run H i j = eqb ((edge H i) .from) ((edge H j) .from) && eqb ((edge H i) .label) ((edge H j) .label)
+-- the edges of one node and label are a run; edge i is of the run of node f and label l
+abbrev pub of-run : Graph → ℕ → ℕ → ℕ → Bool
+of-run H f l i = eqb ((edge H i) .from) f && eqb ((edge H i) .label) l
 
--- what edge i is, beside edge j: 0 of another run, 1 of the run and to what v is not related to, 2 to what v is related to
-abbrev pub look : Graph → List ℕ → ℕ → ℕ → ℕ → ℕ
-look H w v j i = cond (same-run H i j) (cond (rel w v ((edge H i) .to)) 2 1) 0
+-- what edge i is in the run of node f and label l: 0 not of the run, 1 of it and to what v does not hold, 2 to what v holds
+abbrev pub look : Graph → List ℕ → ℕ → ℕ → ℕ → ℕ → ℕ
+look H w v f l i = cond (of-run H f l i) (cond (held w v ((edge H i) .to)) 2 1) 0
 
 -- the same at distance k below and above edge j, 0 where the run has ended
-abbrev pub look-below : Graph → List ℕ → ℕ → ℕ → ℕ → Bool → ℕ
-look-below H w v j k more = cond (more && leb k j) (look H w v j (j - k)) 0
+abbrev pub look-below : Graph → List ℕ → ℕ → ℕ → ℕ → ℕ → ℕ → Bool → ℕ
+look-below H w v f l j k more = cond (more && leb k j) (look H w v f l (j - k)) 0
 
-abbrev pub look-above : Graph → List ℕ → ℕ → ℕ → ℕ → Bool → ℕ
-look-above H w v j k more = cond (more && ltb (j + k) (length (H .edges))) (look H w v j (j + k)) 0
+abbrev pub look-above : Graph → List ℕ → ℕ → ℕ → ℕ → ℕ → ℕ → Bool → ℕ
+look-above H w v f l j k more = cond (more && ltb (j + k) (length (H .edges))) (look H w v f l (j + k)) 0
+
+-- what v is related to is held
+abbrev pub RowHeld : List ℕ → ℕ → Type 0
+RowHeld w v = (h : ℕ) → h < 256 → T (rel w v h) → T (held w v h)
+
+-- what any node is related to is held
+pub Holding : List ℕ → Type 0
+Holding w = (g : ℕ) → g < 256 → RowHeld w g
 
 module _ (G H : Graph) where
   -- the chains of both graphs stand in w′, and nothing else of w has changed
@@ -102,7 +117,7 @@ module _ (G H : Graph) where
 
   -- nothing of the largest simulation is lost, and what is related agrees; `tail` pairs were dropped, and stand in the queue
   pub record Refining (tail : ℕ) (w : List ℕ) : Type 0 where
-    pub room : 156960 ≤ length w
+    pub room : 165152 ≤ length w
     pub by-first : Chained w 8480 8992 (into G) (size G) (length (G .edges))
     pub by-second : Chained w 17184 17696 (into H) (size H) (length (H .edges))
     pub inside : (g h : ℕ) → g < 256 → h < 256 → T (rel w g h) → (g < size G) × (h < size H) × T (alike (node G g) (node H h))
@@ -115,6 +130,7 @@ module _ (G H : Graph) where
     pub refining : Refining tail′ w′
     pub longer : tail ≤ tail′
     pub rel-less : (g h : ℕ) → g < 256 → h < 256 → T (rel w′ g h) → T (rel w g h)
+    pub held-kept : (g h : ℕ) → g < 256 → h < 256 → held w′ g h ≡ held w g h
     pub images-kept : (l h : ℕ) → l < 9 → h < 256 → image w′ l h ≡ image w l h
     pub queue-kept : (i : ℕ) → i < tail → lost-at w′ i ≡ lost-at w i
     pub lost-queued : (g h : ℕ) → g < 256 → h < 256 → T (rel w g h) → (T (rel w′ g h) → ⊥) → (i : ℕ) × (tail ≤ i) × (i < tail′) × (lost-at w′ i ≡ code g h)
@@ -123,25 +139,32 @@ module _ (G H : Graph) where
   abbrev pub Waiting : ℕ → ℕ → List ℕ → ℕ → ℕ → Type 0
   Waiting head tail w g t = (i : ℕ) × (head ≤ i) × (i < tail) × (lost-at w i ≡ code g t)
 
-  -- related still, or waiting
-  abbrev pub Held : ℕ → ℕ → List ℕ → ℕ → ℕ → Type 0
-  Held head tail w g t = T (rel w g t) ⊎ Waiting head tail w g t
+  -- what is held is related, or waits in the queue from `head` on
+  pub Awaited : ℕ → ℕ → List ℕ → Type 0
+  Awaited head tail w = (g h : ℕ) → g < 256 → h < 256 → T (held w g h) → T (rel w g h) ⊎ Waiting head tail w g h
 
-  -- edge e of the first graph is matched for h: by an equally labelled edge of h to what the edge's end is related to, or was until it was dropped
-  abbrev pub Matched : ℕ → ℕ → List ℕ → ℕ → ℕ → Type 0
-  Matched head tail w e h = T (rel w ((edge G e) .from) h) → Reaches H (Held head tail w ((edge G e) .to)) h ((edge G e) .label)
+  -- edge e of the first graph is matched for h: by an equally labelled edge of h to what the edge's end holds
+  abbrev pub Matched : List ℕ → ℕ → ℕ → Type 0
+  Matched w e h = T (rel w ((edge G e) .from) h) → Reaches H (λ (t : ℕ). T (held w ((edge G e) .to) t)) h ((edge G e) .label)
 
   -- every edge into node v of the first graph is matched for every node
-  pub NodeMatched : ℕ → ℕ → List ℕ → ℕ → Type 0
-  NodeMatched head tail w v = (e : ℕ) → e < length (G .edges) → (edge G e) .to ≡ v → (h : ℕ) → h < 256 → Matched head tail w e h
+  pub NodeMatched : List ℕ → ℕ → Type 0
+  NodeMatched w v = (e : ℕ) → e < length (G .edges) → (edge G e) .to ≡ v → (h : ℕ) → h < 256 → Matched w e h
 
   -- every edge is
-  pub AllMatched : ℕ → ℕ → List ℕ → Type 0
-  AllMatched head tail w = (e : ℕ) → e < length (G .edges) → (h : ℕ) → h < 256 → Matched head tail w e h
+  pub AllMatched : List ℕ → Type 0
+  AllMatched w = (e : ℕ) → e < length (G .edges) → (h : ℕ) → h < 256 → Matched w e h
 
   -- every edge into v with the label of edge j of the second graph is matched for where edge j comes from
-  pub EdgeDone : ℕ → ℕ → List ℕ → ℕ → ℕ → Type 0
-  EdgeDone head tail w v j = (e : ℕ) → e < length (G .edges) → (edge G e) .to ≡ v → (edge G e) .label ≡ (edge H j) .label → Matched head tail w e ((edge H j) .from)
+  pub EdgeDone : List ℕ → ℕ → ℕ → Type 0
+  EdgeDone w v j = (e : ℕ) → e < length (G .edges) → (edge G e) .to ≡ v → (edge G e) .label ≡ (edge H j) .label → Matched w e ((edge H j) .from)
+
+  -- the queue is worked off up to `head`: every edge is matched by what is held, and what is held and no longer related waits from there on
+  pub record Settling (head tail : ℕ) (w : List ℕ) : Type 0 where
+    pub refining : Refining tail w
+    pub holding : Holding w
+    pub all-matched : AllMatched w
+    pub awaited : Awaited head tail w
 
   -- what is related is the largest simulation
   pub Settled : List ℕ → Type 0

@@ -1,26 +1,29 @@
 // Whole images: for one node v of the first graph and each label, the nodes of the second graph that an edge of that label leads from to what v is related to; and
-// narrowing by them what the nodes with an edge to v are related to. `match_all` states that after it every edge of the first graph is matched, by what is related or
-// by what was dropped since.
+// narrowing by them what the nodes with an edge to v are related to. `match_all` states that after it every edge of the first graph is matched by what its end holds:
+// what it is related to, or was when its images were taken.
 ghost use mathlib.Core.Path.{_≡_};
-ghost use Prim.Native.Nat.{ℕ, _+_, _≤_, _<_};
+ghost use mathlib.Core.Bool.{false};
+ghost use Prim.Native.Nat.{ℕ, _+_, _*_, _≤_, _<_};
 ghost use lib.Dec.{T};
 ghost use lib.ListN.{length};
 ghost use Rattle.files.specs.Decode.{decode-graph};
 ghost use Rattle.judging.specs.Chains.{Outside};
-ghost use Rattle.judging.specs.Refinement.{Both, rel, image, edge, image-after, Reaches, Imaged, Refining, Shrank, NodeMatched, AllMatched};
+ghost use Rattle.judging.specs.Refinement.{Both, rel, held, image, edge, image-after, Reaches, Imaged, RowHeld, Refining, Shrank, NodeMatched, Settling};
 use crate::relation::drop_pair;
 use crate::sizes::Sizes;
 use files::cells::clear;
+use files::cells::get8;
 use files::cells::get16;
 use files::cells::has_bit;
 use files::cells::put_bit;
+use files::cells::put8;
 use files::encode::LINE;
 use files::graph::EdgeAt;
 use files::graph::edge_at;
 
 // Puts where edge j of the second graph comes from into the image of its label, if it leads to what v is related to.
 fn image_edge(first: &[u8], second: &[u8], s: Sizes, work: &mut [u8], v: usize, j: usize)
-    requires { ⌜ ((Both s (now first) (now second))) × ((v < s .nodes) × ((j < s .edges2) × (156960 ≤ length (now work)))) ⌝ }
+    requires { ⌜ ((Both s (now first) (now second))) × ((v < s .nodes) × ((j < s .edges2) × (165152 ≤ length (now work)))) ⌝ }
     ensures { λ _. ⌜ (now (work .exit)) ≡ image-after (decode-graph (now (second .entry))) (now (work .entry)) v j ⌝ }
 {
     let EdgeAt::Is(e) = edge_at(second, s.nodes2, j, 2) else {
@@ -33,7 +36,7 @@ fn image_edge(first: &[u8], second: &[u8], s: Sizes, work: &mut [u8], v: usize, 
 
 // The images of node v of the first graph, one for each label.
 fn images(first: &[u8], second: &[u8], s: Sizes, work: &mut [u8], v: usize)
-    requires { ⌜ ((Both s (now first) (now second))) × ((v < s .nodes) × (156960 ≤ length (now work))) ⌝ }
+    requires { ⌜ ((Both s (now first) (now second))) × ((v < s .nodes) × (165152 ≤ length (now work))) ⌝ }
     ensures { λ _. ⌜ (Imaged (decode-graph (now (second .entry))) (now (work .entry)) v (now (work .exit))) × (Outside 8192 8480 (now (work .entry)) (now (work .exit))) ⌝ }
 {
     clear(&mut work[Sizes::IMAGES..Sizes::FIRST_HEADS]);
@@ -73,8 +76,8 @@ fn narrow_all(
     tail: usize,
     v: usize,
 ) -> usize
-    requires { ⌜ ((Both s (now first) (now second))) × ((v < s .nodes) × ((Refining (decode-graph (now first)) (decode-graph (now second)) tail (now work)) × (Imaged (decode-graph (now second)) (now work) v (now work)))) ⌝ }
-    ensures { λ t. ⌜ (Shrank (decode-graph (now (first .entry))) (decode-graph (now (second .entry))) tail t (now (work .entry)) (now (work .exit))) × (NodeMatched (decode-graph (now (first .entry))) (decode-graph (now (second .entry))) 0 t (now (work .exit)) v) ⌝ }
+    requires { ⌜ ((Both s (now first) (now second))) × ((v < s .nodes) × ((Refining (decode-graph (now first)) (decode-graph (now second)) tail (now work)) × ((Imaged (decode-graph (now second)) (now work) v (now work)) × (RowHeld (now work) v)))) ⌝ }
+    ensures { λ t. ⌜ (Shrank (decode-graph (now (first .entry))) (decode-graph (now (second .entry))) tail t (now (work .entry)) (now (work .exit))) × (NodeMatched (decode-graph (now (first .entry))) (decode-graph (now (second .entry))) (now (work .exit)) v) ⌝ }
 {
     let mut at = get16(work, Sizes::FIRST_HEADS, v) as usize;
     let mut end = tail;
@@ -86,15 +89,29 @@ fn narrow_all(
     end
 }
 
+// From now on v holds what it is related to.
+fn hold(work: &mut [u8], v: usize)
+    requires { ⌜ (v < 256) × (165152 ≤ length (now work)) ⌝ }
+    ensures { λ _. ⌜ ((h : ℕ) → h < 256 → held (now (work .exit)) v h ≡ rel (now (work .entry)) v h) × (Outside (156960 + 32 * v) (156960 + 32 * v + 32) (now (work .entry)) (now (work .exit))) ⌝ }
+{
+    let mut k = 0;
+    while k < LINE {
+        let row = get8(work, LINE * v, k);
+        put8(work, Sizes::HELD + LINE * v, k, row);
+        k += 1;
+    }
+}
+
 // Narrows by the images of every node. The queue's end.
 pub fn match_all(first: &[u8], second: &[u8], s: Sizes, work: &mut [u8]) -> usize
-    requires { ⌜ ((Both s (now first) (now second))) × (Refining (decode-graph (now first)) (decode-graph (now second)) 0 (now work)) ⌝ }
-    ensures { λ t. ⌜ (Refining (decode-graph (now (first .entry))) (decode-graph (now (second .entry))) t (now (work .exit))) × (AllMatched (decode-graph (now (first .entry))) (decode-graph (now (second .entry))) 0 t (now (work .exit))) ⌝ }
+    requires { ⌜ ((Both s (now first) (now second))) × ((Refining (decode-graph (now first)) (decode-graph (now second)) 0 (now work)) × ((g h : ℕ) → g < 256 → h < 256 → held (now work) g h ≡ false)) ⌝ }
+    ensures { λ t. ⌜ Settling (decode-graph (now (first .entry))) (decode-graph (now (second .entry))) 0 t (now (work .exit)) ⌝ }
 {
     let mut v = 0;
     let mut end = 0;
     while v < s.nodes {
         images(first, second, s, work, v);
+        hold(work, v);
         end = narrow_all(first, second, s, work, end, v);
         v += 1;
     }

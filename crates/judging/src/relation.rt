@@ -36,7 +36,7 @@ fn agree(first: &[u8], second: &[u8], s: Sizes, g: usize, h: usize) -> bool
 
 // Relates node g to every node of the second graph that agrees with it.
 fn relate_row(first: &[u8], second: &[u8], s: Sizes, work: &mut [u8], g: usize)
-    requires { ⌜ ((Both s (now first) (now second))) × ((g < s .nodes) × (156960 ≤ length (now work))) ⌝ }
+    requires { ⌜ ((Both s (now first) (now second))) × ((g < s .nodes) × (165152 ≤ length (now work))) ⌝ }
     ensures { λ _. ⌜ ((p : ℕ) → p < 65536 → has-bit (now (work .exit)) 0 p ≡ row-related (decode-graph (now (first .entry))) (decode-graph (now (second .entry))) (now (work .entry)) g (s .nodes2) p) × (Outside 0 8192 (now (work .entry)) (now (work .exit))) ⌝ }
 {
     let mut h = 0;
@@ -50,7 +50,7 @@ fn relate_row(first: &[u8], second: &[u8], s: Sizes, work: &mut [u8], g: usize)
 
 // Relates all nodes that agree.
 pub fn relate(first: &[u8], second: &[u8], s: Sizes, work: &mut [u8])
-    requires { ⌜ ((Both s (now first) (now second))) × ((156960 ≤ length (now work)) × ((p : ℕ) → p < 65536 → has-bit (now work) 0 p ≡ false)) ⌝ }
+    requires { ⌜ ((Both s (now first) (now second))) × ((165152 ≤ length (now work)) × ((p : ℕ) → p < 65536 → has-bit (now work) 0 p ≡ false)) ⌝ }
     ensures { λ _. ⌜ ((g h : ℕ) → g < 256 → h < 256 → rel (now (work .exit)) g h ≡ (ltb g (size (decode-graph (now (first .entry)))) && (ltb h (size (decode-graph (now (second .entry)))) && alike (node (decode-graph (now (first .entry))) g) (node (decode-graph (now (second .entry))) h)))) × (Outside 0 8192 (now (work .entry)) (now (work .exit))) ⌝ }
 {
     let mut g = 0;
@@ -62,7 +62,7 @@ pub fn relate(first: &[u8], second: &[u8], s: Sizes, work: &mut [u8])
 
 // Drops a pair, if it is related, and puts it at the queue's end. The queue's end after it.
 pub fn drop_pair(work: &mut [u8], tail: usize, g: usize, h: usize) -> usize
-    requires { ⌜ (g < 256) × ((h < 256) × ((rel (now work) g h ≡ true → tail < 65536) × (156960 ≤ length (now work)))) ⌝ }
+    requires { ⌜ (g < 256) × ((h < 256) × ((rel (now work) g h ≡ true → tail < 65536) × (165152 ≤ length (now work)))) ⌝ }
     ensures { λ t. ⌜ (t ≡ tail-after (now (work .entry)) tail g h) × ((now (work .exit)) ≡ dropped (now (work .entry)) tail g h) ⌝ }
 {
     let p = Sizes::STRIDE * g + h;

@@ -26,7 +26,7 @@ use files::refusal::Refusal;
 
 // The chains of both graphs, in a buffer of zeros.
 fn link_both(first: &[u8], second: &[u8], s: Sizes, work: &mut [u8])
-    requires { ⌜ ((Both s (now first) (now second))) × (((now work) ≡ replicate (length (now work)) 0) × (156960 ≤ length (now work))) ⌝ }
+    requires { ⌜ ((Both s (now first) (now second))) × (((now work) ≡ replicate (length (now work)) 0) × (165152 ≤ length (now work))) ⌝ }
     ensures { λ _. ⌜ Linked (decode-graph (now (first .entry))) (decode-graph (now (second .entry))) (now (work .entry)) (now (work .exit)) ⌝ }
 {
     link_graph(
@@ -49,7 +49,7 @@ fn link_both(first: &[u8], second: &[u8], s: Sizes, work: &mut [u8])
 
 // The largest simulation, in a buffer of zeros.
 fn refine(first: &[u8], second: &[u8], s: Sizes, work: &mut [u8])
-    requires { ⌜ ((Both s (now first) (now second))) × (((now work) ≡ replicate (length (now work)) 0) × (156960 ≤ length (now work))) ⌝ }
+    requires { ⌜ ((Both s (now first) (now second))) × (((now work) ≡ replicate (length (now work)) 0) × (165152 ≤ length (now work))) ⌝ }
     ensures { λ _. ⌜ Settled (decode-graph (now (first .entry))) (decode-graph (now (second .entry))) (now (work .exit)) ⌝ }
 {
     link_both(first, second, s, work);
@@ -60,7 +60,7 @@ fn refine(first: &[u8], second: &[u8], s: Sizes, work: &mut [u8])
 
 // The verdict on two accepted graphs, in a buffer of zeros.
 fn contrast(first: &[u8], second: &[u8], s: Sizes, out: &mut [u8], work: &mut [u8]) -> Compared
-    requires { ⌜ ((Both s (now first) (now second))) × (((now work) ≡ replicate (length (now work)) 0) × (156960 ≤ length (now work))) ⌝ }
+    requires { ⌜ ((Both s (now first) (now second))) × (((now work) ≡ replicate (length (now work)) 0) × (165152 ≤ length (now work))) ⌝ }
     ensures { λ t. ⌜ Answers (from-relation (now (first .entry)) (now (second .entry)) (length (now (out .entry)))) (now (out .entry)) (now (out .exit)) (compared-answer t) ⌝ }
 {
     if out.len() < LINE * s.nodes {
@@ -85,7 +85,7 @@ fn compare_second(
     nodes: usize,
     records: usize,
 ) -> Compared
-    requires { ⌜ (GraphWithin limits (now first)) × ((nodes ≡ nodes-of (now first)) × ((records ≡ count (now first)) × ((Strides limits) × (((now work) ≡ replicate (length (now work)) 0) × (156960 ≤ length (now work)))))) ⌝ }
+    requires { ⌜ (GraphWithin limits (now first)) × ((nodes ≡ nodes-of (now first)) × ((records ≡ count (now first)) × ((Strides limits) × (((now work) ≡ replicate (length (now work)) 0) × (165152 ≤ length (now work)))))) ⌝ }
     ensures { λ t. ⌜ Answers (from-second limits (now (first .entry)) (now (second .entry)) (length (now (out .entry)))) (now (out .entry)) (now (out .exit)) (compared-answer t) ⌝ }
 {
     match check_graph(second, 2, limits) {
@@ -113,7 +113,7 @@ fn compare_files(
     work: &mut [u8],
     limits: Limits,
 ) -> Compared
-    requires { ⌜ (Strides limits) × (((now work) ≡ replicate (length (now work)) 0) × (156960 ≤ length (now work))) ⌝ }
+    requires { ⌜ (Strides limits) × (((now work) ≡ replicate (length (now work)) 0) × (165152 ≤ length (now work))) ⌝ }
     ensures { λ t. ⌜ Answers (from-first limits (now (first .entry)) (now (second .entry)) (length (now (out .entry)))) (now (out .entry)) (now (out .exit)) (compared-answer t) ⌝ }
 {
     match check_graph(first, 1, limits) {

@@ -27,6 +27,9 @@ impl Sizes {
     // The pairs that were dropped, in order.
     pub const QUEUE: usize = 25888;
 
+    // The pairs that are related, or were until they were dropped and are not yet worked off: rows as those of the relation.
+    pub const HELD: usize = 156960;
+
     // The published length of the buffer.
-    pub const ROOM: usize = 156960;
+    pub const ROOM: usize = 165152;
 }

@@ -279,6 +279,10 @@ has-bit-is l base h = refl
 pub weight : (k : ℕ) → k < 8 → 1 * 2 ^ k % 256 ≡ 2 ^ k
 weight k h = shl-exact {a = 1} 1 k 8 (omega arith) (omega arith) ∙ one-mul (2 ^ k)
 
+-- a bit is its byte's
+pub bit-byte : (v w : List ℕ) (a b h : ℕ) → getD v (a + h / 8) 0 ≡ getD w (b + h / 8) 0 → has-bit v a h ≡ has-bit w b h
+bit-byte v w a b h e = has-bit-is v a h ∙ ap (λ (x : ℕ). eqb (x / 2 ^ (h % 8) % 2) 1) e ∙ sym (has-bit-is w b h)
+
 pub put-bit-is : (l : List ℕ) (base h : ℕ) → put-bit l base h ≡ set l (base + h / 8) (bitOr (getD l (base + h / 8) 0) (2 ^ (h % 8)))
 unfolding put-bit
 put-bit-is l base h = refl

@@ -10,7 +10,7 @@ use native.Mathlib.Omega.{arith}
 use lib.Dec.{eqb, not-T, eqb→eq}
 use lib.ListN.{length, getD, length-append, length-map, List·getD-append}
 use lib.Seq.{getD-append-add}
-use Rattle.files.specs.Basics.Lists.{getD-map}
+use Rattle.files.specs.Basics.Lists.{each-append, getD-map}
 use Rattle.files.specs.Basics.Tables.{table, table-is, tally-is, tally-both}
 use Rattle.files.specs.Basics.Tests.{eq-eqb, one}
 use Rattle.files.specs.Decode.{to-node, to-edge, decode-graph, node-rec, edge-rec, graph-recs, graph-bytes}
@@ -57,6 +57,11 @@ record-at-write (r ∷ rs) (suc i) h =
 module _ (G : Graph) where
   length-recs : length (graph-recs G) ≡ size G + length (G .edges)
   length-recs = length-append (map node-rec (G .nodes)) (map edge-rec (G .edges)) ∙ ap₂ _+_ (length-map (G .nodes) node-rec) (length-map (G .edges) edge-rec)
+
+  -- the nodes' records, then the edges'
+  pub graph-bytes-is : graph-bytes G ≡ write (map node-rec (G .nodes)) ++ write (map edge-rec (G .edges))
+  unfolding graph-bytes
+  graph-bytes-is = each-append six (map node-rec (G .nodes)) (map edge-rec (G .edges))
 
   pub count-bytes : count (graph-bytes G) ≡ size G + length (G .edges)
   unfolding graph-bytes

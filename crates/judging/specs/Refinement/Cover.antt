@@ -15,7 +15,7 @@ use Rattle.files.specs.Graph.{Graph, size}
 use Rattle.files.specs.Line.{relation-line}
 use Rattle.files.specs.Line.Laws.{line-size}
 use Rattle.judging.specs.Refinement.{rel, Settled}
-use Rattle.judging.specs.Refinement.Images.{row-bit}
+use Rattle.judging.specs.Refinement.Rows.{row-bit}
 use Rattle.judging.specs.Sheets.Queue.{table-same}
 use Rattle.judging.specs.Sheets.Walk.{put-next}
 use Rattle.judging.specs.Simulation.{related, relation-bytes}

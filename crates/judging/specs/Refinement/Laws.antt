@@ -1,42 +1,46 @@
--- Laws of the search for the largest simulation: a dropped pair, what dropping keeps, which pairs may be dropped, and that a queue that is worked off leaves the largest simulation.
+-- Laws of the search for the largest simulation: a dropped pair, what dropping keeps, and which pairs may be dropped.
 use mathlib.Core.Path.{_≡_, refl, sym, ap, subst, _∙_}
 use mathlib.Core.Logic.{_⊎_, inl, inr}
 use mathlib.Core.Bool.{Bool, true, false, not, cond}
-use mathlib.Core.List.{List, List·Memᴰ}
-use Prim.Native.Nat.{ℕ, zero, suc, _+_, _*_, _/_, _%_, _^_, _≤_, _<_}
+use mathlib.Core.List.{List}
+use Prim.Native.Nat.{ℕ, suc, _+_, _*_, _/_, _%_, _^_, _≤_, _<_}
 use native.Mathlib.Nat.{le-refl}
-use native.Mathlib.Decide.{ℕ-discrete, decLt}
+use native.Mathlib.Decide.{ℕ-discrete}
 use native.Mathlib.Numerals.{add-one}
 use native.Mathlib.Omega.{arith}
-use lib.Dec.{T, T-not, not-T, eqb}
+use lib.Dec.{T, T-not, eqb}
 use lib.ListN.{length, getD}
 use Rattle.files.specs.Basics.Lists.{index-i, index-e}
-use Rattle.files.specs.Basics.Tables.{tally, tally-le}
-use Rattle.files.specs.Basics.Tests.{decide, T-eq}
+use Rattle.files.specs.Basics.Tables.{tally}
+use Rattle.files.specs.Basics.Tests.{decide}
 use Rattle.files.specs.Cells.{cell, put-cell, has-bit, drop-bit}
 use Rattle.files.specs.Cells.Laws.{length-put-cell, length-drop-bit, byte-outside, drop-outside, cell-agree, cell-same, cell-other, drop-same, drop-other, has-bit-is}
-use Rattle.files.specs.Graph.{Graph, Edge, size, node, no-edge, Flow}
-use Rattle.judging.specs.Chains.{Chained, into}
+use Rattle.files.specs.Graph.{Graph, Edge, size, no-edge, Flow}
+use Rattle.judging.specs.Chains.{into}
 use Rattle.judging.specs.Chains.Laws.{chained-same}
-use Rattle.judging.specs.Ranking.Stores.{tally-one, tally-room}
-use Rattle.judging.specs.Refinement.{code, rel, image, lost-at, edge, dropped, tail-after, Reaches, Refining, Shrank, Waiting, Held, Matched, NodeMatched, AllMatched, Settled}
-use Rattle.judging.specs.Simulation.{Simulation, alike, related}
-use Rattle.judging.specs.Simulation.Laws.{alike-e, related-e, related-simulation, largest}
+use Rattle.judging.specs.Ranking.Stores.{tally-one}
+use Rattle.judging.specs.Refinement.{code, rel, image, held, lost-at, edge, dropped, tail-after, Reaches, Refining, Shrank}
+use Rattle.judging.specs.Simulation.{related}
+use Rattle.judging.specs.Simulation.Laws.{related-e, related-simulation}
 
 -- ---- one pair dropped
 
 abbrev gone : List ℕ → ℕ → ℕ → List ℕ
 gone w tail p = put-cell (drop-bit w 0 p) 25888 2 tail p
 
-module _ (w : List ℕ) (tail p : ℕ) (in-rel : p < 65536) (in-queue : tail < 65536) (long : 156960 ≤ length w) where
+module _ (w : List ℕ) (tail p : ℕ) (in-rel : p < 65536) (in-queue : tail < 65536) (long : 165152 ≤ length w) where
   abbrev less : List ℕ
   less = drop-bit w 0 p
 
-  long-less : 156960 ≤ length less
+  long-less : 165152 ≤ length less
   long-less = omega (arith, length-drop-bit w 0 p)
 
   gone-length : length (gone w tail p) ≡ length w
   gone-length = length-put-cell less 25888 2 tail p ∙ length-drop-bit w 0 p
+
+  -- a byte past the queue
+  past : (q : ℕ) → 156960 ≤ q → getD (gone w tail p) q 0 ≡ getD w q 0
+  past q a = byte-outside less 25888 2 tail p q (inr (omega arith)) ∙ drop-outside w 0 p q (λ e. omega arith)
 
   -- a byte past the relation and before the queue
   between : (q : ℕ) → 8192 ≤ q → q < 25888 → getD (gone w tail p) q 0 ≡ getD w q 0
@@ -50,6 +54,9 @@ module _ (w : List ℕ) (tail p : ℕ) (in-rel : p < 65536) (in-queue : tail < 6
 
   image-same : (l h : ℕ) → l < 9 → h < 256 → image (gone w tail p) l h ≡ image w l h
   image-same l h a b = bit-as (8192 + 32 * l) h w (between (8192 + 32 * l + h / 8) (omega arith) (omega arith))
+
+  held-same : (g h : ℕ) → held (gone w tail p) g h ≡ held w g h
+  held-same g h = bit-as 156960 (code g h) w (past (156960 + code g h / 8) (omega arith))
 
   bit-less : (q : ℕ) → q < 65536 → has-bit (gone w tail p) 0 q ≡ has-bit less 0 q
   bit-less q h = bit-as 0 q less (byte-outside less 25888 2 tail p (0 + q / 8) (inl (omega arith)))
@@ -88,6 +95,7 @@ module _ (G H : Graph) where
     refining = r;
     longer = le-refl tail;
     rel-less = λ g h a b t. t;
+    held-kept = λ g h a b. refl;
     images-kept = λ l h a b. refl;
     queue-kept = λ i a. refl;
     lost-queued = λ g h a b t n. absurd (n t);
@@ -98,6 +106,7 @@ module _ (G H : Graph) where
     refining = y .refining;
     longer = omega (arith, x .longer, y .longer);
     rel-less = λ g h hg hh t. x .rel-less g h hg hh (y .rel-less g h hg hh t);
+    held-kept = λ g h hg hh. y .held-kept g h hg hh ∙ x .held-kept g h hg hh;
     images-kept = λ l h hl hh. y .images-kept l h hl hh ∙ x .images-kept l h hl hh;
     queue-kept = λ i l. y .queue-kept i (omega (arith, x .longer)) ∙ x .queue-kept i l;
     lost-queued = λ g h hg hh t n. go g h hg hh t n (decide (rel v g h));
@@ -176,6 +185,7 @@ module _ (G H : Graph) where
           refining = refining-less fl fk;
           longer = omega arith;
           rel-less = still;
+          held-kept = λ u v hu hv. held-same w tail (code g h) (omega arith) in-queue (r .room) u v;
           images-kept = image-same w tail (code g h) (omega arith) in-queue (r .room);
           queue-kept = queue-there w tail (code g h) (omega arith) in-queue (r .room);
           lost-queued = λ u v hu hv t n. new u v hu hv t n (ℕ-discrete (code g h) (code u v));
@@ -212,93 +222,6 @@ module _ (G H : Graph) where
         ap (λ (x : Edge). x .label) (d .2) ∙ a .3,
         subst (λ (x : ℕ). T (rel w ((edge G e) .to) x)) (sym (ap (λ (x : Edge). x .to) (d .2))) (r .contains ((edge G e) .to) ((a .0) .to) (a .4)),
       )
-
-  -- ---- matched edges stay matched while pairs are dropped
-
-  pub held-kept : (head a b : ℕ) (w w′ : List ℕ) → head ≤ a → Shrank G H a b w w′ → (g t : ℕ) → g < 256 → t < 256 → Held G H head a w g t → Held G H head b w′ g t
-  held-kept head a b w w′ l x g t hg ht (inl s) = go (decide (rel w′ g t))
-    where
-      go : T (rel w′ g t) ⊎ T (not (rel w′ g t)) → Held G H head b w′ g t
-      go (inl k) = inl k
-      go (inr k) = let i = x .lost-queued g t hg ht s (T-not (rel w′ g t) k) in inr (i .0, omega (arith, i .1), i .2, i .3)
-  held-kept head a b w w′ l x g t hg ht (inr i) = inr (i .0, i .1, omega (arith, i .2, x .longer), x .queue-kept (i .0) (i .2) ∙ i .3)
-
-  pub matched-kept : Flow G → Flow H → size G ≤ 256 → size H ≤ 256 → (head a b : ℕ) (w w′ : List ℕ) → head ≤ a → Shrank G H a b w w′ → (e h : ℕ) → e < length (G .edges) → h < 256
-      → Matched G H head a w e h → Matched G H head b w′ e h
-  matched-kept fl fk fg fh head a b w w′ l x e h he hh m t =
-      let u = fl .from-node (edge G e) (index-e no-edge (G .edges) e he) in
-      let v = fl .to-node (edge G e) (index-e no-edge (G .edges) e he) in
-      let d = m (x .rel-less ((edge G e) .from) h (omega arith) hh t) in
-      let z = fk .to-node (edge H (d .0)) (index-e no-edge (H .edges) (d .0) (d .1)) in
-      (d .0, d .1, d .2, d .3, held-kept head a b w w′ l x ((edge G e) .to) ((edge H (d .0)) .to) (omega arith) (omega arith) (d .4))
-
-  pub node-matched-e : (head tail : ℕ) (w : List ℕ) (v : ℕ) → NodeMatched G H head tail w v → (e : ℕ) → e < length (G .edges) → (edge G e) .to ≡ v → (h : ℕ) → h < 256 → Matched G H head tail w e h
-  unfolding NodeMatched
-  node-matched-e head tail w v f = f
-
-  pub node-matched-i : (head tail : ℕ) (w : List ℕ) (v : ℕ) → ((e : ℕ) → e < length (G .edges) → (edge G e) .to ≡ v → (h : ℕ) → h < 256 → Matched G H head tail w e h) → NodeMatched G H head tail w v
-  unfolding NodeMatched
-  node-matched-i head tail w v f = f
-
-  pub node-matched-kept : Flow G → Flow H → size G ≤ 256 → size H ≤ 256 → (head a b : ℕ) (w w′ : List ℕ) (v : ℕ) → head ≤ a → Shrank G H a b w w′ → NodeMatched G H head a w v → NodeMatched G H head b w′ v
-  unfolding NodeMatched
-  node-matched-kept fl fk fg fh head a b w w′ v l x m e he d h hh = matched-kept fl fk fg fh head a b w w′ l x e h he hh (m e he d h hh)
-
-  pub all-matched-e : (head tail : ℕ) (w : List ℕ) → AllMatched G H head tail w → (e : ℕ) → e < length (G .edges) → (h : ℕ) → h < 256 → Matched G H head tail w e h
-  unfolding AllMatched
-  all-matched-e head tail w f = f
-
-  pub all-matched-i : (head tail : ℕ) (w : List ℕ) → ((e : ℕ) → e < length (G .edges) → (h : ℕ) → h < 256 → Matched G H head tail w e h) → AllMatched G H head tail w
-  unfolding AllMatched
-  all-matched-i head tail w f = f
-
-  -- all edges are matched when those into each node are
-  pub by-nodes : Flow G → (head tail : ℕ) (w : List ℕ) → ((v : ℕ) → v < size G → NodeMatched G H head tail w v) → AllMatched G H head tail w
-  unfolding NodeMatched AllMatched
-  by-nodes fl head tail w f e he h hh = f ((edge G e) .to) (fl .to-node (edge G e) (index-e no-edge (G .edges) e he)) e he refl h hh
-
-  -- ---- the end
-
-  abbrev Near : List ℕ → ℕ → ℕ → Type 0
-  Near w u v = (u < 256) × (v < 256) × T (rel w u v)
-
-  -- once no pair waits, what is related is a simulation, so it is the largest
-  pub all-settled : Flow G → Flow H → size G ≤ 256 → size H ≤ 256 → (head tail : ℕ) (w : List ℕ) → Refining G H tail w → tail ≤ head → AllMatched G H head tail w → Settled G H w
-  unfolding Settled AllMatched
-  all-settled fl fk fg fh head tail w r l m g h hg hh = go (decide (rel w g h)) (decide (related G H g h))
-    where
-      sim : Simulation G H (Near w)
-      sim = record {
-        of-first = λ u v x. (r .inside u v (x .0) (x .1) (x .2)) .0;
-        of-second = λ u v x. (r .inside u v (x .0) (x .1) (x .2)) .1;
-        same-method = λ u v x. (alike-e (node G u) (node H v) ((r .inside u v (x .0) (x .1) (x .2)) .2)) .0;
-        same-ret = λ u v x. (alike-e (node G u) (node H v) ((r .inside u v (x .0) (x .1) (x .2)) .2)) .1;
-        matched = λ u v x e k p. answer u v x e p (index-i no-edge (G .edges) e k);
-      }
-        where
-          answer : (u v : ℕ) → Near w u v → (e : Edge) → e .from ≡ u → (i : ℕ) × (i < length (G .edges)) × (edge G i ≡ e)
-              → (d : Edge) × List·Memᴰ d (H .edges) × (d .from ≡ v) × (d .label ≡ e .label) × Near w (e .to) (d .to)
-          answer u v x e p i =
-              let f : (edge G (i .0)) .from ≡ u = ap (λ (y : Edge). y .from) (i .2) ∙ p in
-              let d = m (i .0) (i .1) v (x .1) (subst (λ (y : ℕ). T (rel w y v)) (sym f) (x .2)) in
-              let k = index-e no-edge (H .edges) (d .0) (d .1) in
-              (edge H (d .0), k, d .2, d .3 ∙ ap (λ (y : Edge). y .label) (i .2), held ((edge H (d .0)) .to) (d .4) (fk .to-node (edge H (d .0)) k))
-            where
-              held : (z : ℕ) → Held G H head tail w ((edge G (i .0)) .to) z → z < size H → Near w (e .to) z
-              held z (inl t) hz =
-                  let a = fl .to-node (edge G (i .0)) (index-e no-edge (G .edges) (i .0) (i .1)) in
-                  subst (λ (y : Edge). Near w (y .to) z) (i .2) (omega (arith, a), omega arith, t)
-              held z (inr q) hz = absurd (omega (arith, q .1, q .2))
-
-      go : T (rel w g h) ⊎ T (not (rel w g h)) → T (related G H g h) ⊎ T (not (related G H g h)) → rel w g h ≡ related G H g h
-      go (inl a) (inl b) = T-eq _ a ∙ sym (T-eq _ b)
-      go (inl a) (inr b) = absurd (T-not (related G H g h) b (largest G H fl fk (Near w) sim g h (hg, hh, a)))
-      go (inr a) (inl b) = absurd (T-not (rel w g h) a (r .contains g h b))
-      go (inr a) (inr b) = off (rel w g h) a ∙ sym (off (related G H g h) b)
-        where
-          off : (c : Bool) → T (not c) → c ≡ false
-          off true t = absurd t
-          off false t = refl
 
 -- ---- dropping, as the code does it
 

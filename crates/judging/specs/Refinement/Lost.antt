@@ -1,7 +1,7 @@
 -- Laws of a lost match: edges of one node and label stand in a row, and what is done of an edge, of a node, and of a place of the queue.
-use mathlib.Core.Path.{_≡_, refl, sym, ap, subst, _∙_}
+use mathlib.Core.Path.{_≡_, sym, ap, subst, _∙_}
 use mathlib.Core.Logic.{_⊎_, inl, inr}
-use mathlib.Core.Bool.{Bool, true, false}
+use mathlib.Core.Bool.{false}
 use mathlib.Core.List.{List, [], _∷_}
 use Prim.Native.Nat.{ℕ, _+_, _/_, _%_, _≤_, _<_}
 use native.Mathlib.Nat.{eq-or-lt-of-le}
@@ -12,14 +12,16 @@ use lib.ListN.{length}
 use Rattle.files.specs.Access.{GraphFile}
 use Rattle.files.specs.Basics.Lexical.{Before, all-ascend}
 use Rattle.files.specs.Basics.Lists.{index-e}
+use Rattle.files.specs.Cells.{has-bit, drop-bit}
+use Rattle.files.specs.Cells.Laws.{length-drop-bit, drop-same, drop-other}
 use Rattle.files.specs.Decode.{decode-graph, key, Filed}
-use Rattle.files.specs.Decode.Graphs.{decoded-size, decoded-edges, decoded-flow, decoded-filed}
+use Rattle.files.specs.Decode.Graphs.{decoded-filed}
 use Rattle.files.specs.Graph.{Graph, size, no-edge, Flow}
 use Rattle.files.specs.declared.record.Limits.{Limits}
-use Rattle.judging.specs.declared.sizes.Sizes.{Sizes}
-use Rattle.judging.specs.Refinement.{Both, code, rel, lost-at, edge, Reaches, Refining, Shrank, Held, AllMatched, EdgeDone}
+use Rattle.judging.specs.Refinement.{code, rel, held, lost-at, edge, Reaches, Holding, Refining, Shrank, Awaited, AllMatched, EdgeDone, Settling}
 pub use Rattle.judging.specs.Refinement.Files.{first-size, first-edges, second-size, second-edges, first-flow, second-flow, first-fits, second-fits, first-edges-fit, second-edges-fit}
-use Rattle.judging.specs.Refinement.Laws.{code-same, matched-kept}
+use Rattle.judging.specs.Refinement.Laws.{code-same}
+use Rattle.judging.specs.Refinement.Matches.{aside-drop, rel-aside, lost-aside, tail-fits, refining-aside, matched-kept, holding-kept, awaited-kept, awaited-aside, awaited-past}
 
 -- where an edge comes from and leads to
 pub from-in : (G : Graph) → Flow G → (e : ℕ) → e < length (G .edges) → (edge G e) .from < size G
@@ -70,70 +72,118 @@ file-runs g x = run-inside (x .limits) (decode-graph g) (decoded-filed (x .limit
 -- ---- what is done of an edge of the second graph
 
 module _ (G H : Graph) where
-  -- what waits from a later place on waits from an earlier one on
-  pub held-sooner : (a b tail : ℕ) (w : List ℕ) (u t : ℕ) → a ≤ b → Held G H b tail w u t → Held G H a tail w u t
-  held-sooner a b tail w u t l (inl x) = inl x
-  held-sooner a b tail w u t l (inr x) = inr (x .0, omega (arith, x .1), x .2, x .3)
-
-  -- another edge of its label leads to what v is related to
-  pub done-lives : (head tail : ℕ) (w : List ℕ) (v j : ℕ) → Reaches H (λ (x : ℕ). T (rel w v x)) ((edge H j) .from) ((edge H j) .label) → EdgeDone G H head tail w v j
+  -- another edge of its label leads to what v holds
+  pub done-lives : (w : List ℕ) (v j : ℕ) → Reaches H (λ (x : ℕ). T (held w v x)) ((edge H j) .from) ((edge H j) .label) → EdgeDone G H w v j
   unfolding EdgeDone
-  done-lives head tail w v j d e he ev lab t = (d .0, d .1, d .2, d .3 ∙ sym lab, inl (subst (λ (n : ℕ). T (rel w n ((edge H (d .0)) .to))) (sym ev) (d .4)))
+  done-lives w v j d e he ev lab t = (d .0, d .1, d .2, d .3 ∙ sym lab, subst (λ (n : ℕ). T (held w n ((edge H (d .0)) .to))) (sym ev) (d .4))
 
   -- nothing is related that would ask for a match
-  pub done-dropped : (head tail : ℕ) (w : List ℕ) (v j : ℕ)
+  pub done-dropped : (w : List ℕ) (v j : ℕ)
       → ((e : ℕ) → e < length (G .edges) → (edge G e) .to ≡ v → (edge G e) .label ≡ (edge H j) .label → T (rel w ((edge G e) .from) ((edge H j) .from)) → ⊥)
-      → EdgeDone G H head tail w v j
+      → EdgeDone G H w v j
   unfolding EdgeDone
-  done-dropped head tail w v j n e he ev lab t = absurd (n e he ev lab t)
+  done-dropped w v j n e he ev lab t = absurd (n e he ev lab t)
 
-  pub done-kept : Flow G → Flow H → size G ≤ 256 → size H ≤ 256 → (head a b : ℕ) (w w′ : List ℕ) (v j : ℕ) → j < length (H .edges) → head ≤ a → Shrank G H a b w w′
-      → EdgeDone G H head a w v j → EdgeDone G H head b w′ v j
+module _ (G H : Graph) (fl : Flow G) (fk : Flow H) (fg : size G ≤ 256) (fh : size H ≤ 256) where
+  -- no edge of its label leads to what v is related to where none leads to what v holds
+  pub none-related : (w : List ℕ) (v h l : ℕ) → v < 256 → Holding w → (Reaches H (λ (x : ℕ). T (held w v x)) h l → ⊥) → Reaches H (λ (x : ℕ). T (rel w v x)) h l → ⊥
+  unfolding Holding
+  none-related w v h l hv f n d = n (d .0, d .1, d .2, d .3, f v hv ((edge H (d .0)) .to) (omega (arith, to-in H fk (d .0) (d .1))) (d .4))
+
+  pub done-kept : (a b : ℕ) (w w′ : List ℕ) (v j : ℕ) → j < length (H .edges) → Shrank G H a b w w′ → EdgeDone G H w v j → EdgeDone G H w′ v j
   unfolding EdgeDone
-  done-kept fl fk fg fh head a b w w′ v j hj l x d e he ev lab =
+  done-kept a b w w′ v j hj x d e he ev lab =
       let h = from-in H fk j hj in
-      matched-kept G H fl fk fg fh head a b w w′ l x e ((edge H j) .from) he (omega arith) (d e he ev lab)
-
-  pub done-sooner : (a b tail : ℕ) (w : List ℕ) (v j : ℕ) → a ≤ b → EdgeDone G H b tail w v j → EdgeDone G H a tail w v j
-  unfolding EdgeDone
-  done-sooner a b tail w v j l d e he ev lab t =
-      let m = d e he ev lab t in
-      (m .0, m .1, m .2, m .3, held-sooner a b tail w ((edge G e) .to) ((edge H (m .0)) .to) l (m .4))
+      matched-kept G H fl fk fg fh a b w w′ x e ((edge H j) .from) he (omega arith) (d e he ev lab)
 
   -- ---- a place of the queue
 
-  -- the queue has room for what was dropped
-  pub tail-fits : (tail : ℕ) (w : List ℕ) → size G ≤ 256 → Refining G H tail w → tail ≤ 65536
-  tail-fits tail w fg r = omega (arith, r .counted)
+  module _ (head tail p : ℕ) (w : List ℕ) (x : Settling G H head tail w) (l : head < tail) (e : p ≡ lost-at w head) where
+    -- the pair at the place is of the two graphs, and is not related
+    popped : (p / 256 < size G) × (p % 256 < size H) × (T (rel w (p / 256) (p % 256)) → ⊥)
+    popped =
+        let y = x .refining .queued head l in
+        let a : p / 256 ≡ y .0 = omega (arith, e, y .4, y .3) in
+        let c : p % 256 ≡ y .1 = omega (arith, e, y .4, y .3) in
+        (omega (arith, a, y .2), omega (arith, c, y .3), λ t. y .5 (subst (λ (n : ℕ). T (rel w n (y .1))) a (subst (λ (n : ℕ). T (rel w (p / 256) n)) c t)))
 
-  -- the pair at a place of the queue, and that it is not related
-  pub popped : (tail : ℕ) (w : List ℕ) → size H ≤ 256 → Refining G H tail w → (head p : ℕ) → head < tail → p ≡ lost-at w head
-      → (p / 256 < size G) × (p % 256 < size H) × (rel w (p / 256) (p % 256) ≡ false)
-  popped tail w fh r head p l e =
-      let x = r .queued head l in
-      let a : p / 256 ≡ x .0 = omega (arith, e, x .4, x .3) in
-      let c : p % 256 ≡ x .1 = omega (arith, e, x .4, x .3) in
-      (omega (arith, a, x .2), omega (arith, c, x .3), off (rel w (p / 256) (p % 256)) (λ t. x .5 (subst (λ (n : ℕ). T (rel w n (x .1))) a (subst (λ (n : ℕ). T (rel w (p / 256) n)) c t))))
-    where
-      off : (q : Bool) → (T q → ⊥) → q ≡ false
-      off true n = absurd (n tt)
-      off false n = refl
+    place-fits : p < 65536
+    place-fits = omega (arith, popped .0)
 
-  -- once every edge into the second node of a pair is done, the place of the pair is
-  pub place-done : Flow G → Flow H → size G ≤ 256 → size H ≤ 256 → (head tail t : ℕ) (w w′ : List ℕ) (v h : ℕ) → h < 256 → head < tail → lost-at w head ≡ code v h → Shrank G H tail t w w′
-      → ((j : ℕ) → j < length (H .edges) → (edge H j) .to ≡ h → EdgeDone G H tail t w′ v j) → AllMatched G H head tail w → AllMatched G H (head + 1) t w′
-  unfolding EdgeDone AllMatched
-  place-done fl fk fg fh head tail t w w′ v h hh l p x d m e he u hu r =
-      let y = matched-kept G H fl fk fg fh head tail t w w′ (omega arith) x e u he hu (m e he u hu) r in
-      go (y .0) (y .1) (y .2) (y .3) (y .4)
-    where
-      go : (k : ℕ) → k < length (H .edges) → (edge H k) .from ≡ u → (edge H k) .label ≡ (edge G e) .label → Held G H head t w′ ((edge G e) .to) ((edge H k) .to) → Reaches H (Held G H (head + 1) t w′ ((edge G e) .to)) u ((edge G e) .label)
-      go k hk fr lab (inl s) = (k, hk, fr, lab, inl s)
-      go k hk fr lab (inr q) = hit (ℕ-discrete (q .0) head)
-        where
-          hit : Dec (q .0 ≡ head) → Reaches H (Held G H (head + 1) t w′ ((edge G e) .to)) u ((edge G e) .label)
-          hit (no n) = (k, hk, fr, lab, inr (q .0, omega (arith, q .1), q .2, q .3))
-          hit (yes z) =
-              let c = code-same ((edge G e) .to) ((edge H k) .to) v h (omega (arith, to-in H fk k hk)) hh (sym (q .3) ∙ ap (lost-at w′) z ∙ x .queue-kept head l ∙ p) in
-              let a = d k hk (c .1) e he (c .0) (sym lab) (subst (λ (n : ℕ). T (rel w′ ((edge G e) .from) n)) (sym fr) r) in
-              (a .0, a .1, a .2 ∙ fr, a .3, held-sooner (head + 1) tail t w′ ((edge G e) .to) ((edge H (a .0)) .to) (omega arith) (a .4))
+    -- one that is not held is passed
+    pub place-passed : has-bit w 156960 p ≡ false → Settling G H (head + 1) tail w
+    place-passed n = record { refining = x .refining; holding = x .holding; all-matched = x .all-matched; awaited = awaited-past G H fl fk fg fh head tail p w e n (x .awaited) }
+
+    -- the pair is no longer held
+    abbrev free : List ℕ
+    free = drop-bit w 156960 p
+
+    pair-is : code (p / 256) (p % 256) ≡ p
+    pair-is = omega arith
+
+    rel-free : (g h : ℕ) → g < 256 → h < 256 → rel free g h ≡ rel w g h
+    rel-free = rel-aside w free (aside-drop w p)
+
+    no-bit : has-bit free 156960 p ≡ false
+    no-bit = drop-same w 156960 p (omega (arith, place-fits, x .refining .room))
+
+    held-other : (g h : ℕ) → (p ≡ code g h → ⊥) → held free g h ≡ held w g h
+    held-other g h n = drop-other w 156960 p (code g h) n
+
+    refining-free : length (G .edges) ≤ 4096 → length (H .edges) ≤ 4096 → Refining G H tail free
+    refining-free eg eh = refining-aside G H fl fk fg fh w free (aside-drop w p) eg eh tail (omega (arith, length-drop-bit w 156960 p, x .refining .room)) (x .refining)
+
+    holding-free : Holding free
+    unfolding Holding
+    holding-free g hg h hh t = go (ℕ-discrete p (code g h))
+      where
+        was : T (rel w g h)
+        was = subst T (rel-free g h hg hh) t
+
+        go : Dec (p ≡ code g h) → T (held free g h)
+        go (yes z) = absurd (popped .2 (subst (λ (n : ℕ). T (has-bit w 0 n)) (sym (pair-is ∙ z)) was))
+        go (no n) = subst T (sym (held-other g h n)) (x .holding g hg h hh was)
+
+    awaited-free : Awaited G H (head + 1) tail free
+    awaited-free =
+        awaited-past G H fl fk fg fh head tail p free (e ∙ sym (lost-aside w free (aside-drop w p) head (omega (arith, tail-fits G H fl fk fg fh tail w (x .refining))))) no-bit
+        (awaited-aside G H fl fk fg fh head tail w free (tail-fits G H fl fk fg fh tail w (x .refining)) (aside-drop w p) (λ g h hg hh t. inl (less g h t (ℕ-discrete p (code g h)))) (x .awaited))
+      where
+        less : (g h : ℕ) → T (held free g h) → Dec (p ≡ code g h) → T (held w g h)
+        less g h t (yes z) = absurd (subst T (ap (has-bit free 156960) (sym z) ∙ no-bit) t)
+        less g h t (no n) = subst T (held-other g h n) t
+
+    -- it may be worked off
+    pub place-may : length (G .edges) ≤ 4096 → length (H .edges) ≤ 4096
+        → (p / 256 < size G) × (p % 256 < size H) × Refining G H tail free × Holding free × (held free (p / 256) (p % 256) ≡ false)
+    place-may eg eh = (popped .0, popped .1, refining-free eg eh, holding-free, ap (has-bit free 156960) pair-is ∙ no-bit)
+
+    -- once every edge into its second node is done, the place is
+    pub place-done : (t : ℕ) (w′ : List ℕ) → Shrank G H tail t free w′ → ((j : ℕ) → j < length (H .edges) → (edge H j) .to ≡ p % 256 → EdgeDone G H w′ (p / 256) j) → Settling G H (head + 1) t w′
+    unfolding AllMatched EdgeDone
+    place-done t w′ y d = record {
+      refining = y .refining;
+      holding = holding-kept G H fl fk fg fh tail t free w′ y holding-free;
+      all-matched = matched;
+      awaited = awaited-kept G H fl fk fg fh (head + 1) tail t free w′ (omega arith) y awaited-free;
+    }
+      where
+        matched : AllMatched G H w′
+        matched i hi u hu r =
+            let k = x .all-matched i hi u hu (subst T (rel-free ((edge G i) .from) u from-fits hu) (y .rel-less ((edge G i) .from) u from-fits hu r)) in
+            go (k .0) (k .1) (k .2) (k .3) (k .4) (ℕ-discrete p (code ((edge G i) .to) ((edge H (k .0)) .to)))
+          where
+            from-fits : (edge G i) .from < 256
+            from-fits = omega (arith, from-in G fl i hi)
+
+            to-fits : (edge G i) .to < 256
+            to-fits = omega (arith, to-in G fl i hi)
+
+            go : (k : ℕ) → k < length (H .edges) → (edge H k) .from ≡ u → (edge H k) .label ≡ (edge G i) .label → T (held w ((edge G i) .to) ((edge H k) .to))
+                → Dec (p ≡ code ((edge G i) .to) ((edge H k) .to)) → Reaches H (λ (n : ℕ). T (held w′ ((edge G i) .to) n)) u ((edge G i) .label)
+            go k hk fr lab s (yes z) =
+                let c = code-same ((edge G i) .to) ((edge H k) .to) (p / 256) (p % 256) (omega (arith, to-in H fk k hk)) (omega arith) (sym (pair-is ∙ z)) in
+                let a = d k hk (c .1) i hi (c .0) (sym lab) (subst (λ (n : ℕ). T (rel w′ ((edge G i) .from) n)) (sym fr) r) in
+                (a .0, a .1, a .2 ∙ fr, a .3, a .4)
+            go k hk fr lab s (no n) =
+                (k, hk, fr, lab, subst T (sym (y .held-kept ((edge G i) .to) ((edge H k) .to) to-fits (omega (arith, to-in H fk k hk)) ∙ held-other ((edge G i) .to) ((edge H k) .to) n)) s)

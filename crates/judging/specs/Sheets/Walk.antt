@@ -8,7 +8,7 @@ use lib.Dec.{T, eqb}
 use lib.ListN.{length, getD, take, drop, length-append}
 use lib.Seq.{drop-cons, drop-append-le, drop-append-add, drop-drop, take-append-seam, drop-length}
 use borrow.Author.Tests.{ne-eqb}
-use Rattle.files.specs.Basics.Lists.{each, index-e}
+use Rattle.files.specs.Basics.Lists.{each-append, each, index-e}
 use Rattle.files.specs.Basics.Queue.{Once, room, fresh, walk, breadth-first}
 use Rattle.files.specs.Basics.Tests.{any, grid, grid-i, length-grid}
 use Rattle.files.specs.Cells.{put-at, has-bit}
@@ -106,10 +106,6 @@ module _ (G : Graph) (P : List Row) where
       ∙ o
 
 -- ---- the bytes of what is listed
-
-each-append : {A B : Type 0} (f : A → List B) (xs ys : List A) → each f (xs ++ ys) ≡ each f xs ++ each f ys
-each-append f [] ys = refl
-each-append f (x ∷ xs) ys = ap (λ (zs : List _). f x ++ zs) (each-append f xs ys) ∙ sym (append-assoc (f x) (each f xs) (each f ys))
 
 -- a run stored after a run
 pub put-next : (l xs ys : List ℕ) → put-at (put-at l 0 xs) (length xs) ys ≡ put-at l 0 (xs ++ ys)

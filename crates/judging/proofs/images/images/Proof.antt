@@ -15,39 +15,39 @@ Inv-loop first second s work₀ v j₀ work j = (j ≤ s .edges2) × (length wor
 abbrev μ-loop : tie.MeasureT-loop
 μ-loop first second s work₀ v j₀ work j = s .edges2 - j
 
--- src/images.rt:39:11
+-- src/images.rt:42:11
 sub-clear : tie.Need-sub-clear Inv-loop μ-loop
 sub-clear c = search needs
 
--- src/images.rt:39:11
+-- src/images.rt:42:11
 part-clear-start : tie.Need-part-clear-start Inv-loop μ-loop
 part-clear-start c = search needs
 
--- src/images.rt:39:11
+-- src/images.rt:42:11
 part-clear-end : tie.Need-part-clear-end Inv-loop μ-loop
 part-clear-end c = omega (arith, c .before .before .before .pre .1 .1)
 
--- src/images.rt:39:5
+-- src/images.rt:42:5
 clear-requires : tie.Need-clear-requires Inv-loop μ-loop
 clear-requires c κs = search needs
 
--- src/images.rt:41:5
+-- src/images.rt:44:5
 loop-holds : tie.Need-loop-holds Inv-loop μ-loop
 loop-holds c = (omega arith, refl, cleared-imaging (c .before .before .before .before .before .before .before .args .work .now) (c .before .before .clear .last .0) (c .before .before .before .before .before .before .before .pre .1 .1) (c .before .before .clear .ensures) (decode-graph (c .before .before .before .before .before .before .before .args .second .now)) (c .before .before .before .before .before .before .before .args .v))
 
--- src/images.rt:42:9
+-- src/images.rt:45:9
 image-edge-requires : tie.Need-image-edge-requires Inv-loop μ-loop
 image-edge-requires c κs = let k = c .before .before .before .before .before .before .before .before .before .before .before in let l = c .before .before .before .loop in (k .pre .0, (k .pre .1 .0, (c .before .if1 .taken, omega (arith, l .inv .1, cleared-length (k .args .work .now) (c .before .before .before .before .before .before .clear .last .0) (k .pre .1 .1) (c .before .before .before .before .before .before .clear .ensures), k .pre .1 .1))))
 
--- src/images.rt:43:9
+-- src/images.rt:46:9
 add-j : tie.Need-add-j Inv-loop μ-loop
 add-j c = omega (arith, c .before .before .before .before .if1 .taken, c .before .before .before .before .before .before .before .before .before .before .before .before .before .before .pre .0 .few-second-edges)
 
--- src/images.rt:41:5
+-- src/images.rt:44:5
 loop-less : tie.Need-loop-less Inv-loop μ-loop
 loop-less c = omega (arith, c .before .before .before .before .if1 .taken)
 
--- src/images.rt:41:5
+-- src/images.rt:44:5
 loop-again : tie.Need-loop-again Inv-loop μ-loop
 loop-again c = let k = c .before .before .before .before .before .before .before .before .before .before .before .before .before .before in
     let l = c .before .before .before .before .before .before .loop in
@@ -57,11 +57,11 @@ loop-again c = let k = c .before .before .before .before .before .before .before
       image-more (k .args .s) (k .args .first .now) (k .args .second .now) (k .pre .0) _ (l .work) _ (k .args .v) (l .j) (k .pre .1 .0) (omega (arith, l .inv .1, cleared-length (k .args .work .now) (c .before .before .before .before .before .before .before .before .before .clear .last .0) (k .pre .1 .1) (c .before .before .before .before .before .before .before .before .before .clear .ensures), k .pre .1 .1)) (c .before .before .before .before .if1 .taken) (l .inv .2) (x .ensures),
     )
 
--- src/images.rt:35:1
+-- src/images.rt:38:1
 same-length : tie.Need-same-length Inv-loop μ-loop
 same-length c = let k = c .before .before .before .before .before .before .before .before .before .before in c .before .before .loop .inv .1 ∙ cleared-length (k .args .work .now) (c .before .before .before .before .before .clear .last .0) (k .pre .1 .1) (c .before .before .before .before .before .clear .ensures)
 
--- src/images.rt:35:1
+-- src/images.rt:38:1
 returns : tie.Need-returns Inv-loop μ-loop
 returns c = let k = c .before .before .before .before .before .before .before .before .before .before in
     let l = c .before .before .loop in

@@ -2,7 +2,7 @@ use mathlib.Core.Path.{sym, ap₂, _∙_}
 use Rattle.files.specs.Decode.{decode-graph}
 use Rattle.judging.proofs.HeldLaws.{held-node}
 use Rattle.files.specs.Graph.{node}
-use Rattle.judging.specs.Refinement.Images.{alike-is}
+use Rattle.judging.specs.Refinement.Rows.{alike-is}
 use mathlib.Core.Bool.{not, _&&_, _||_}
 use lib.Dec.{eqb}
 use Rattle.files.specs.declared.graph.GraphNode.{GraphNode}

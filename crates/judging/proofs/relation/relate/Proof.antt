@@ -1,7 +1,8 @@
 use mathlib.Core.Path.{_≡_, refl, sym, _∙_}
 use native.Mathlib.Omega.{arith}
 use Rattle.files.specs.Decode.{decode-graph}
-use Rattle.judging.specs.Refinement.Images.{first-size, second-size, rows-related, rows-start, rows-more, rows-all}
+use Rattle.judging.specs.Refinement.Files.{first-size, second-size}
+use Rattle.judging.specs.Refinement.Rows.{rows-related, rows-start, rows-more, rows-all}
 use Prim.Native.Nat.{ℕ, _-_, _≤_, _<_}
 use lib.ListN.{length}
 use Rattle.files.specs.Cells.{has-bit}

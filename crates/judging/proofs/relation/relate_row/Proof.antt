@@ -1,7 +1,7 @@
 use mathlib.Core.Path.{_≡_, refl, sym, ap, _∙_}
 use native.Mathlib.Omega.{arith}
 use Rattle.files.specs.Decode.{decode-graph}
-use Rattle.judging.specs.Refinement.Images.{row-start, row-yes, row-no, row-outside}
+use Rattle.judging.specs.Refinement.Rows.{row-start, row-yes, row-no, row-outside}
 use mathlib.Core.Logic.{⊎-elim}
 use mathlib.Core.List.{List}
 use Prim.Native.Nat.{ℕ, _+_, _-_, _≤_, _<_}

@@ -1,6 +1,6 @@
 use mathlib.Core.Path.{_∙_}
 use native.Mathlib.Omega.{arith}
-use Rattle.judging.proofs.SimulateLaws.{unrelated, refining-start}
+use Rattle.judging.proofs.SimulateLaws.{unrelated, refining-start, none-held}
 use borrow.Author.Needs.{needs}
 use Rattle.judging.proofs.simulate.refine.Statement.{statement}
 use Rattle.judging.proofs.simulate.refine.Tie as tie
@@ -17,8 +17,13 @@ relate-requires c κs = let k = c .before .before .before .before .before .befor
 match-all-requires : tie.Need-match-all-requires
 match-all-requires c κs = let k = c .before .before .before .before .before .before .before .before .before .before .before .before in
     let x = c .before .before .before .before .before .before .before .link-both in
-    let y = c .before .before .before .relate in
-    (k .pre .0, refining-start (c .before .before .before .before .before .before .before .before .before .before .before .before .args .s) (c .before .before .before .before .before .before .before .before .before .before .before .before .args .first .now) (c .before .before .before .before .before .before .before .before .before .before .before .before .args .second .now) (c .before .before .before .before .before .before .before .before .before .before .before .before .pre .0) (c .before .before .before .before .before .before .before .before .before .before .before .before .args .work .now) (c .before .before .before .before .before .before .before .before .before .before .before .before .pre .1 .0) (c .before .before .before .before .before .before .before .before .before .before .before .before .pre .1 .1) (x .last .1 .1 .1 .0) (x .ensures) (y .last .1 .1 .1 .0) (y .kept .1 .1 .1 .0 ∙ x .kept .1 .1 .1 .0) (y .ensures .0) (y .ensures .1))
+    let y = c .before .before .before .relate in (
+      k .pre .0,
+      (
+        refining-start (k .args .s) (k .args .first .now) (k .args .second .now) (k .pre .0) (k .args .work .now) (k .pre .1 .0) (k .pre .1 .1) (x .last .1 .1 .1 .0) (x .ensures) (y .last .1 .1 .1 .0) (y .kept .1 .1 .1 .0 ∙ x .kept .1 .1 .1 .0) (y .ensures .0) (y .ensures .1),
+        none-held (k .args .s) (k .args .first .now) (k .args .second .now) (k .pre .0) (k .args .work .now) (k .pre .1 .0) (k .pre .1 .1) (x .last .1 .1 .1 .0) (x .ensures) (y .last .1 .1 .1 .0) (y .ensures .1),
+      ),
+    )
 
 -- src/simulate.rt:58:5
 settle-requires : tie.Need-settle-requires
