@@ -1,15 +1,17 @@
 -- Minimal supports as the code finds them: each or-row is settled by naming one operand, the branch that names the second forbids the first, a branch with a forbidden
 -- row is cut, and a list of sets keeps none that another one is within. Laws says that what is collected are the minimal supports.
+use mathlib.Core.Path.{_≡_}
 use mathlib.Core.Bool.{Bool, true, false, not, cond, _&&_}
 use mathlib.Core.List.{List, [], _∷_, _++_}
-use Prim.Native.Nat.{ℕ, zero, suc, _^_}
+use Prim.Native.Nat.{ℕ, zero, suc, _^_, _<_}
 use lib.Bits.{bitOr}
 use lib.Dec.{eqb}
 use lib.ListN.{length}
 use Rattle.files.specs.Basics.Least.{least}
 use Rattle.files.specs.Basics.Lists.{keep}
-use Rattle.files.specs.Basics.Tables.{tally}
+use Rattle.files.specs.Basics.Tables.{table, tally}
 use Rattle.files.specs.Basics.Tests.{any}
+use Rattle.files.specs.Cells.{cell}
 use Rattle.files.specs.Decode.{row-rec}
 use Rattle.files.specs.Property.{Row, always, never, returns, not-returns, in-method, not-in-method, both, either, box, row, is-either}
 use Rattle.maximal.specs.Masks.{member, within, apart, completion, untrue}
@@ -26,6 +28,18 @@ unsettled (not-in-method a) s = false
 unsettled (both a b) s = false
 unsettled (either a b) s = not (member s a) && not (member s b)
 unsettled (box l b) s = false
+
+-- the rows of which one settles row x, whose number is r: the operands of an "or", any other row itself
+abbrev pub settlers : Row → ℕ → ℕ
+settlers always r = 2 ^ r
+settlers never r = 2 ^ r
+settlers returns r = 2 ^ r
+settlers not-returns r = 2 ^ r
+settlers (in-method a) r = 2 ^ r
+settlers (not-in-method a) r = 2 ^ r
+settlers (both a b) r = 2 ^ r
+settlers (either a b) r = bitOr (2 ^ a) (2 ^ b)
+settlers (box l b) r = 2 ^ r
 
 -- the lowest or-row of set s that has no operand in it, or the number of rows
 pub first-open : List Row → ℕ → ℕ
@@ -59,3 +73,14 @@ or-count P = tally (λ r. is-either (row P r)) (length P)
 -- the minimal supports of set o at method m and flag f, by naming at most k operands
 pub supports-of : List Row → ℕ → ℕ → Bool → ℕ → List ℕ
 supports-of P k m f o = collected P k (completion P o) (untrue P m f) []
+
+-- ---- in the lent buffer
+
+-- the first n sets of the list
+abbrev pub listed : List ℕ → ℕ → List ℕ
+listed w n = table (λ i. cell w 87072 4 i) 0 n
+
+-- each row completed, and what settles it
+pub record Tables (P : List Row) (w : List ℕ) : Type 0 where
+  pub closed-are : (r : ℕ) → r < length P → cell w 0 4 r ≡ completion P (2 ^ r)
+  pub settlers-are : (r : ℕ) → r < length P → cell w 128 4 r ≡ settlers (row P r) r

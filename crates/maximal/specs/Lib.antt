@@ -2,4 +2,6 @@ pub mod Model
 pub mod Closure
 pub mod Masks
 pub mod Collected
+pub mod Charting
+pub mod Listing
 pub mod Modelling

@@ -2,6 +2,7 @@
 -- flag, and what a state asks of its successors, each as such a number.
 use mathlib.Core.Bool.{Bool, true, false, not, _||_}
 use mathlib.Core.List.{List}
+use mathlib.Core.Option.{Option, none, some}
 use Prim.Native.Nat.{ℕ, _/_, _%_, _^_}
 use lib.Bits.{bitAnd, bitOr}
 use lib.Dec.{eqb}
@@ -47,6 +48,18 @@ joins (both a b) r = eqb a r || eqb b r
 joins (either a b) r = false
 joins (box l b) r = false
 
+-- the same as a set
+abbrev pub and-rows : Row → ℕ
+and-rows always = 0
+and-rows never = 0
+and-rows returns = 0
+and-rows not-returns = 0
+and-rows (in-method a) = 0
+and-rows (not-in-method a) = 0
+and-rows (both a b) = bitOr (2 ^ a) (2 ^ b)
+and-rows (either a b) = 0
+and-rows (box l b) = 0
+
 -- set s and what its "and" rows ask for, and theirs, and so on
 pub completed-rows : List Row → ℕ → List ℕ
 completed-rows P s = closed (span 0 (length P)) (λ ys r. member s r || any (λ y. joins (row P y) r) ys)
@@ -60,6 +73,11 @@ untrue-at x m f = not (fulfilled x m f (λ r. true))
 
 pub untrue : List Row → ℕ → Bool → ℕ
 untrue P m f = mask (λ r. untrue-at (row P r) m f) (length P)
+
+-- what a row obliges to, if anything, as a set
+abbrev pub obliged-rows : Option ℕ → ℕ
+obliged-rows none = 0
+obliged-rows (some b) = 2 ^ b
 
 -- "O is the set of operands b of that label's boxes in the state"
 pub asked-of : List Row → ℕ → ℕ → ℕ

@@ -19,6 +19,7 @@ pub mod Maximal
 pub mod Computed
 pub mod Ordered
 pub mod Filed
+pub mod Listed
 pub mod Examples
 
 -- ---- sets of rows

@@ -3,7 +3,7 @@ use mathlib.Core.Path.{_≡_}
 use mathlib.Core.Logic.{_↔_}
 use mathlib.Core.Option.{none}
 use mathlib.Core.List.{List, [], _∷_}
-use Prim.Native.Nat.{ℕ, _<_}
+use Prim.Native.Nat.{ℕ, _≤_, _<_}
 use lib.ListN.{length}
 use Rattle.files.specs.declared.record.Limits.{Limits}
 use Rattle.files.specs.Graph.{Graph, size, Flow}
@@ -18,11 +18,12 @@ use Rattle.maximal.specs.declared.answers.Modelled.{Modelled}
 use Rattle.maximal.specs.declared.answers.Modelled.the-variants.{Written, Refused}
 use Rattle.maximal.specs.Model.{model}
 pub mod Laws
+pub mod Steps
 pub mod Examples
 
 -- the published length of the work buffer
 abbrev pub model-room : ℕ
-model-room = 65536
+model-room = 103456
 
 -- the paper's number and values for each case
 abbrev pub modelled-answer : Modelled → Answer
@@ -46,6 +47,27 @@ module _ (L : Limits) (i p : List ℕ) (out work : ℕ) where
 
   pub modelled : Outcome
   modelled = answered model-checks (graph-said model-graph [])
+
+-- the outcome from the interface's numbers on, from the property's on, and from 11 on, as the code comes to them
+abbrev pub from-interface : Limits → List ℕ → List ℕ → ℕ → Outcome
+from-interface L i p out =
+    let G = model (decode-interface i) (decode-property p) in
+    answered (file-checks L 1 interface i (file-checks L 2 property p (whole-check 11 (too-large L G) (out-check out (graph-said G []))))) (graph-said G [])
+
+abbrev pub from-property : Limits → List ℕ → List ℕ → ℕ → Outcome
+from-property L i p out =
+    let G = model (decode-interface i) (decode-property p) in
+    answered (file-checks L 2 property p (whole-check 11 (too-large L G) (out-check out (graph-said G [])))) (graph-said G [])
+
+abbrev pub from-size : Limits → List ℕ → List ℕ → ℕ → Outcome
+from-size L i p out =
+    let G = model (decode-interface i) (decode-property p) in answered (whole-check 11 (too-large L G) (out-check out (graph-said G []))) (graph-said G [])
+
+-- limits whose states, rows and named operands fit the work buffer
+pub record Bounded (L : Limits) : Type 0 where
+  pub nodes-fit : L .nodes ≤ 256
+  pub rows-fit : L .rows ≤ 32
+  pub ors-fit : L .ors ≤ 12
 
 -- What modelling says where it is not refused: the bytes written are an accepted graph file, of the interface, with its nodes and edges counted, and for every
 -- flow graph of the interface, however large: the graph written simulates it exactly where it satisfies the property.

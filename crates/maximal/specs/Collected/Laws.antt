@@ -4,7 +4,7 @@ use mathlib.Core.Path.{_≡_, refl, sym, ap, subst, _∙_}
 use mathlib.Core.Logic.{_⊎_, inl, inr, _↔_}
 use mathlib.Core.Bool.{Bool, true, false, not, cond, _&&_, _||_}
 use mathlib.Core.List.{List, [], _∷_, _++_, List·Memᴰ, List·Memᴰ·head, List·Memᴰ·not-nil, List·Memᴰ·eq-of-singleton, List·Memᴰ·append-cases, Memᴰ·cast, Memᴰ·append-left, Memᴰ·append-right}
-use Prim.Native.Nat.{ℕ, zero, suc, _+_, _*_, _^_, _≤_, _<_}
+use Prim.Native.Nat.{ℕ, zero, suc, _+_, _^_, _≤_, _<_}
 use native.Mathlib.Nat.{pow-suc, eq-or-lt-of-le}
 use native.Mathlib.Omega.{arith}
 use lib.Bits.{bitOr, or-lt}
@@ -15,14 +15,14 @@ use Rattle.files.specs.Basics.Binary.{value}
 use Rattle.files.specs.Basics.Least.{least, least-hit, least-before}
 use Rattle.files.specs.Basics.Lists.{put, keep, keep-i, keep-e}
 use Rattle.files.specs.Basics.Tables.{tally}
-use Rattle.files.specs.Basics.Tests.{decide, T-eq, one, one-le, one-true, one-false, eq-eqb, not-not, not-and, and-l, and-r, and-i, and-e, or-e, or-l, or-r, any, any-i, any-e}
+use Rattle.files.specs.Basics.Tests.{same-test, decide, one, one-le, one-true, one-false, eq-eqb, not-not, not-and, and-l, and-r, and-i, and-e, or-e, or-l, or-r, any, any-i, any-e}
 use Rattle.files.specs.Decode.{row-rec}
 use Rattle.files.specs.Decode.Properties.{tally-mono}
 use Rattle.files.specs.Property.{Row, always, never, returns, not-returns, in-method, not-in-method, both, either, box, row, names, Property, is-either}
-use Rattle.maximal.specs.Model.{Rows, has, Within, fulfilled, Support, Minimal}
+use Rattle.maximal.specs.Model.{Rows, Within, fulfilled, Support, Minimal}
 use Rattle.maximal.specs.Model.Supports.{length-tab, supported-e, supported-i, minimal-inside}
 use Rattle.maximal.specs.Masks.{member, rows, within, apart, joins, completion, untrue-at, untrue}
-use Rattle.maximal.specs.Masks.Laws.{member-or, member-one, member-lt, members-eq, same-test, within-e, within-i, apart-e, apart-i, value-lt, value-member, member-untrue, untrue-lt, has-rows, value-rows, rows-value, completion-lt, completion-contains, completion-joins, completion-least}
+use Rattle.maximal.specs.Masks.Laws.{member-or, member-one, member-lt, members-eq, within-e, within-i, apart-e, apart-i, value-lt, value-member, member-untrue, untrue-lt, has-rows, rows-member, rows-value, completion-lt, completion-contains, completion-joins, completion-least}
 use Rattle.maximal.specs.Collected.{unsettled, first-open, operand-a, operand-b, inserted, collected, or-count, supports-of}
 
 -- ---- the search, case by case
@@ -35,50 +35,95 @@ least-le p (suc n) = go (p 0) (least-le (λ i. p (suc i)) n)
     go true h = omega arith
     go false h = omega arith
 
+-- row r is in set s, an "or" with neither operand there
+abbrev pub open-at : List Row → ℕ → ℕ → Bool
+open-at P s r = member s r && unsettled (row P r) s
+
+pub first-open-is : (P : List Row) (s : ℕ) → first-open P s ≡ least (open-at P s) (length P)
+unfolding first-open
+first-open-is P s = refl
+
+pub open-le : (P : List Row) (s : ℕ) → first-open P s ≤ length P
+unfolding first-open
+open-le P s = least-le (open-at P s) (length P)
+
+-- a branch is cut, or it is a leaf, or it may name no more, or it has two
+module _ (P : List Row) (s x : ℕ) (A : List ℕ) where
+  pub collected-cut : (k : ℕ) → apart s x ≡ false → collected P k s x A ≡ A
+  unfolding collected
+  collected-cut zero e = rw e
+  collected-cut (suc k) e = rw e
+
+  pub collected-leaf : (k : ℕ) → apart s x ≡ true → eqb (first-open P s) (length P) ≡ true → collected P k s x A ≡ inserted A s
+  unfolding collected
+  collected-leaf zero e d = rw (e, d)
+  collected-leaf (suc k) e d = rw (e, d)
+
+  pub collected-last : apart s x ≡ true → eqb (first-open P s) (length P) ≡ false → collected P 0 s x A ≡ A
+  unfolding collected
+  collected-last e d = rw (e, d)
+
+  pub collected-split : (k : ℕ) → apart s x ≡ true → eqb (first-open P s) (length P) ≡ false
+      → collected P (suc k) s x A
+      ≡ collected P k (bitOr s (completion P (2 ^ operand-b P (first-open P s)))) (bitOr x (2 ^ operand-a P (first-open P s)))
+      (collected P k (bitOr s (completion P (2 ^ operand-a P (first-open P s)))) x A)
+  unfolding collected
+  collected-split k e d = rw (e, d)
+
+pub supports-of-is : (P : List Row) (k m : ℕ) (f : Bool) (o : ℕ) → supports-of P k m f o ≡ collected P k (completion P o) (untrue P m f) []
+unfolding supports-of
+supports-of-is P k m f o = refl
+
 -- what holds of a cut branch, of a leaf, of a branch that may name no more, and of a branch from its two, holds of every branch
 module _ (P : List Row) (Q : ℕ → ℕ → ℕ → List ℕ → List ℕ → Type 0)
     (cut : (k s x : ℕ) (A : List ℕ) → T (not (apart s x)) → Q k s x A A)
     (leaf : (k s x : ℕ) (A : List ℕ) → T (apart s x) → first-open P s ≡ length P → Q k s x A (inserted A s))
     (last : (s x : ℕ) (A : List ℕ) → first-open P s < length P → Q 0 s x A A)
     (split : (k s x : ℕ) (A B C : List ℕ) → T (apart s x) → first-open P s < length P
-        → Q k (bitOr s (completion P (2 ^ operand-a P (first-open P s)))) x A B
-        → Q k (bitOr s (completion P (2 ^ operand-b P (first-open P s)))) (bitOr x (2 ^ operand-a P (first-open P s))) B C → Q (suc k) s x A C)
-    where
-  open-lt : (s : ℕ) → eqb (first-open P s) (length P) ≡ false → first-open P s < length P
-  unfolding first-open
-  open-lt s e =
-      let l = least-le (λ r. member s r && unsettled (row P r) s) (length P) in
-      go (eq-or-lt-of-le l)
-    where
-      go : (first-open P s ≡ length P) ⊎ (first-open P s < length P) → first-open P s < length P
-      go (inl d) = absurd (subst T e (eq-eqb (first-open P s) (length P) d))
-      go (inr h) = h
+    → Q k (bitOr s (completion P (2 ^ operand-a P (first-open P s)))) x A B
+    → Q k (bitOr s (completion P (2 ^ operand-b P (first-open P s)))) (bitOr x (2 ^ operand-a P (first-open P s))) B C → Q (suc k) s x A C)
+  where
+    open-lt : (s : ℕ) → eqb (first-open P s) (length P) ≡ false → first-open P s < length P
+    open-lt s e = go (eq-or-lt-of-le (open-le P s))
+      where
+        go : (first-open P s ≡ length P) ⊎ (first-open P s < length P) → first-open P s < length P
+        go (inl d) = absurd (subst T e (eq-eqb (first-open P s) (length P) d))
+        go (inr h) = h
 
-  pub collected-ind : (k s x : ℕ) (A : List ℕ) → Q k s x A (collected P k s x A)
-  unfolding collected
-  collected-ind zero s x A = go (apart s x) refl (eqb (first-open P s) (length P)) refl
-    where
-      go : (b : Bool) → apart s x ≡ b → (c : Bool) → eqb (first-open P s) (length P) ≡ c → Q 0 s x A (cond b (cond c (inserted A s) A) A)
-      go true e true d = leaf 0 s x A (subst T (sym e) tt) (eqb→eq (first-open P s) (length P) (subst T (sym d) tt))
-      go true e false d = last s x A (open-lt s d)
-      go false e c d = cut 0 s x A (subst (λ (b : Bool). T (not b)) (sym e) tt)
-  collected-ind (suc k) s x A =
-      go (apart s x) refl (eqb (first-open P s) (length P)) refl (collected-ind k (bitOr s (completion P (2 ^ operand-a P (first-open P s)))) x A)
-      (collected-ind k (bitOr s (completion P (2 ^ operand-b P (first-open P s)))) (bitOr x (2 ^ operand-a P (first-open P s))) (collected P k (bitOr s (completion P (2 ^ operand-a P (first-open P s)))) x A))
-    where
-      first : List ℕ
-      first = collected P k (bitOr s (completion P (2 ^ operand-a P (first-open P s)))) x A
+    pub collected-ind : (k s x : ℕ) (A : List ℕ) → Q k s x A (collected P k s x A)
+    unfolding collected
+    collected-ind zero s x A = go (apart s x) refl (eqb (first-open P s) (length P)) refl
+      where
+        go : (b : Bool) → apart s x ≡ b → (c : Bool) → eqb (first-open P s) (length P) ≡ c → Q 0 s x A (cond b (cond c (inserted A s) A) A)
+        go true e true d = leaf 0 s x A (subst T (sym e) tt) (eqb→eq (first-open P s) (length P) (subst T (sym d) tt))
+        go true e false d = last s x A (open-lt s d)
+        go false e c d = cut 0 s x A (subst (λ (b : Bool). T (not b)) (sym e) tt)
+    collected-ind (suc k) s x A =
+        go (apart s x) refl (eqb (first-open P s) (length P)) refl (collected-ind k (bitOr s (completion P (2 ^ operand-a P (first-open P s)))) x A)
+        (collected-ind k (bitOr s (completion P (2 ^ operand-b P (first-open P s)))) (bitOr x (2 ^ operand-a P (first-open P s))) (collected P k (bitOr s (completion P (2 ^ operand-a P (first-open P s)))) x A))
+      where
+        first : List ℕ
+        first = collected P k (bitOr s (completion P (2 ^ operand-a P (first-open P s)))) x A
 
-      second : List ℕ
-      second = collected P k (bitOr s (completion P (2 ^ operand-b P (first-open P s)))) (bitOr x (2 ^ operand-a P (first-open P s))) first
+        second : List ℕ
+        second = collected P k (bitOr s (completion P (2 ^ operand-b P (first-open P s)))) (bitOr x (2 ^ operand-a P (first-open P s))) first
 
-      go : (b : Bool) → apart s x ≡ b → (c : Bool) → eqb (first-open P s) (length P) ≡ c → Q k (bitOr s (completion P (2 ^ operand-a P (first-open P s)))) x A first
-          → Q k (bitOr s (completion P (2 ^ operand-b P (first-open P s)))) (bitOr x (2 ^ operand-a P (first-open P s))) first second → Q (suc k) s x A (cond b (cond c (inserted A s) second) A)
-      go true e true d p q = leaf (suc k) s x A (subst T (sym e) tt) (eqb→eq (first-open P s) (length P) (subst T (sym d) tt))
-      go true e false d p q = split k s x A first second (subst T (sym e) tt) (open-lt s d) p q
-      go false e c d p q = cut (suc k) s x A (subst (λ (b : Bool). T (not b)) (sym e) tt)
+        go : (b : Bool) → apart s x ≡ b → (c : Bool) → eqb (first-open P s) (length P) ≡ c → Q k (bitOr s (completion P (2 ^ operand-a P (first-open P s)))) x A first
+            → Q k (bitOr s (completion P (2 ^ operand-b P (first-open P s)))) (bitOr x (2 ^ operand-a P (first-open P s))) first second → Q (suc k) s x A (cond b (cond c (inserted A s) second) A)
+        go true e true d p q = leaf (suc k) s x A (subst T (sym e) tt) (eqb→eq (first-open P s) (length P) (subst T (sym d) tt))
+        go true e false d p q = split k s x A first second (subst T (sym e) tt) (open-lt s d) p q
+        go false e c d p q = cut (suc k) s x A (subst (λ (b : Bool). T (not b)) (sym e) tt)
 
 -- ---- the list of sets
+
+-- a set is left out where a listed one is within it; otherwise it is added, and what it is within is dropped
+pub inserted-past : (A : List ℕ) (s : ℕ) → any (λ u. within u s) A ≡ true → inserted A s ≡ A
+unfolding inserted
+inserted-past A s e = rw e
+
+pub inserted-last : (A : List ℕ) (s : ℕ) → any (λ u. within u s) A ≡ false → inserted A s ≡ keep (λ u. not (within s u)) A ++ s ∷ []
+unfolding inserted
+inserted-last A s e = rw e
 
 -- no set is within another
 abbrev Incomparable : List ℕ → Type 0
@@ -232,6 +277,28 @@ fulfils n (either a b) m f s i t u j = go (not-and (not (member s a)) (not (memb
     go (inr k) = or-r (member s a) (member s b) (not-not (member s b) k)
 fulfils n (box l b) m f s i t u j = t
 
+-- ---- the open row
+
+module _ (P : List Row) (wf : Property P) where
+  -- the operands of an open row
+  pub open-row : (s : ℕ) → first-open P s < length P → T (member s (first-open P s)) × (row P (first-open P s) ≡ either (operand-a P (first-open P s)) (operand-b P (first-open P s)))
+      × T (not (member s (operand-a P (first-open P s)))) × T (not (member s (operand-b P (first-open P s)))) × (operand-a P (first-open P s) < length P) × (operand-b P (first-open P s) < length P)
+  unfolding first-open
+  open-row s h =
+      let t = least-hit (open-at P s) (length P) h in
+      let r = first-open P s in
+      let u = unsettled-e (row P r) s (and-r (member s r) (unsettled (row P r) s) t) in
+      let ea : operand-a P r ≡ u .0 = ap (λ (y : Row). (row-rec y) .second) (u .2) in
+      let eb : operand-b P r ≡ u .1 = ap (λ (y : Row). (row-rec y) .third) (u .2) in
+      let w = subst (λ (y : Row). T (names (length P) y)) (u .2) (wf .names-rows r h) in (
+        and-l (member s r) (unsettled (row P r) s) t,
+        u .2 ∙ sym (ap (λ (i : ℕ). either i (operand-b P r)) ea ∙ ap (either (u .0)) eb),
+        subst (λ (i : ℕ). T (not (member s i))) (sym ea) (u .3),
+        subst (λ (i : ℕ). T (not (member s i))) (sym eb) (u .4),
+        omega (arith, ea, ltb→lt (u .0) (length P) (and-l (ltb (u .0) (length P)) (ltb (u .1) (length P)) w)),
+        omega (arith, eb, ltb→lt (u .1) (length P) (and-r (ltb (u .0) (length P)) (ltb (u .1) (length P)) w)),
+      )
+
 -- ---- leaves are supports, and minimal supports are reached and kept
 
 module _ (P : List Row) (wf : Property P) (m : ℕ) (f : Bool) (o : ℕ) (in-rows : o < 2 ^ length P) where
@@ -250,16 +317,13 @@ module _ (P : List Row) (wf : Property P) (m : ℕ) (f : Bool) (o : ℕ) (in-row
     asks : (y r : ℕ) → r < n → T (member s y) → T (joins (row P y) r) → T (member s r)
     forbids : (r : ℕ) → T (member (untrue P m f) r) → T (member x r)
 
-  flags : (k : ℕ) → k < 2 ^ n → has (rows n k) ≡ member k
-  flags k h i r = has-rows n k r h i
-
   leaf-support : (s x : ℕ) → Branch s x → T (apart s x) → first-open P s ≡ n → IsSupport s
   unfolding first-open
   leaf-support s x b t e = (
     b .of-rows,
     record {
       of-rows = length-tab (member s) n;
-      is-supported = supported-i P m f (rows n s) (λ r h k. subst (λ (v : ℕ → Bool). T (fulfilled (row P r) m f v)) (sym (flags s (b .of-rows))) (ok r h (subst T (has-rows n s r (b .of-rows)) k)));
+      is-supported = supported-i P m f (rows n s) (λ r h k. subst (λ (v : ℕ → Bool). T (fulfilled (row P r) m f v)) (sym (rows-member n s (b .of-rows))) (ok r h (subst T (has-rows n s r (b .of-rows)) k)));
       contains = λ r k. subst T (sym (has-rows n s r (b .of-rows))) (b .contains r k);
     },
   )
@@ -269,7 +333,7 @@ module _ (P : List Row) (wf : Property P) (m : ℕ) (f : Bool) (o : ℕ) (in-row
 
       settled : (r : ℕ) → r < n → T (member s r) → T (not (unsettled (row P r) s))
       settled r h k =
-          go (not-and (member s r) (unsettled (row P r) s) (least-before (λ r. member s r && unsettled (row P r) s) n r (subst (λ (i : ℕ). r < i) (sym e) h)))
+          go (not-and (member s r) (unsettled (row P r) s) (least-before (open-at P s) n r (subst (λ (i : ℕ). r < i) (sym e) h)))
         where
           go : T (not (member s r)) ⊎ T (not (unsettled (row P r) s)) → T (not (unsettled (row P r) s))
           go (inl c) = absurd (T-not (member s r) c k)
@@ -304,25 +368,6 @@ module _ (P : List Row) (wf : Property P) (m : ℕ) (f : Bool) (o : ℕ) (in-row
     forbids = λ r t. subst T (sym (member-or x (2 ^ a) r)) (or-l (member x r) (member (2 ^ a) r) (b .forbids r t));
   }
 
-  -- the operands of an open row
-  open-row : (s : ℕ) → first-open P s < n → T (member s (first-open P s)) × (row P (first-open P s) ≡ either (operand-a P (first-open P s)) (operand-b P (first-open P s)))
-      × T (not (member s (operand-a P (first-open P s)))) × T (not (member s (operand-b P (first-open P s)))) × (operand-a P (first-open P s) < n) × (operand-b P (first-open P s) < n)
-  unfolding first-open
-  open-row s h =
-      let t = least-hit (λ r. member s r && unsettled (row P r) s) n h in
-      let r = first-open P s in
-      let u = unsettled-e (row P r) s (and-r (member s r) (unsettled (row P r) s) t) in
-      let ea : operand-a P r ≡ u .0 = ap (λ (y : Row). (row-rec y) .second) (u .2) in
-      let eb : operand-b P r ≡ u .1 = ap (λ (y : Row). (row-rec y) .third) (u .2) in
-      let w = subst (λ (y : Row). T (names n y)) (u .2) (wf .names-rows r h) in (
-        and-l (member s r) (unsettled (row P r) s) t,
-        u .2 ∙ sym (ap (λ (i : ℕ). either i (operand-b P r)) ea ∙ ap (either (u .0)) eb),
-        subst (λ (i : ℕ). T (not (member s i))) (sym ea) (u .3),
-        subst (λ (i : ℕ). T (not (member s i))) (sym eb) (u .4),
-        omega (arith, ea, ltb→lt (u .0) n (and-l (ltb (u .0) n) (ltb (u .1) n) w)),
-        omega (arith, eb, ltb→lt (u .1) n (and-r (ltb (u .0) n) (ltb (u .1) n) w)),
-      )
-
   -- how many or-rows a set leaves unsettled
   abbrev left-of : ℕ → ℕ
   left-of s = tally (λ r. unsettled (row P r) s) n
@@ -332,7 +377,7 @@ module _ (P : List Row) (wf : Property P) (m : ℕ) (f : Bool) (o : ℕ) (in-row
   unfolding first-open
   left-falls s c h which l =
       tally-falls (λ r. unsettled (row P r) u) (λ r. unsettled (row P r) s) n (first-open P s) h
-      (and-r (member s (first-open P s)) _ (least-hit (λ r. member s r && unsettled (row P r) s) n h)) (not-T (unsettled (row P (first-open P s)) u) gone)
+      (and-r (member s (first-open P s)) _ (least-hit (open-at P s) n h)) (not-T (unsettled (row P (first-open P s)) u) gone)
       (λ j k t. unsettled-less (row P j) s u (λ r m. subst T (sym (member-or s (completion P (2 ^ c)) r)) (or-l (member s r) _ m)) t)
     where
       u : ℕ
@@ -370,15 +415,15 @@ module _ (P : List Row) (wf : Property P) (m : ℕ) (f : Bool) (o : ℕ) (in-row
   branch-supports = collected-ind P (λ k s x A B. Branch s x → AllSupports A → AllSupports B)
       (λ k s x A t b g. g) (λ k s x A t e b g. inserted-supports A s (leaf-support s x b t e) g) (λ s x A h b g. g)
       (λ k s x A B C t h p q b g.
-          let y = open-row s h in
-          q (forbidden (bitOr s (completion P (2 ^ operand-b P (first-open P s)))) x (operand-a P (first-open P s)) (y .4) (named s x (operand-b P (first-open P s)) (y .5) b)) (p (named s x (operand-a P (first-open P s)) (y .4) b) g))
+      let y = open-row P wf s h in
+      q (forbidden (bitOr s (completion P (2 ^ operand-b P (first-open P s)))) x (operand-a P (first-open P s)) (y .4) (named s x (operand-b P (first-open P s)) (y .5) b)) (p (named s x (operand-a P (first-open P s)) (y .4) b) g))
 
   -- ---- a minimal support
 
   module _ (M : ℕ) (sup : IsSupport M) (min : (k : ℕ) → IsSupport k → T (within k M) → k ≡ M) where
     fulfils-row : (r : ℕ) → r < n → T (member M r) → T (fulfilled (row P r) m f (member M))
     fulfils-row r h t =
-        subst (λ (v : ℕ → Bool). T (fulfilled (row P r) m f v)) (flags M (sup .0))
+        subst (λ (v : ℕ → Bool). T (fulfilled (row P r) m f v)) (rows-member n M (sup .0))
         (supported-e P m f (rows n M) (sup .1 .is-supported) r h (subst T (sym (has-rows n M r (sup .0))) t))
 
     -- it has what is asked for with any of its rows
@@ -434,14 +479,14 @@ module _ (P : List Row) (wf : Property P) (m : ℕ) (f : Bool) (o : ℕ) (in-row
         (λ s x A h b g. record {
           supports = g;
           keeps = λ i. i;
-          finds = λ sub clear l. absurd (omega (arith, left-falls s (operand-a P (first-open P s)) h (inl refl) (open-row s h .4)));
+          finds = λ sub clear l. absurd (omega (arith, left-falls s (operand-a P (first-open P s)) h (inl refl) (open-row P wf s h .4)));
         })
         (λ k s x A B C t h p q b g.
-            let a = operand-a P (first-open P s) in
-            let c = operand-b P (first-open P s) in
-            let y = open-row s h in
-            let u = p (named s x a (y .4) b) g in
-            let v = q (forbidden (bitOr s (completion P (2 ^ c))) x a (y .4) (named s x c (y .5) b)) (u .supports) in record {
+        let a = operand-a P (first-open P s) in
+        let c = operand-b P (first-open P s) in
+        let y = open-row P wf s h in
+        let u = p (named s x a (y .4) b) g in
+        let v = q (forbidden (bitOr s (completion P (2 ^ c))) x a (y .4) (named s x c (y .5) b)) (u .supports) in record {
           supports = v .supports;
           keeps = λ i. v .keeps (u .keeps i);
           finds = λ sub clear l. settle (List·Memᴰ M C) s sub h
@@ -455,7 +500,7 @@ module _ (P : List Row) (wf : Property P) (m : ℕ) (f : Bool) (o : ℕ) (in-row
         settle X s sub h by-a by-b = go (decide (member M (operand-a P (first-open P s))))
           where
             one-of : T (member M (operand-a P (first-open P s)) || member M (operand-b P (first-open P s)))
-            one-of = subst (λ (y : Row). T (fulfilled y m f (member M))) (open-row s h .1) (fulfils-row (first-open P s) h (sub (first-open P s) (open-row s h .0)))
+            one-of = subst (λ (y : Row). T (fulfilled y m f (member M))) (open-row P wf s h .1) (fulfils-row (first-open P s) h (sub (first-open P s) (open-row P wf s h .0)))
 
             go : T (member M (operand-a P (first-open P s))) ⊎ T (not (member M (operand-a P (first-open P s)))) → X
             go (inl k) = by-a k

@@ -1,4 +1,4 @@
--- Laws of sets of rows as numbers: the digits of a union, of what two sets share and of one row; a set is its digits; subsets; numbers and flags; and what a completed
+-- Laws of sets of rows as numbers: the digits of a union, of what two sets share, of where they differ and of one row; a set is its digits; subsets; numbers and flags; and what a completed
 -- set contains.
 use mathlib.Core.Path.{_≡_, refl, sym, ap, ap₂, subst, _∙_}
 use mathlib.Core.Logic.{_⊎_, inl, inr}
@@ -8,13 +8,13 @@ use Prim.Native.Nat.{ℕ, zero, suc, _+_, _*_, _/_, _%_, _^_, _<_}
 use native.Mathlib.Nat.{div-div-eq-div-mul, pow-suc, mul-comm, suc-inj}
 use native.Mathlib.Decide.{decLt}
 use native.Mathlib.Omega.{arith}
-use lib.Bits.{bitAnd, bitOr, or-shr, or-mod, and-shr, and-mod, or-lt, and-lt}
-use lib.Dec.{T, T-not, not-T, eqb, eqb→eq}
+use lib.Bits.{bitAnd, bitOr, bitXor, or-shr, or-mod, and-shr, and-mod, xor-shr, xor-mod, or-lt, and-lt}
+use lib.Dec.{T, eqb, eqb→eq}
 use lib.ListN.{length}
 use Rattle.files.specs.Basics.Binary.{value, value-one}
 use Rattle.files.specs.Basics.Closure.{closed-ind, closed-rule}
 use Rattle.files.specs.Basics.Lists.{span, span-i}
-use Rattle.files.specs.Basics.Tests.{one, one-le, T-eq, eq-eqb, and-l, and-r, and-i, or-e, or-l, or-r, or-map, any, any-i, any-e, any-map}
+use Rattle.files.specs.Basics.Tests.{same-test, one, one-le, T-eq, same, eq-eqb, and-l, and-r, and-i, or-e, or-l, or-r, or-map, any, any-i, any-e, any-map}
 use Rattle.files.specs.Property.{Row, row}
 use Rattle.maximal.specs.Model.{Rows, has, asked}
 use Rattle.maximal.specs.Model.Supports.{tab, length-tab, has-tab, has-lt}
@@ -47,6 +47,12 @@ and-digits a b (inl p) q = rw p refl
 and-digits a b (inr p) (inl q) = rw (p, q) refl
 and-digits a b (inr p) (inr q) = rw (p, q) refl
 
+xor-digits : (a b : ℕ) → (a ≡ 0) ⊎ (a ≡ 1) → (b ≡ 0) ⊎ (b ≡ 1) → eqb (bitXor a b) 1 ≡ not (same (eqb a 1) (eqb b 1))
+xor-digits a b (inl p) (inl q) = rw (p, q) refl
+xor-digits a b (inl p) (inr q) = rw (p, q) refl
+xor-digits a b (inr p) (inl q) = rw (p, q) refl
+xor-digits a b (inr p) (inr q) = rw (p, q) refl
+
 pub member-or : (u s r : ℕ) → member (bitOr u s) r ≡ (member u r || member s r)
 member-or u s r =
     ap (λ (n : ℕ). eqb (n % 2) 1) (or-shr u s r) ∙ ap (λ (n : ℕ). eqb n 1) (or-mod (u / 2 ^ r) (s / 2 ^ r) 1)
@@ -57,20 +63,19 @@ member-and u s r =
     ap (λ (n : ℕ). eqb (n % 2) 1) (and-shr u s r) ∙ ap (λ (n : ℕ). eqb n 1) (and-mod (u / 2 ^ r) (s / 2 ^ r) 1)
     ∙ and-digits (u / 2 ^ r % 2) (s / 2 ^ r % 2) (binary _ (omega arith)) (binary _ (omega arith))
 
+pub member-xor : (u s r : ℕ) → member (bitXor u s) r ≡ not (same (member u r) (member s r))
+member-xor u s r =
+    ap (λ (n : ℕ). eqb (n % 2) 1) (xor-shr u s r) ∙ ap (λ (n : ℕ). eqb n 1) (xor-mod (u / 2 ^ r) (s / 2 ^ r) 1)
+    ∙ xor-digits (u / 2 ^ r % 2) (s / 2 ^ r % 2) (binary _ (omega arith)) (binary _ (omega arith))
+
 pub member-none : (r : ℕ) → member 0 r ≡ false
 member-none zero = refl
 member-none (suc r) = member-suc 0 r ∙ member-none r
 
--- two tests that pass together are one
-pub same-test : (a b : Bool) → (T a → T b) → (T b → T a) → a ≡ b
-same-test true b f g = sym (T-eq b (f tt))
-same-test false true f g = absurd (g tt)
-same-test false false f g = refl
-
 differ : (m n : ℕ) → (m ≡ n → ⊥) → eqb m n ≡ false
 differ m n f = same-test (eqb m n) false (λ t. f (eqb→eq m n t)) (λ t. absurd t)
 
--- the digits of one row
+-- the digits of one row, and of two
 pub member-one : (x r : ℕ) → member (2 ^ x) r ≡ eqb x r
 member-one zero zero = refl
 member-one zero (suc r) =
@@ -83,6 +88,9 @@ member-one (suc x) (suc r) =
     let e : 2 ^ suc x / 2 ≡ 2 ^ x = omega (arith, pow-suc 2 x) in
     member-suc (2 ^ suc x) r ∙ ap (λ (n : ℕ). member n r) e ∙ member-one x r
     ∙ same-test (eqb x r) (eqb (suc x) (suc r)) (λ t. eq-eqb (suc x) (suc r) (ap suc (eqb→eq x r t))) (λ t. eq-eqb x r (suc-inj (eqb→eq (suc x) (suc r) t)))
+
+pub member-two : (a b r : ℕ) → member (bitOr (2 ^ a) (2 ^ b)) r ≡ eqb a r || eqb b r
+member-two a b r = member-or (2 ^ a) (2 ^ b) r ∙ ap₂ _||_ (member-one a r) (member-one b r)
 
 pub member-lt : (n u r : ℕ) → u < 2 ^ n → T (member u r) → r < n
 member-lt zero u r h t = let e : u ≡ 0 = omega arith in absurd (subst T (ap (λ (x : ℕ). member x r) e ∙ member-none r) t)
@@ -163,6 +171,9 @@ has-rows n k r h = go (decLt r n)
     go (yes l) = has-tab (member k) n r l
     go (no l) = same-test (has (rows n k) r) (member k r) (λ t. absurd (l (subst (λ (x : ℕ). r < x) (length-tab (member k) n) (has-lt (rows n k) r t)))) (λ t. absurd (l (member-lt n k r h t)))
 
+pub rows-member : (n k : ℕ) → k < 2 ^ n → has (rows n k) ≡ member k
+rows-member n k h i r = has-rows n k r h i
+
 pub value-rows : (n k : ℕ) → k < 2 ^ n → value (rows n k) ≡ k
 value-rows n k h = sym (mask-is (member k) n k h (λ r l. refl))
 
@@ -174,6 +185,10 @@ rows-value n S e =
 -- ---- untrue rows, and what a state asks for
 
 module _ (P : List Row) where
+  pub untrue-mask : (m : ℕ) (f : Bool) → untrue P m f ≡ mask (λ r. untrue-at (row P r) m f) (length P)
+  unfolding untrue
+  untrue-mask m f = refl
+
   pub untrue-lt : (m : ℕ) (f : Bool) → untrue P m f < 2 ^ length P
   unfolding untrue
   untrue-lt m f = mask-lt (λ r. untrue-at (row P r) m f) (length P)

@@ -46,7 +46,7 @@ module _ (P : List Row) (m : ℕ) (f : Bool) (O : ℕ → Bool) (rows : (r : ℕ
   abbrev proper : Rows → Rows → Bool
   proper S U = is-support P m f O U && (below P (has U) (has S) && not (below P (has S) (has U)))
 
-  minimal-e : (S : Rows) → length S ≡ length P → T (is-minimal P m f O S) → Minimal P m f O S
+  pub minimal-e : (S : Rows) → length S ≡ length P → T (is-minimal P m f O S) → Minimal P m f O S
   unfolding is-minimal
   minimal-e S e t = record { support = support-e S e (and-l (is-support P m f O S) _ t); least = λ U s w. go U s w (decide (below P (has S) (has U))) }
     where
@@ -56,7 +56,7 @@ module _ (P : List Row) (m : ℕ) (f : Bool) (O : ℕ → Bool) (rows : (r : ℕ
           absurd (T-not (any (proper S) (sets (length P))) (and-r (is-support P m f O S) _ t) (any-i (proper S) (sets (length P)) U
           (sets-i (length P) U (s .of-rows)) (and-i (is-support P m f O U) _ (support-i U s) (and-i (below P (has U) (has S)) _ (below-i (has U) (has S) w) b))))
 
-  minimal-i : (S : Rows) → Minimal P m f O S → T (is-minimal P m f O S)
+  pub minimal-i : (S : Rows) → Minimal P m f O S → T (is-minimal P m f O S)
   unfolding is-minimal
   minimal-i S s =
       and-i (is-support P m f O S) _ (support-i S (s .support)) (not-T (any (proper S) (sets (length P))) (λ t.
@@ -74,18 +74,18 @@ module _ (I : Interface) (P : List Row) (wf : Property P) where
   root-row : (r : ℕ) → T (root r) → r < length P
   root-row r t = subst (λ (i : ℕ). i < length P) (sym (eqb→eq r 0 t)) (wf .has-root)
 
-  asked-row : (S : Rows) (l r : ℕ) → T (asked P S l r) → r < length P
+  pub asked-row : (S : Rows) (l r : ℕ) → T (asked P S l r) → r < length P
   asked-row S l r t = let a = asked-e P S l r t in obliged-named (length P) (row P (a .0)) l r (wf .names-rows (a .0) (a .1)) (a .3)
 
-  entry-e : (s : State) → length (s .rows) ≡ length P → T (is-entry I P s) → Entry I P s
+  pub entry-e : (s : State) → length (s .rows) ≡ length P → T (is-entry I P s) → Entry I P s
   unfolding is-entry
   entry-e s e t = record { provided = and-l (provides I (s .method)) _ t; minimal = minimal-e P _ _ root root-row (s .rows) e (and-r (provides I (s .method)) _ t) }
 
-  entry-i : (s : State) → Entry I P s → T (is-entry I P s)
+  pub entry-i : (s : State) → Entry I P s → T (is-entry I P s)
   unfolding is-entry
   entry-i s x = and-i (provides I (s .method)) _ (x .provided) (minimal-i P _ _ root root-row (s .rows) (x .minimal))
 
-  label-e : (l : ℕ) → T (is-label I P l) → Labelled I l
+  pub label-e : (l : ℕ) → T (is-label I P l) → Labelled I l
   unfolding is-label
   label-e l t = go (or-e (eqb l 0) (requires-method I l) t)
     where
@@ -93,12 +93,12 @@ module _ (I : Interface) (P : List Row) (wf : Property P) where
       go (inl a) = inl (eqb→eq l 0 a)
       go (inr a) = inr a
 
-  label-i : (l : ℕ) → Labelled I l → T (is-label I P l) × (l < 9)
+  pub label-i : (l : ℕ) → Labelled I l → T (is-label I P l) × (l < 9)
   unfolding is-label
   label-i l (inl e) = (or-l (eqb l 0) (requires-method I l) (eq-eqb l 0 e), omega arith)
   label-i l (inr t) = (or-r (eqb l 0) (requires-method I l) t, (in-set-small (I .required) l t) .1)
 
-  next-e : (s : State) (l : ℕ) (t : State) → length (t .rows) ≡ length P → T (is-next I P s l t) → Next I P s l t
+  pub next-e : (s : State) (l : ℕ) (t : State) → length (t .rows) ≡ length P → T (is-next I P s l t) → Next I P s l t
   unfolding is-next
   next-e s l t e x =
       let y = and-r (is-label I P l) _ x in
@@ -108,7 +108,7 @@ module _ (I : Interface) (P : List Row) (wf : Property P) where
         minimal = minimal-e P _ _ (asked P (s .rows) l) (asked-row (s .rows) l) (t .rows) e (and-r (eqb (t .method) (s .method)) _ y);
       }
 
-  next-i : (s : State) (l : ℕ) (t : State) → Next I P s l t → T (is-next I P s l t)
+  pub next-i : (s : State) (l : ℕ) (t : State) → Next I P s l t → T (is-next I P s l t)
   unfolding is-next
   next-i s l t x =
       and-i (is-label I P l) _ ((label-i l (x .label)) .0) (and-i (eqb (t .method) (s .method)) _ (eq-eqb _ _ (x .same-method))

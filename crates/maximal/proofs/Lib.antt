@@ -1,0 +1,5 @@
+pub mod AntichainLaws
+pub mod CompleteLaws
+pub mod MaskLaws
+pub mod RowLaws
+pub mod SupportLaws

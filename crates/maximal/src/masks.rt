@@ -1,0 +1,132 @@
+// Sets of rows as numbers: row r is in the set when its digit 2 ^ r is one. A set completed by what its "and" rows ask for, taken from the highest row downward; the
+// rows that are untrue at a method and flag; and what a state asks of its successors under a label.
+ghost use mathlib.Core.Path.{_≡_};
+ghost use mathlib.Core.Bool.{Bool};
+ghost use Prim.Native.Nat.{_+_, _^_, _≤_, _<_};
+ghost use Rattle.files.specs.Access.{PropertyFile};
+ghost use Rattle.files.specs.Decode.{decode-property};
+ghost use Rattle.files.specs.Property.{row, obliged};
+ghost use Rattle.files.specs.Record.{count};
+ghost use Rattle.maximal.specs.Masks.{member, and-rows, completion, untrue-at, untrue, obliged-rows, asked-of};
+use files::property::RowAt;
+use files::property::row_at;
+
+// Row r is in the set.
+pub fn has_row(set: u32, r: usize) -> bool
+    requires { ⌜ r < 32 ⌝ }
+    ensures { λ t. ⌜ t ≡ member set r ⌝ }
+{
+    (set >> r) % 2 == 1
+}
+
+// The set of row r alone.
+pub fn one_row(r: usize) -> u32
+    requires { ⌜ r < 32 ⌝ }
+    ensures { λ t. ⌜ t ≡ 2 ^ r ⌝ }
+{
+    1 << r
+}
+
+// The highest row of a set that has one.
+fn highest(set: u32) -> usize
+    requires { ⌜ 0 < set ⌝ }
+    ensures { λ t. ⌜ (2 ^ t ≤ set) × (set < 2 ^ (t + 1)) ⌝ }
+{
+    let mut r = 31;
+    while !has_row(set, r) {
+        r -= 1;
+    }
+    r
+}
+
+// What row r asks for as an "and".
+fn and_rows(property: &[u8], n: usize, r: usize) -> u32
+    requires { ⌜ (PropertyFile (now property)) × ((n ≡ count (now property)) × ((n ≤ 32) × (r < n))) ⌝ }
+    ensures { λ t. ⌜ t ≡ and-rows (row (decode-property (now (property .entry))) r) ⌝ }
+{
+    let RowAt::Is(x) = row_at(property, r, 2) else {
+        return 0;
+    };
+    if x.operator == 7 {
+        return one_row(x.a as usize) | one_row(x.b as usize);
+    }
+    0
+}
+
+// The set and what its "and" rows ask for, and theirs, and so on: the highest row not yet worked is taken next.
+pub fn complete(property: &[u8], n: usize, set: u32) -> u32
+    requires { ⌜ (PropertyFile (now property)) × ((n ≡ count (now property)) × ((n ≤ 32) × (set < 2 ^ n))) ⌝ }
+    ensures { λ t. ⌜ t ≡ completion (decode-property (now (property .entry))) set ⌝ }
+{
+    let mut all = set;
+    let mut done = 0;
+    while !(all == done) {
+        let r = highest(all ^ done);
+        done = done | one_row(r);
+        all = all | and_rows(property, n, r);
+    }
+    all
+}
+
+// Row r is false, or a literal that is untrue at the method and flag.
+fn is_untrue(property: &[u8], n: usize, r: usize, method: u8, flag: bool) -> bool
+    requires { ⌜ (PropertyFile (now property)) × ((n ≡ count (now property)) × ((n ≤ 32) × (r < n))) ⌝ }
+    ensures { λ t. ⌜ t ≡ untrue-at (row (decode-property (now (property .entry))) r) method flag ⌝ }
+{
+    let RowAt::Is(x) = row_at(property, r, 2) else {
+        return false;
+    };
+    let here = method == x.a;
+    let never = x.operator == 2;
+    let elsewhere = (x.operator == 3) & !here;
+    let shunned = (x.operator == 4) & here;
+    let goes_on = (x.operator == 5) & !flag;
+    let returns = (x.operator == 6) & flag;
+    never | elsewhere | shunned | goes_on | returns
+}
+
+// All rows that are.
+pub fn untrue(property: &[u8], n: usize, method: u8, flag: bool) -> u32
+    requires { ⌜ (PropertyFile (now property)) × ((n ≡ count (now property)) × (n ≤ 32)) ⌝ }
+    ensures { λ t. ⌜ t ≡ untrue (decode-property (now (property .entry))) method flag ⌝ }
+{
+    let mut r = 0;
+    let mut set = 0;
+    while r < n {
+        if is_untrue(property, n, r, method, flag) {
+            set = set | one_row(r);
+        }
+        r += 1;
+    }
+    set
+}
+
+// What row r obliges the end of an edge with this label to, as a set.
+fn obliged_rows(property: &[u8], n: usize, r: usize, label: u8) -> u32
+    requires { ⌜ (PropertyFile (now property)) × ((n ≡ count (now property)) × ((n ≤ 32) × (r < n))) ⌝ }
+    ensures { λ t. ⌜ t ≡ obliged-rows (obliged (row (decode-property (now (property .entry))) r) label) ⌝ }
+{
+    let RowAt::Is(x) = row_at(property, r, 2) else {
+        return 0;
+    };
+    if (x.operator == 9) & (x.a == label) {
+        return one_row(x.b as usize);
+    }
+    0
+}
+
+// What all rows of a set do.
+pub fn asked(property: &[u8], n: usize, set: u32, label: u8) -> u32
+    requires { ⌜ (PropertyFile (now property)) × ((n ≡ count (now property)) × ((n ≤ 32) × (set < 2 ^ n))) ⌝ }
+    ensures { λ t. ⌜ t ≡ asked-of (decode-property (now (property .entry))) set label ⌝ }
+{
+    let mut r = 0;
+    let mut rows = 0;
+    while r < n {
+        if has_row(set, r) {
+            rows = rows | obliged_rows(property, n, r, label);
+        }
+        r += 1;
+    }
+    rows
+}

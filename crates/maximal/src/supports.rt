@@ -1,0 +1,116 @@
+// The minimal supports of a set of rows at a method and return flag: each or-row is settled by naming one operand, by recursion with a falling count.
+// `supports` states that what it lists is what the definition collects.
+ghost use mathlib.Core.Path.{_≡_};
+ghost use mathlib.Core.Bool.{Bool};
+ghost use mathlib.Core.List.{[]};
+ghost use Prim.Native.Nat.{ℕ, _+_, _^_, _≤_, _<_};
+ghost use lib.ListN.{length};
+ghost use Rattle.files.specs.Access.{PropertyFile};
+ghost use Rattle.files.specs.Decode.{decode-property};
+ghost use Rattle.files.specs.Property.{row};
+ghost use Rattle.files.specs.Record.{count};
+ghost use Rattle.judging.specs.Chains.{Outside};
+ghost use Rattle.maximal.specs.Collected.{settlers, first-open, listed, collected, supports-of, Tables};
+use crate::antichain::insert;
+use crate::masks::complete;
+use crate::masks::has_row;
+use crate::masks::one_row;
+use crate::masks::untrue;
+use crate::places::Places;
+use files::cells::get32;
+use files::cells::put32;
+use files::property::RowAt;
+use files::property::row_at;
+
+// The rows of which one settles row r.
+fn settlers(property: &[u8], n: usize, r: usize) -> u32
+    requires { ⌜ (PropertyFile (now property)) × ((n ≡ count (now property)) × ((n ≤ 32) × (r < n))) ⌝ }
+    ensures { λ t. ⌜ t ≡ settlers (row (decode-property (now (property .entry))) r) r ⌝ }
+{
+    let RowAt::Is(x) = row_at(property, r, 2) else {
+        return 0;
+    };
+    if x.operator == 8 {
+        return one_row(x.a as usize) | one_row(x.b as usize);
+    }
+    one_row(r)
+}
+
+// The tables of all rows.
+pub fn tabulate(property: &[u8], n: usize, work: &mut [u8])
+    requires { ⌜ (PropertyFile (now property)) × ((n ≡ count (now property)) × ((n ≤ 32) × (103456 ≤ length (now work)))) ⌝ }
+    ensures { λ _. ⌜ (Tables (decode-property (now (property .entry))) (now (work .exit))) × (Outside 0 256 (now (work .entry)) (now (work .exit))) ⌝ }
+{
+    let mut r = 0;
+    while r < n {
+        put32(work, Places::CLOSED, r, complete(property, n, one_row(r)));
+        put32(work, Places::SETTLERS, r, settlers(property, n, r));
+        r += 1;
+    }
+}
+
+// The lowest or-row of the set that has no operand in it, or the number of rows.
+fn first_open(property: &[u8], n: usize, work: &[u8], set: u32) -> usize
+    requires { ⌜ (PropertyFile (now property)) × ((n ≡ count (now property)) × ((n ≤ 32) × ((103456 ≤ length (now work)) × (Tables (decode-property (now property)) (now work))))) ⌝ }
+    ensures { λ t. ⌜ t ≡ first-open (decode-property (now (property .entry))) set ⌝ }
+{
+    let mut r = 0;
+    while r < n {
+        if has_row(set, r) & (set & get32(work, Places::SETTLERS, r) == 0) {
+            return r;
+        }
+        r += 1;
+    }
+    r
+}
+
+// Collects the supports that contain a completed set, have no forbidden row, and name at most `left` operands more. How many are listed then.
+fn collect(
+    property: &[u8],
+    n: usize,
+    work: &mut [u8],
+    found: usize,
+    set: u32,
+    forbidden: u32,
+    left: usize,
+) -> usize
+    requires { ⌜ (PropertyFile (now property)) × ((n ≡ count (now property)) × ((n ≤ 32) × ((found + 2 ^ left ≤ 4096) × ((103456 ≤ length (now work)) × (Tables (decode-property (now property)) (now work)))))) ⌝ }
+    ensures { λ t. ⌜ (listed (now (work .exit)) t ≡ collected (decode-property (now (property .entry))) left set forbidden (listed (now (work .entry)) found)) × ((t ≤ found + 2 ^ left) × (Outside 87072 103456 (now (work .entry)) (now (work .exit)))) ⌝ }
+{
+    if !(set & forbidden == 0) {
+        return found;
+    }
+    let r = first_open(property, n, work, set);
+    if r == n {
+        return insert(work, found, set);
+    }
+    if left == 0 {
+        return found;
+    }
+    let RowAt::Is(x) = row_at(property, r, 2) else {
+        return found;
+    };
+    let with_a = set | get32(work, Places::CLOSED, x.a as usize);
+    let with_b = set | get32(work, Places::CLOSED, x.b as usize);
+    let without_a = forbidden | one_row(x.a as usize);
+    let first = collect(property, n, work, found, with_a, forbidden, left - 1);
+    collect(property, n, work, first, with_b, without_a, left - 1)
+}
+
+// Lists the minimal supports of a set of rows. How many there are.
+pub fn supports(
+    property: &[u8],
+    n: usize,
+    work: &mut [u8],
+    ors: usize,
+    method: u8,
+    flag: bool,
+    set: u32,
+) -> usize
+    requires { ⌜ (PropertyFile (now property)) × ((n ≡ count (now property)) × ((n ≤ 32) × ((ors ≤ 12) × ((set < 2 ^ n) × ((103456 ≤ length (now work)) × (Tables (decode-property (now property)) (now work))))))) ⌝ }
+    ensures { λ t. ⌜ (listed (now (work .exit)) t ≡ supports-of (decode-property (now (property .entry))) ors method flag set) × ((t ≤ 4096) × (Outside 87072 103456 (now (work .entry)) (now (work .exit)))) ⌝ }
+{
+    let all = complete(property, n, set);
+    let forbidden = untrue(property, n, method, flag);
+    collect(property, n, work, 0, all, forbidden, ors)
+}
