@@ -55,7 +55,7 @@ fn fails_at(graph: &[u8], property: &[u8], s: Shape, work: &[u8], g: usize) -> b
 }
 
 // The lowest failing entry, or the number of nodes.
-pub fn first_failing(graph: &[u8], property: &[u8], s: Shape, work: &[u8]) -> usize
+pub(crate) fn first_failing(graph: &[u8], property: &[u8], s: Shape, work: &[u8]) -> usize
     requires { ⌜ (Ready s (now graph) (now property)) × ((41664 ≤ length (now work)) × (Ranked (decode-graph (now graph)) (decode-property (now property)) (now work))) ⌝ }
     ensures { λ g. ⌜ g ≡ failing (decode-graph (now (graph .entry))) (decode-property (now (property .entry))) ⌝ }
 {
@@ -70,7 +70,7 @@ pub fn first_failing(graph: &[u8], property: &[u8], s: Shape, work: &[u8]) -> us
 }
 
 // Puts the first edge of each node, and the number of edges, into the buffer.
-pub fn first_edges(graph: &[u8], property: &[u8], s: Shape, work: &mut [u8])
+pub(crate) fn first_edges(graph: &[u8], property: &[u8], s: Shape, work: &mut [u8])
     requires { ⌜ (Ready s (now graph) (now property)) × ((41664 ≤ length (now work)) × (Ranked (decode-graph (now graph)) (decode-property (now property)) (now work))) ⌝ }
     ensures { λ _. ⌜ Settled (decode-graph (now (graph .entry))) (decode-property (now (property .entry))) (now (work .exit)) ⌝ }
 {
@@ -198,7 +198,7 @@ fn box_cause(
 }
 
 // The first cause of row r at node g.
-pub fn first_cause(
+pub(crate) fn first_cause(
     graph: &[u8],
     property: &[u8],
     s: Shape,
@@ -234,7 +234,7 @@ pub fn first_cause(
 }
 
 // The second cause of row r at node g, which only an "or" has.
-pub fn second_cause(graph: &[u8], property: &[u8], s: Shape, g: usize, r: usize) -> Cause
+pub(crate) fn second_cause(graph: &[u8], property: &[u8], s: Shape, g: usize, r: usize) -> Cause
     requires { ⌜ (Ready s (now graph) (now property)) × ((g < s .nodes) × (r < s .rows)) ⌝ }
     ensures { λ c. ⌜ c ≡ cause-held (getD (causes (decode-graph (now (graph .entry))) (decode-property (now (property .entry))) (g, r)) 1 no-cause) ⌝ }
 {

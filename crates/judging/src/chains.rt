@@ -67,7 +67,7 @@ fn row_named(graph: &[u8], property: &[u8], s: Shape, j: usize) -> usize
 }
 
 // Links every edge of a graph to the node that it leads to.
-pub fn link_graph(
+pub(crate) fn link_graph(
     graph: &[u8],
     nodes: usize,
     edges: usize,
@@ -110,7 +110,7 @@ fn link_places(graph: &[u8], property: &[u8], s: Shape, work: &mut [u8])
 }
 
 // Builds both chains in a buffer that is zero; the bytes before them stay zero.
-pub fn index(graph: &[u8], property: &[u8], s: Shape, work: &mut [u8])
+pub(crate) fn index(graph: &[u8], property: &[u8], s: Shape, work: &mut [u8])
     requires { ⌜ (Ready s (now graph) (now property)) × ((now work ≡ replicate (length (now work)) 0) × (41664 ≤ length (now work))) ⌝ }
     ensures { λ _. ⌜ (Index (decode-graph (now (graph .entry))) (decode-property (now (property .entry))) (now (work .exit))) × (Outside 32768 41664 (now (work .entry)) (now (work .exit))) ⌝ }
 {

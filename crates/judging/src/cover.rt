@@ -55,7 +55,7 @@ fn is_uncovered(first: &[u8], second: &[u8], s: Sizes, work: &[u8], g: usize) ->
 }
 
 // The lowest uncovered entry, or the number of nodes.
-pub fn first_uncovered(first: &[u8], second: &[u8], s: Sizes, work: &[u8]) -> usize
+pub(crate) fn first_uncovered(first: &[u8], second: &[u8], s: Sizes, work: &[u8]) -> usize
     requires { ⌜ ((Both s (now first) (now second))) × ((165152 ≤ length (now work)) × (Settled (decode-graph (now first)) (decode-graph (now second)) (now work))) ⌝ }
     ensures { λ t. ⌜ t ≡ uncovered (decode-graph (now (first .entry))) (decode-graph (now (second .entry))) ⌝ }
 {
@@ -70,7 +70,7 @@ pub fn first_uncovered(first: &[u8], second: &[u8], s: Sizes, work: &[u8]) -> us
 }
 
 // Writes the relation, 32 bytes for each node of the first graph.
-pub fn write_relation(first: &[u8], second: &[u8], s: Sizes, work: &[u8], out: &mut [u8])
+pub(crate) fn write_relation(first: &[u8], second: &[u8], s: Sizes, work: &[u8], out: &mut [u8])
     requires { ⌜ ((Both s (now first) (now second))) × ((165152 ≤ length (now work)) × ((Settled (decode-graph (now first)) (decode-graph (now second)) (now work)) × (32 * s .nodes ≤ length (now out)))) ⌝ }
     ensures { λ _. ⌜ now (out .exit) ≡ relation-bytes (decode-graph (now (first .entry))) (decode-graph (now (second .entry))) ++ drop (length (relation-bytes (decode-graph (now (first .entry))) (decode-graph (now (second .entry))))) (now (out .entry)) ⌝ }
 {

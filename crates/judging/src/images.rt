@@ -103,7 +103,7 @@ fn hold(work: &mut [u8], v: usize)
 }
 
 // Narrows by the images of every node. The queue's end.
-pub fn match_all(first: &[u8], second: &[u8], s: Sizes, work: &mut [u8]) -> usize
+pub(crate) fn match_all(first: &[u8], second: &[u8], s: Sizes, work: &mut [u8]) -> usize
     requires { ⌜ ((Both s (now first) (now second))) × ((Refining (decode-graph (now first)) (decode-graph (now second)) 0 (now work)) × ((g h : ℕ) → g < 256 → h < 256 → held (now work) g h ≡ false)) ⌝ }
     ensures { λ t. ⌜ Settling (decode-graph (now (first .entry))) (decode-graph (now (second .entry))) 0 t (now (work .exit)) ⌝ }
 {

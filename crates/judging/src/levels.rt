@@ -114,7 +114,7 @@ fn start_node(
 }
 
 // Level 1, in a buffer of zeros and chains. The queue's end.
-pub fn start(graph: &[u8], property: &[u8], s: Shape, work: &mut [u8]) -> usize
+pub(crate) fn start(graph: &[u8], property: &[u8], s: Shape, work: &mut [u8]) -> usize
     requires { ⌜ (Ready s (now graph) (now property)) × ((Finding (decode-graph (now graph)) (decode-property (now property)) 0 0 (now work)) × ((p : ℕ) → p < 8192 → cell (now work) 0 2 p ≡ 0)) ⌝ }
     ensures { λ t. ⌜ Found (decode-graph (now (graph .entry))) (decode-property (now (property .entry))) 1 0 t (now (work .exit)) ⌝ }
 {
@@ -232,7 +232,7 @@ fn pop(
 }
 
 // One level: pops the pairs of rank k, which stand in the queue from `head` up to `tail`, and gives rank k + 1 to all that turns false with them. The queue's end.
-pub fn level(
+pub(crate) fn level(
     graph: &[u8],
     property: &[u8],
     s: Shape,
@@ -257,7 +257,7 @@ pub fn level(
 }
 
 // All levels, from level 1 on.
-pub fn levels(graph: &[u8], property: &[u8], s: Shape, work: &mut [u8], first: usize)
+pub(crate) fn levels(graph: &[u8], property: &[u8], s: Shape, work: &mut [u8], first: usize)
     requires { ⌜ (Ready s (now graph) (now property)) × (Found (decode-graph (now graph)) (decode-property (now property)) 1 0 first (now work)) ⌝ }
     ensures { λ _. ⌜ (Ranked (decode-graph (now (graph .entry))) (decode-property (now (property .entry))) (now (work .exit))) ⌝ }
 {

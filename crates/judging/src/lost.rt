@@ -233,7 +233,7 @@ fn work_off(
 }
 
 // Works off the queue of dropped pairs.
-pub fn settle(first: &[u8], second: &[u8], s: Sizes, work: &mut [u8], tail: usize)
+pub(crate) fn settle(first: &[u8], second: &[u8], s: Sizes, work: &mut [u8], tail: usize)
     requires { ⌜ ((Both s (now first) (now second))) × (Settling (decode-graph (now first)) (decode-graph (now second)) 0 tail (now work)) ⌝ }
     ensures { λ _. ⌜ Settled (decode-graph (now (first .entry))) (decode-graph (now (second .entry))) (now (work .exit)) ⌝ }
 {

@@ -49,7 +49,7 @@ fn relate_row(first: &[u8], second: &[u8], s: Sizes, work: &mut [u8], g: usize)
 }
 
 // Relates all nodes that agree.
-pub fn relate(first: &[u8], second: &[u8], s: Sizes, work: &mut [u8])
+pub(crate) fn relate(first: &[u8], second: &[u8], s: Sizes, work: &mut [u8])
     requires { ⌜ ((Both s (now first) (now second))) × ((165152 ≤ length (now work)) × ((p : ℕ) → p < 65536 → has-bit (now work) 0 p ≡ false)) ⌝ }
     ensures { λ _. ⌜ ((g h : ℕ) → g < 256 → h < 256 → rel (now (work .exit)) g h ≡ (ltb g (size (decode-graph (now (first .entry)))) && (ltb h (size (decode-graph (now (second .entry)))) && alike (node (decode-graph (now (first .entry))) g) (node (decode-graph (now (second .entry))) h)))) × (Outside 0 8192 (now (work .entry)) (now (work .exit))) ⌝ }
 {
@@ -61,7 +61,7 @@ pub fn relate(first: &[u8], second: &[u8], s: Sizes, work: &mut [u8])
 }
 
 // Drops a pair, if it is related, and puts it at the queue's end. The queue's end after it.
-pub fn drop_pair(work: &mut [u8], tail: usize, g: usize, h: usize) -> usize
+pub(crate) fn drop_pair(work: &mut [u8], tail: usize, g: usize, h: usize) -> usize
     requires { ⌜ (g < 256) × ((h < 256) × ((rel (now work) g h ≡ true → tail < 65536) × (165152 ≤ length (now work)))) ⌝ }
     ensures { λ t. ⌜ (t ≡ tail-after (now (work .entry)) tail g h) × ((now (work .exit)) ≡ dropped (now (work .entry)) tail g h) ⌝ }
 {

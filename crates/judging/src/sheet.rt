@@ -61,7 +61,7 @@ fn visit_causes(
 }
 
 // Lists all pairs of the sheet, which starts at node g. How many they are.
-pub fn walk(graph: &[u8], property: &[u8], s: Shape, work: &mut [u8], g: usize) -> usize
+pub(crate) fn walk(graph: &[u8], property: &[u8], s: Shape, work: &mut [u8], g: usize) -> usize
     requires { ⌜ (Ready s (now graph) (now property)) × ((Settled (decode-graph (now graph)) (decode-property (now property)) (now work)) × (((p : ℕ) → p < 8192 → has-bit (now work) 32768 p ≡ false) × ((g ≡ failing (decode-graph (now graph)) (decode-property (now property))) × (T (not (satisfies (decode-graph (now graph)) (decode-property (now property)))))))) ⌝ }
     ensures { λ n. ⌜ (Listed (decode-graph (now (graph .entry))) (decode-property (now (property .entry))) n (now (work .exit))) × (listed (now (work .exit)) n ≡ pairs (decode-graph (now (graph .entry))) (decode-property (now (property .entry)))) ⌝ }
 {
@@ -108,7 +108,14 @@ fn put_fault(
 }
 
 // Writes the sheet, whose n pairs are listed.
-pub fn write_sheet(graph: &[u8], property: &[u8], s: Shape, work: &[u8], out: &mut [u8], n: usize)
+pub(crate) fn write_sheet(
+    graph: &[u8],
+    property: &[u8],
+    s: Shape,
+    work: &[u8],
+    out: &mut [u8],
+    n: usize,
+)
     requires { ⌜ (Ready s (now graph) (now property)) × ((Listed (decode-graph (now graph)) (decode-property (now property)) n (now work)) × ((listed (now work) n ≡ pairs (decode-graph (now graph)) (decode-property (now property))) × (6 * n ≤ length (now out)))) ⌝ }
     ensures { λ _. ⌜ now (out .exit) ≡ sheet-bytes (decode-graph (now (graph .entry))) (decode-property (now (property .entry))) ++ drop (length (sheet-bytes (decode-graph (now (graph .entry))) (decode-property (now (property .entry))))) (now (out .entry)) ⌝ }
 {

@@ -28,7 +28,8 @@ use Rattle.judging.proofs.LevelLaws.{below-more}
 use Rattle.maximal.specs.Masks.{member, apart, completion}
 use Rattle.maximal.specs.Masks.Laws.{member-one, member-two, apart-e, apart-i}
 use Rattle.maximal.specs.Collected.{unsettled, settlers, first-open, operand-a, operand-b, collected, Tables}
-use Rattle.maximal.specs.Collected.Laws.{open-at, first-open-is, open-le, open-row, collected-split}
+use Rattle.maximal.specs.Collected.Rows.{open-row}
+use Rattle.maximal.specs.Collected.Search.{open-at, first-open-is, open-le, collected-split}
 use Rattle.maximal.proofs.RowLaws.{rows-are, rows-named, names-rows}
 
 -- ---- the tables

@@ -15,6 +15,8 @@ use Rattle.files.specs.Cells.{cell}
 use Rattle.files.specs.Decode.{row-rec}
 use Rattle.files.specs.Property.{Row, always, never, returns, not-returns, in-method, not-in-method, both, either, box, row, is-either}
 use Rattle.maximal.specs.Masks.{member, within, apart, completion, untrue}
+pub mod Search
+pub mod Rows
 pub mod Laws
 
 -- row x, an "or", has neither operand in set s

@@ -1,5 +1,4 @@
 pub mod Model
-pub mod Closure
 pub mod Masks
 pub mod Collected
 pub mod Charting

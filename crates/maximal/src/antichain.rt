@@ -54,7 +54,7 @@ fn drop_above(work: &mut [u8], count: usize, s: u32) -> usize
 }
 
 // Adds set s. How many are listed then.
-pub fn insert(work: &mut [u8], count: usize, s: u32) -> usize
+pub(crate) fn insert(work: &mut [u8], count: usize, s: u32) -> usize
     requires { ⌜ (count < 4096) × (103456 ≤ length (now work)) ⌝ }
     ensures { λ t. ⌜ (listed (now (work .exit)) t ≡ inserted (listed (now (work .entry)) count) s) × ((t ≤ count + 1) × (Outside 87072 103456 (now (work .entry)) (now (work .exit)))) ⌝ }
 {

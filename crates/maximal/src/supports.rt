@@ -37,7 +37,7 @@ fn settlers(property: &[u8], n: usize, r: usize) -> u32
 }
 
 // The tables of all rows.
-pub fn tabulate(property: &[u8], n: usize, work: &mut [u8])
+pub(crate) fn tabulate(property: &[u8], n: usize, work: &mut [u8])
     requires { ⌜ (PropertyFile (now property)) × ((n ≡ count (now property)) × ((n ≤ 32) × (103456 ≤ length (now work)))) ⌝ }
     ensures { λ _. ⌜ (Tables (decode-property (now (property .entry))) (now (work .exit))) × (Outside 0 256 (now (work .entry)) (now (work .exit))) ⌝ }
 {
@@ -98,7 +98,7 @@ fn collect(
 }
 
 // Lists the minimal supports of a set of rows. How many there are.
-pub fn supports(
+pub(crate) fn supports(
     property: &[u8],
     n: usize,
     work: &mut [u8],

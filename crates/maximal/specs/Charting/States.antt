@@ -43,7 +43,8 @@ state-of-is n s e =
     ∙ ap (λ (f : Bool). record { method = s .method; flag = f; rows = rows n (value (s .rows)) }) (flag-is (s .method) (s .flag))
     ∙ ap (λ (S : Rows). record { method = s .method; flag = s .flag; rows = S }) (rows-value n (s .rows) e)
 
-one-flag : (k : ℕ) → one (flag-of k) ≡ k % 2
+-- the flag of a kind, as its last digit
+pub one-flag : (k : ℕ) → one (flag-of k) ≡ k % 2
 one-flag k = go (k % 2) (omega arith)
   where
     go : (d : ℕ) → d < 2 → one (eqb d 1) ≡ d
@@ -163,3 +164,7 @@ module _ (I : Interface) (P : List Row) (wf : Property P) (c : ℕ) (w : List �
           go : (s ≡ state-of (length P) kind u) ⊎ List·Memᴰ s (table (stored (length P) w) 0 c) → List·Memᴰ s (states I P)
           go (inl d) = states-are I P wf s .1 (subst (Reached I P) (sym d) (x .reached))
           go (inr j) = let b = table-e (stored (length P) w) 0 c s j in states-are I P wf s .1 (subst (Reached I P) (b .3) (h .known (b .0) (omega (arith, b .2)) .reached))
+
+pub crowded-e : (I : Interface) (P : List Row) (n : ℕ) → Crowded I P n → n < length (states I P)
+unfolding Crowded
+crowded-e I P n h = h

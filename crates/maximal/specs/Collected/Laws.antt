@@ -2,302 +2,30 @@
 -- is reached and kept, and no set of the list is within another. The list has at most 2 ^ k sets.
 use mathlib.Core.Path.{_≡_, refl, sym, ap, subst, _∙_}
 use mathlib.Core.Logic.{_⊎_, inl, inr, _↔_}
-use mathlib.Core.Bool.{Bool, true, false, not, cond, _&&_, _||_}
+use mathlib.Core.Bool.{Bool, true, false, not, cond, _||_}
 use mathlib.Core.List.{List, [], _∷_, _++_, List·Memᴰ, List·Memᴰ·head, List·Memᴰ·not-nil, List·Memᴰ·eq-of-singleton, List·Memᴰ·append-cases, Memᴰ·cast, Memᴰ·append-left, Memᴰ·append-right}
-use Prim.Native.Nat.{ℕ, zero, suc, _+_, _^_, _≤_, _<_}
-use native.Mathlib.Nat.{pow-suc, eq-or-lt-of-le}
+use Prim.Native.Nat.{ℕ, _+_, _^_, _≤_, _<_}
 use native.Mathlib.Omega.{arith}
 use lib.Bits.{bitOr, or-lt}
-use lib.Dec.{T, T-not, not-T, eqb, eqb→eq, ltb, ltb→lt}
-use lib.ListN.{length, length-append}
-use lib.Pow.{pow-pos, pow-lt}
+use lib.Dec.{T, T-not, not-T, eqb→eq}
+use lib.ListN.{length}
+use lib.Pow.{pow-lt}
 use Rattle.files.specs.Basics.Binary.{value}
 use Rattle.files.specs.Basics.Least.{least, least-hit, least-before}
-use Rattle.files.specs.Basics.Lists.{put, keep, keep-i, keep-e}
+use Rattle.files.specs.Basics.Lists.{keep, keep-i, keep-e}
+use Rattle.files.specs.Basics.Queue.{Once}
 use Rattle.files.specs.Basics.Tables.{tally}
-use Rattle.files.specs.Basics.Tests.{same-test, decide, one, one-le, one-true, one-false, eq-eqb, not-not, not-and, and-l, and-r, and-i, and-e, or-e, or-l, or-r, any, any-i, any-e}
+use Rattle.files.specs.Basics.Tests.{same-test, decide, eq-eqb, not-not, not-and, and-r, or-e, or-l, or-r, any, any-i, any-e}
 use Rattle.files.specs.Decode.{row-rec}
 use Rattle.files.specs.Decode.Properties.{tally-mono}
-use Rattle.files.specs.Property.{Row, always, never, returns, not-returns, in-method, not-in-method, both, either, box, row, names, Property, is-either}
+use Rattle.files.specs.Property.{Row, either, row, Property, is-either}
 use Rattle.maximal.specs.Model.{Rows, Within, fulfilled, Support, Minimal}
 use Rattle.maximal.specs.Model.Supports.{length-tab, supported-e, supported-i, minimal-inside}
 use Rattle.maximal.specs.Masks.{member, rows, within, apart, joins, completion, untrue-at, untrue}
 use Rattle.maximal.specs.Masks.Laws.{member-or, member-one, member-lt, members-eq, within-e, within-i, apart-e, apart-i, value-lt, value-member, member-untrue, untrue-lt, has-rows, rows-member, rows-value, completion-lt, completion-contains, completion-joins, completion-least}
 use Rattle.maximal.specs.Collected.{unsettled, first-open, operand-a, operand-b, inserted, collected, or-count, supports-of}
-
--- ---- the search, case by case
-
-least-le : (p : ℕ → Bool) (n : ℕ) → least p n ≤ n
-least-le p zero = omega arith
-least-le p (suc n) = go (p 0) (least-le (λ i. p (suc i)) n)
-  where
-    go : (b : Bool) → least (λ i. p (suc i)) n ≤ n → cond b 0 (suc (least (λ i. p (suc i)) n)) ≤ suc n
-    go true h = omega arith
-    go false h = omega arith
-
--- row r is in set s, an "or" with neither operand there
-abbrev pub open-at : List Row → ℕ → ℕ → Bool
-open-at P s r = member s r && unsettled (row P r) s
-
-pub first-open-is : (P : List Row) (s : ℕ) → first-open P s ≡ least (open-at P s) (length P)
-unfolding first-open
-first-open-is P s = refl
-
-pub open-le : (P : List Row) (s : ℕ) → first-open P s ≤ length P
-unfolding first-open
-open-le P s = least-le (open-at P s) (length P)
-
--- a branch is cut, or it is a leaf, or it may name no more, or it has two
-module _ (P : List Row) (s x : ℕ) (A : List ℕ) where
-  pub collected-cut : (k : ℕ) → apart s x ≡ false → collected P k s x A ≡ A
-  unfolding collected
-  collected-cut zero e = rw e
-  collected-cut (suc k) e = rw e
-
-  pub collected-leaf : (k : ℕ) → apart s x ≡ true → eqb (first-open P s) (length P) ≡ true → collected P k s x A ≡ inserted A s
-  unfolding collected
-  collected-leaf zero e d = rw (e, d)
-  collected-leaf (suc k) e d = rw (e, d)
-
-  pub collected-last : apart s x ≡ true → eqb (first-open P s) (length P) ≡ false → collected P 0 s x A ≡ A
-  unfolding collected
-  collected-last e d = rw (e, d)
-
-  pub collected-split : (k : ℕ) → apart s x ≡ true → eqb (first-open P s) (length P) ≡ false
-      → collected P (suc k) s x A
-      ≡ collected P k (bitOr s (completion P (2 ^ operand-b P (first-open P s)))) (bitOr x (2 ^ operand-a P (first-open P s)))
-      (collected P k (bitOr s (completion P (2 ^ operand-a P (first-open P s)))) x A)
-  unfolding collected
-  collected-split k e d = rw (e, d)
-
-pub supports-of-is : (P : List Row) (k m : ℕ) (f : Bool) (o : ℕ) → supports-of P k m f o ≡ collected P k (completion P o) (untrue P m f) []
-unfolding supports-of
-supports-of-is P k m f o = refl
-
--- what holds of a cut branch, of a leaf, of a branch that may name no more, and of a branch from its two, holds of every branch
-module _ (P : List Row) (Q : ℕ → ℕ → ℕ → List ℕ → List ℕ → Type 0)
-    (cut : (k s x : ℕ) (A : List ℕ) → T (not (apart s x)) → Q k s x A A)
-    (leaf : (k s x : ℕ) (A : List ℕ) → T (apart s x) → first-open P s ≡ length P → Q k s x A (inserted A s))
-    (last : (s x : ℕ) (A : List ℕ) → first-open P s < length P → Q 0 s x A A)
-    (split : (k s x : ℕ) (A B C : List ℕ) → T (apart s x) → first-open P s < length P
-    → Q k (bitOr s (completion P (2 ^ operand-a P (first-open P s)))) x A B
-    → Q k (bitOr s (completion P (2 ^ operand-b P (first-open P s)))) (bitOr x (2 ^ operand-a P (first-open P s))) B C → Q (suc k) s x A C)
-  where
-    open-lt : (s : ℕ) → eqb (first-open P s) (length P) ≡ false → first-open P s < length P
-    open-lt s e = go (eq-or-lt-of-le (open-le P s))
-      where
-        go : (first-open P s ≡ length P) ⊎ (first-open P s < length P) → first-open P s < length P
-        go (inl d) = absurd (subst T e (eq-eqb (first-open P s) (length P) d))
-        go (inr h) = h
-
-    pub collected-ind : (k s x : ℕ) (A : List ℕ) → Q k s x A (collected P k s x A)
-    unfolding collected
-    collected-ind zero s x A = go (apart s x) refl (eqb (first-open P s) (length P)) refl
-      where
-        go : (b : Bool) → apart s x ≡ b → (c : Bool) → eqb (first-open P s) (length P) ≡ c → Q 0 s x A (cond b (cond c (inserted A s) A) A)
-        go true e true d = leaf 0 s x A (subst T (sym e) tt) (eqb→eq (first-open P s) (length P) (subst T (sym d) tt))
-        go true e false d = last s x A (open-lt s d)
-        go false e c d = cut 0 s x A (subst (λ (b : Bool). T (not b)) (sym e) tt)
-    collected-ind (suc k) s x A =
-        go (apart s x) refl (eqb (first-open P s) (length P)) refl (collected-ind k (bitOr s (completion P (2 ^ operand-a P (first-open P s)))) x A)
-        (collected-ind k (bitOr s (completion P (2 ^ operand-b P (first-open P s)))) (bitOr x (2 ^ operand-a P (first-open P s))) (collected P k (bitOr s (completion P (2 ^ operand-a P (first-open P s)))) x A))
-      where
-        first : List ℕ
-        first = collected P k (bitOr s (completion P (2 ^ operand-a P (first-open P s)))) x A
-
-        second : List ℕ
-        second = collected P k (bitOr s (completion P (2 ^ operand-b P (first-open P s)))) (bitOr x (2 ^ operand-a P (first-open P s))) first
-
-        go : (b : Bool) → apart s x ≡ b → (c : Bool) → eqb (first-open P s) (length P) ≡ c → Q k (bitOr s (completion P (2 ^ operand-a P (first-open P s)))) x A first
-            → Q k (bitOr s (completion P (2 ^ operand-b P (first-open P s)))) (bitOr x (2 ^ operand-a P (first-open P s))) first second → Q (suc k) s x A (cond b (cond c (inserted A s) second) A)
-        go true e true d p q = leaf (suc k) s x A (subst T (sym e) tt) (eqb→eq (first-open P s) (length P) (subst T (sym d) tt))
-        go true e false d p q = split k s x A first second (subst T (sym e) tt) (open-lt s d) p q
-        go false e c d p q = cut (suc k) s x A (subst (λ (b : Bool). T (not b)) (sym e) tt)
-
--- ---- the list of sets
-
--- a set is left out where a listed one is within it; otherwise it is added, and what it is within is dropped
-pub inserted-past : (A : List ℕ) (s : ℕ) → any (λ u. within u s) A ≡ true → inserted A s ≡ A
-unfolding inserted
-inserted-past A s e = rw e
-
-pub inserted-last : (A : List ℕ) (s : ℕ) → any (λ u. within u s) A ≡ false → inserted A s ≡ keep (λ u. not (within s u)) A ++ s ∷ []
-unfolding inserted
-inserted-last A s e = rw e
-
--- no set is within another
-abbrev Incomparable : List ℕ → Type 0
-Incomparable A = (u v : ℕ) → List·Memᴰ u A → List·Memᴰ v A → T (within u v) → u ≡ v
-
-inserted-incomparable : (A : List ℕ) (s : ℕ) → Incomparable A → Incomparable (inserted A s)
-unfolding inserted
-inserted-incomparable A s i = go (any (λ u. within u s) A) refl
-  where
-    kept : List ℕ
-    kept = keep (λ u. not (within s u)) A
-
-    both-kept : any (λ u. within u s) A ≡ false → (u v : ℕ) → List·Memᴰ u kept ⊎ List·Memᴰ u (s ∷ []) → List·Memᴰ v kept ⊎ List·Memᴰ v (s ∷ []) → T (within u v) → u ≡ v
-    both-kept e u v (inl a) (inl b) t = i u v (keep-e (λ u. not (within s u)) A u a .0) (keep-e (λ u. not (within s u)) A v b .0) t
-    both-kept e u v (inl a) (inr b) t =
-        absurd (subst T e (any-i (λ u. within u s) A u (keep-e (λ u. not (within s u)) A u a .0) (subst (λ (k : ℕ). T (within u k)) (List·Memᴰ·eq-of-singleton b) t)))
-    both-kept e u v (inr a) (inl b) t =
-        absurd (T-not (within s v) (keep-e (λ u. not (within s u)) A v b .1) (subst (λ (k : ℕ). T (within k v)) (List·Memᴰ·eq-of-singleton a) t))
-    both-kept e u v (inr a) (inr b) t = List·Memᴰ·eq-of-singleton a ∙ sym (List·Memᴰ·eq-of-singleton b)
-
-    go : (b : Bool) → any (λ u. within u s) A ≡ b → Incomparable (cond b A (kept ++ s ∷ []))
-    go true e = i
-    go false e = λ u v a b t. both-kept e u v (List·Memᴰ·append-cases kept a) (List·Memᴰ·append-cases kept b) t
-
-keep-length : (p : ℕ → Bool) (A : List ℕ) → length (keep p A) ≤ length A
-keep-length p [] = omega arith
-keep-length p (u ∷ A) = go (p u) (keep-length p A)
-  where
-    go : (b : Bool) → length (keep p A) ≤ length A → length (put b u (keep p A)) ≤ suc (length A)
-    go true h = omega arith
-    go false h = omega arith
-
-inserted-length : (A : List ℕ) (s : ℕ) → length (inserted A s) ≤ length A + 1
-unfolding inserted
-inserted-length A s = go (any (λ u. within u s) A)
-  where
-    go : (b : Bool) → length (cond b A (keep (λ u. not (within s u)) A ++ s ∷ [])) ≤ length A + 1
-    go true = omega arith
-    go false = omega (arith, length-append (keep (λ u. not (within s u)) A) (s ∷ []), keep-length (λ u. not (within s u)) A)
-
--- the list grows by at most 2 ^ k, and stays without a set within another
-pub collected-length : (P : List Row) (k s x : ℕ) (A : List ℕ) → length (collected P k s x A) ≤ length A + 2 ^ k
-collected-length P = collected-ind P (λ k s x A B. length B ≤ length A + 2 ^ k)
-    (λ k s x A t. omega (arith, pow-pos k))
-    (λ k s x A t e. omega (arith, pow-pos k, inserted-length A s))
-    (λ s x A l. omega arith)
-    (λ k s x A B C t l a b. omega (arith, pow-suc 2 k))
-
-collected-incomparable : (P : List Row) (k s x : ℕ) (A : List ℕ) → Incomparable A → Incomparable (collected P k s x A)
-collected-incomparable P = collected-ind P (λ k s x A B. Incomparable A → Incomparable B)
-    (λ k s x A t i. i) (λ k s x A t e i. inserted-incomparable A s i) (λ s x A l i. i) (λ k s x A B C t l a b i. b (a i))
-
--- ---- rows, case by case
-
-one-less : (a b : Bool) → (T a → T b) → one a ≤ one b
-one-less true b f = omega (arith, one-true b (f tt))
-one-less false b f = omega arith
-
-tally-falls : (p q : ℕ → Bool) (n i : ℕ) → i < n → T (q i) → T (not (p i)) → ((j : ℕ) → j < n → T (p j) → T (q j)) → tally p n < tally q n
-tally-falls p q zero i h a b f = absurd (omega arith)
-tally-falls p q (suc n) i h a b f = go (eq-or-lt-of-le h) (λ l. tally-falls p q n i l a b (λ j k. f j (omega arith)))
-  where
-    go : (suc i ≡ suc n) ⊎ (suc i < suc n) → (i < n → tally p n < tally q n) → tally p (suc n) < tally q (suc n)
-    go (inl e) g =
-        let d : i ≡ n = omega (arith, e) in
-        omega (arith, one-true (q n) (subst (λ (j : ℕ). T (q j)) d a), one-false (p n) (subst (λ (j : ℕ). T (not (p j))) d b), tally-mono p q n (λ j l. one-less (p j) (q j) (f j (omega arith))))
-    go (inr l) g = omega (arith, one-less (p n) (q n) (f n (omega arith)), g (omega arith))
-
--- an unsettled row is an "or", with neither operand in the set
-unsettled-e : (x : Row) (s : ℕ) → T (unsettled x s) → (a b : ℕ) × (x ≡ either a b) × T (not (member s a)) × T (not (member s b))
-unsettled-e always s t = absurd t
-unsettled-e never s t = absurd t
-unsettled-e returns s t = absurd t
-unsettled-e not-returns s t = absurd t
-unsettled-e (in-method a) s t = absurd t
-unsettled-e (not-in-method a) s t = absurd t
-unsettled-e (both a b) s t = absurd t
-unsettled-e (either a b) s t = (a, b, refl, and-l (not (member s a)) (not (member s b)) t, and-r (not (member s a)) (not (member s b)) t)
-unsettled-e (box l b) s t = absurd t
-
--- a larger set settles no less
-unsettled-less : (x : Row) (s u : ℕ) → ((r : ℕ) → T (member s r) → T (member u r)) → T (unsettled x u) → T (unsettled x s)
-unsettled-less always s u f t = absurd t
-unsettled-less never s u f t = absurd t
-unsettled-less returns s u f t = absurd t
-unsettled-less not-returns s u f t = absurd t
-unsettled-less (in-method a) s u f t = absurd t
-unsettled-less (not-in-method a) s u f t = absurd t
-unsettled-less (both a b) s u f t = absurd t
-unsettled-less (either a b) s u f t =
-    and-i (not (member s a)) (not (member s b)) (not-T (member s a) (λ k. T-not (member u a) (and-l (not (member u a)) (not (member u b)) t) (f a k)))
-    (not-T (member s b) (λ k. T-not (member u b) (and-r (not (member u a)) (not (member u b)) t) (f b k)))
-unsettled-less (box l b) s u f t = absurd t
-
--- an or-row may be unsettled, another may not
-unsettled-either : (x : Row) (s : ℕ) → one (unsettled x s) ≤ one (is-either x)
-unsettled-either always s = omega arith
-unsettled-either never s = omega arith
-unsettled-either returns s = omega arith
-unsettled-either not-returns s = omega arith
-unsettled-either (in-method a) s = omega arith
-unsettled-either (not-in-method a) s = omega arith
-unsettled-either (both a b) s = omega arith
-unsettled-either (either a b) s = one-le (unsettled (either a b) s)
-unsettled-either (box l b) s = omega arith
-
--- what an "and" asks for is in a set that fulfils it
-joined : (x : Row) (m : ℕ) (f : Bool) (v : ℕ → Bool) (r : ℕ) → T (fulfilled x m f v) → T (joins x r) → T (v r)
-joined always m f v r t j = absurd j
-joined never m f v r t j = absurd j
-joined returns m f v r t j = absurd j
-joined not-returns m f v r t j = absurd j
-joined (in-method a) m f v r t j = absurd j
-joined (not-in-method a) m f v r t j = absurd j
-joined (both a b) m f v r t j = go (or-e (eqb a r) (eqb b r) j)
-  where
-    go : T (eqb a r) ⊎ T (eqb b r) → T (v r)
-    go (inl e) = subst (λ (i : ℕ). T (v i)) (eqb→eq a r e) (and-l (v a) (v b) t)
-    go (inr e) = subst (λ (i : ℕ). T (v i)) (eqb→eq b r e) (and-r (v a) (v b) t)
-joined (either a b) m f v r t j = absurd j
-joined (box l b) m f v r t j = absurd j
-
--- what some set fulfils is not untrue for its own sake
-fulfilled-true : (x : Row) (m : ℕ) (f : Bool) (v : ℕ → Bool) → T (fulfilled x m f v) → T (fulfilled x m f (λ r. true))
-fulfilled-true always m f v t = t
-fulfilled-true never m f v t = t
-fulfilled-true returns m f v t = t
-fulfilled-true not-returns m f v t = t
-fulfilled-true (in-method a) m f v t = t
-fulfilled-true (not-in-method a) m f v t = t
-fulfilled-true (both a b) m f v t = tt
-fulfilled-true (either a b) m f v t = tt
-fulfilled-true (box l b) m f v t = tt
-
--- a row that is not untrue is fulfilled by a set that has what it asks for as an "and" and settles it as an "or"
-fulfils : (n : ℕ) (x : Row) (m : ℕ) (f : Bool) (s : ℕ) → T (names n x) → T (fulfilled x m f (λ r. true)) → T (not (unsettled x s)) → ((r : ℕ) → r < n → T (joins x r) → T (member s r))
-    → T (fulfilled x m f (member s))
-fulfils n always m f s i t u j = t
-fulfils n never m f s i t u j = t
-fulfils n returns m f s i t u j = t
-fulfils n not-returns m f s i t u j = t
-fulfils n (in-method a) m f s i t u j = t
-fulfils n (not-in-method a) m f s i t u j = t
-fulfils n (both a b) m f s i t u j =
-    let h = and-e (ltb a n) (ltb b n) i in
-    and-i (member s a) (member s b) (j a (ltb→lt a n (h .0)) (or-l (eqb a a) (eqb b a) (eq-eqb a a refl))) (j b (ltb→lt b n (h .1)) (or-r (eqb a b) (eqb b b) (eq-eqb b b refl)))
-fulfils n (either a b) m f s i t u j = go (not-and (not (member s a)) (not (member s b)) u)
-  where
-    go : T (not (not (member s a))) ⊎ T (not (not (member s b))) → T (member s a || member s b)
-    go (inl k) = or-l (member s a) (member s b) (not-not (member s a) k)
-    go (inr k) = or-r (member s a) (member s b) (not-not (member s b) k)
-fulfils n (box l b) m f s i t u j = t
-
--- ---- the open row
-
-module _ (P : List Row) (wf : Property P) where
-  -- the operands of an open row
-  pub open-row : (s : ℕ) → first-open P s < length P → T (member s (first-open P s)) × (row P (first-open P s) ≡ either (operand-a P (first-open P s)) (operand-b P (first-open P s)))
-      × T (not (member s (operand-a P (first-open P s)))) × T (not (member s (operand-b P (first-open P s)))) × (operand-a P (first-open P s) < length P) × (operand-b P (first-open P s) < length P)
-  unfolding first-open
-  open-row s h =
-      let t = least-hit (open-at P s) (length P) h in
-      let r = first-open P s in
-      let u = unsettled-e (row P r) s (and-r (member s r) (unsettled (row P r) s) t) in
-      let ea : operand-a P r ≡ u .0 = ap (λ (y : Row). (row-rec y) .second) (u .2) in
-      let eb : operand-b P r ≡ u .1 = ap (λ (y : Row). (row-rec y) .third) (u .2) in
-      let w = subst (λ (y : Row). T (names (length P) y)) (u .2) (wf .names-rows r h) in (
-        and-l (member s r) (unsettled (row P r) s) t,
-        u .2 ∙ sym (ap (λ (i : ℕ). either i (operand-b P r)) ea ∙ ap (either (u .0)) eb),
-        subst (λ (i : ℕ). T (not (member s i))) (sym ea) (u .3),
-        subst (λ (i : ℕ). T (not (member s i))) (sym eb) (u .4),
-        omega (arith, ea, ltb→lt (u .0) (length P) (and-l (ltb (u .0) (length P)) (ltb (u .1) (length P)) w)),
-        omega (arith, eb, ltb→lt (u .1) (length P) (and-r (ltb (u .0) (length P)) (ltb (u .1) (length P)) w)),
-      )
+use Rattle.maximal.specs.Collected.Search.{open-at, collected-ind, collected-incomparable, collected-length, collected-once}
+use Rattle.maximal.specs.Collected.Rows.{tally-falls, unsettled-e, unsettled-less, unsettled-either, joined, fulfilled-true, fulfils, open-row}
 
 -- ---- leaves are supports, and minimal supports are reached and kept
 
@@ -585,6 +313,11 @@ module _ (P : List Row) (wf : Property P) (m : ℕ) (f : Bool) (o : ℕ) (in-row
     -- The list has exactly the minimal supports, as numbers.
     pub supports-are : (q : ℕ) → List·Memᴰ q (supports-of P k m f o) ↔ ((q < 2 ^ n) × Minimal P m f (member o) (rows n q))
     supports-are q = (sound q, found q)
+
+  -- each once
+  pub supports-once : (k : ℕ) → Once (supports-of P k m f o)
+  unfolding supports-of
+  supports-once k = collected-once P k (completion P o) (untrue P m f) [] tt
 
   pub supports-few : (k : ℕ) → length (supports-of P k m f o) ≤ 2 ^ k
   unfolding supports-of

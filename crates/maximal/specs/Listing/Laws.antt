@@ -2,25 +2,27 @@
 use mathlib.Core.Path.{_≡_, refl, sym, ap, ap₂, subst, _∙_}
 use mathlib.Core.Logic.{_⊎_, inl, inr}
 use mathlib.Core.Bool.{Bool, true, false, cond}
-use mathlib.Core.List.{List, [], _∷_, _++_, map, append-assoc, append-nil}
-use Prim.Native.Nat.{ℕ, zero, suc, _+_, _*_, _/_, _%_, _≤_, _<_}
+use mathlib.Core.List.{List, [], _∷_, _++_, map, append-nil}
+use Prim.Native.Nat.{ℕ, zero, suc, _+_, _*_, _/_, _≤_, _<_}
+use native.Mathlib.Decide.{ℕ-discrete}
 use native.Mathlib.Nat.{add-zero}
 use native.Mathlib.Omega.{arith}
-use lib.Dec.{T, eqb, ltb, ltb→lt, lt→ltb}
+use lib.Dec.{T, ltb, ltb→lt, lt→ltb}
 use lib.ListN.{length, getD, length-append, length-map}
 use Rattle.files.specs.Basics.Lists.{put, keep, each, each-append, span, length-each}
-use Rattle.files.specs.Basics.Tables.{table, tally, length-span}
-use Rattle.files.specs.Basics.Tests.{one, decide, T-eq}
+use Rattle.files.specs.Basics.Tables.{tally, tally-le, length-span}
+use Rattle.files.specs.Basics.Tests.{one, T-eq}
 use Rattle.files.specs.Decode.{graph-bytes, node-rec, edge-rec}
 use Rattle.files.specs.Decode.Written.{graph-bytes-is}
-use Rattle.files.specs.Graph.{Graph, Edge, Node, size}
+use Rattle.files.specs.Graph.{Edge, Node, size}
 use Rattle.files.specs.Interface.{Interface}
 use Rattle.files.specs.Property.{Row, Property}
 use Rattle.files.specs.Record.{six, write}
-use Rattle.maximal.specs.Charting.{kind-at, target, order-at, stored, flag-of, Arranged, in-order}
+use Rattle.maximal.specs.Charting.{kind-at, order-at, Arranged, in-order}
 use Rattle.maximal.specs.Charting.Order.{states-in-order, states-many, state-in-order}
+use Rattle.maximal.specs.Charting.States.{one-flag}
 use Rattle.maximal.specs.Listing.{leads, tally-under, tally-from, tally-upto, node-bytes, under-bytes, from-bytes}
-use Rattle.maximal.specs.Model.{State, no-state, is-entry, is-next, states, model}
+use Rattle.maximal.specs.Model.{State, no-state, is-next, states, model}
 use Rattle.maximal.specs.Model.Computed.{model-size}
 use Rattle.maximal.specs.Model.Listed.{made-node, made-edge, model-nodes, model-edges}
 
@@ -73,6 +75,17 @@ keep-tally p (suc n) = ap length (keep-more p n) ∙ length-append (keep p (span
 
 -- ---- in the buffer
 
+-- the bytes of the first n nodes
+module _ (w : List ℕ) where
+  abbrev pub nodes-bytes : ℕ → List ℕ
+  nodes-bytes n = each (node-bytes w) (span 0 n)
+
+  pub nodes-more : (n : ℕ) → nodes-bytes (suc n) ≡ nodes-bytes n ++ node-bytes w n
+  nodes-more n = each-more (node-bytes w) n
+
+  pub nodes-length : (n : ℕ) → length (nodes-bytes n) ≡ 6 * n
+  nodes-length n = omega (arith, length-each 6 (node-bytes w) (λ i. refl) (span 0 n), length-span 0 n)
+
 module _ (w : List ℕ) (c : ℕ) where
   pub from-more : (i n : ℕ) → from-bytes w c i (suc n) ≡ from-bytes w c i n ++ under-bytes w c i n
   from-more i n = each-more (under-bytes w c i) n
@@ -84,6 +97,11 @@ module _ (w : List ℕ) (c : ℕ) where
   pub tally-from-none : (i : ℕ) → tally-from w c i 0 ≡ 0
   unfolding tally-from
   tally-from-none i = refl
+
+  -- at most 256 states follow under a label
+  pub tally-from-le : (i n : ℕ) → c ≤ 256 → tally-from w c i n ≤ 256 * n
+  tally-from-le i zero h = omega (arith, tally-from-none i)
+  tally-from-le i (suc n) h = omega (arith, tally-from-more i n, tally-le (leads w i n) c, tally-from-le i n h)
 
   -- the bytes of all edges of the first n states, and how many these are
   abbrev pub edges-bytes : ℕ → List ℕ
@@ -129,6 +147,14 @@ module _ (w : List ℕ) (c : ℕ) where
   unfolding tally-upto
   upto-over limit n h = ap (λ (b : Bool). cond b (tally-upto w c limit n) (tally-upto w c limit n + tally-from w c n 9)) (T-eq (ltb limit (tally-upto w c limit n)) (lt→ltb limit (tally-upto w c limit n) h))
 
+  pub upto-stays : (limit n m : ℕ) → n ≤ m → limit < tally-upto w c limit n → tally-upto w c limit m ≡ tally-upto w c limit n
+  upto-stays limit n zero h l = let e : 0 ≡ n = omega arith in ap (tally-upto w c limit) e
+  upto-stays limit n (suc m) h l = go (λ k. upto-stays limit n m k l) (ℕ-discrete (suc m) n)
+    where
+      go : (n ≤ m → tally-upto w c limit m ≡ tally-upto w c limit n) → Dec (suc m ≡ n) → tally-upto w c limit (suc m) ≡ tally-upto w c limit n
+      go f (yes e) = ap (tally-upto w c limit) e
+      go f (no d) = let e = f (omega arith) in upto-over limit m (omega (arith, l, e)) ∙ e
+
   pub upto-more : (limit n : ℕ) → ltb limit (tally-upto w c limit n) ≡ false → tally-upto w c limit (suc n) ≡ tally-upto w c limit n + tally-from w c n 9
   unfolding tally-upto
   upto-more limit n e = ap (λ (b : Bool). cond b (tally-upto w c limit n) (tally-upto w c limit n + tally-from w c n 9)) e
@@ -153,7 +179,7 @@ module _ (I : Interface) (P : List Row) (wf : Property P) (c : ℕ) (w : List �
       ∙ each-maps (each (λ (i : ℕ). each (λ (l : ℕ). map (made-edge I P i l) (keep (leads w i l) (span 0 c))) (span 0 9)) (span 0 c))
       ∙ each-each (λ (e : Edge). six (edge-rec e)) (λ (i : ℕ). each (λ (l : ℕ). map (made-edge I P i l) (keep (leads w i l) (span 0 c))) (span 0 9)) (span 0 c)
       ∙ each-same _ _ 0 c (λ i a b. each-each (λ (e : Edge). six (edge-rec e)) (λ (l : ℕ). map (made-edge I P i l) (keep (leads w i l) (span 0 c))) (span 0 9)
-        ∙ each-same _ _ 0 9 (λ l d e. each-map (λ (e : Edge). six (edge-rec e)) (made-edge I P i l) (keep (leads w i l) (span 0 c))))
+      ∙ each-same _ _ 0 9 (λ l d e. each-map (λ (e : Edge). six (edge-rec e)) (made-edge I P i l) (keep (leads w i l) (span 0 c))))
     where
       each-maps : (es : List Edge) → each six (map edge-rec es) ≡ each (λ (e : Edge). six (edge-rec e)) es
       each-maps [] = refl
@@ -162,14 +188,6 @@ module _ (I : Interface) (P : List Row) (wf : Property P) (c : ℕ) (w : List �
   node-is : (i : ℕ) → i < c → six (node-rec (made-node I P (in-order I P w i))) ≡ node-bytes w i
   node-is i h =
       ap₂ (λ (f e : ℕ). 1 ∷ kind-at w (order-at w i) / 2 ∷ f ∷ e ∷ 0 ∷ 0 ∷ []) (one-flag (kind-at w (order-at w i))) (ap one (sym (x .charted .entries-are (order-at w i) (x .ordered .below i h))))
-    where
-      one-flag : (k : ℕ) → one (flag-of k) ≡ k % 2
-      one-flag k = go (k % 2) (omega arith)
-        where
-          go : (d : ℕ) → d < 2 → one (eqb d 1) ≡ d
-          go zero h = refl
-          go (suc zero) h = refl
-          go (suc (suc d)) h = absurd (omega arith)
 
   pub node-bytes-are : write (map node-rec ((model I P) .nodes)) ≡ each (node-bytes w) (span 0 c)
   node-bytes-are =
@@ -198,4 +216,4 @@ module _ (I : Interface) (P : List Row) (wf : Property P) (c : ℕ) (w : List �
   pub model-length : length (graph-bytes (model I P)) ≡ 6 * (c + length ((model I P) .edges))
   model-length =
       ap length model-bytes ∙ length-append (each (node-bytes w) (span 0 c)) (edges-bytes w c c)
-      ∙ omega (arith, length-each 6 (node-bytes w) (λ i. refl) (span 0 c), length-span 0 c, edges-length w c c, model-edges-many)
+      ∙ omega (arith, nodes-length w c, edges-length w c c, model-edges-many)

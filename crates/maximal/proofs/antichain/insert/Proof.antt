@@ -4,7 +4,7 @@ use Prim.Native.Nat.{ℕ, _≤_, _<_}
 use native.Mathlib.Omega.{arith}
 use lib.ListN.{length}
 use Rattle.maximal.specs.Collected.{listed}
-use Rattle.maximal.specs.Collected.Laws.{inserted-past, inserted-last}
+use Rattle.maximal.specs.Collected.Search.{inserted-past, inserted-last}
 use Rattle.maximal.proofs.AntichainLaws.{listed-put, put-outside}
 use borrow.Author.Needs.{needs}
 use Rattle.maximal.proofs.antichain.insert.Statement.{statement}

@@ -9,7 +9,7 @@ use Rattle.files.specs.Decode.{decode-property}
 use Rattle.judging.proofs.LevelLaws.{row-read}
 use Rattle.maximal.specs.Masks.{apart}
 use Rattle.maximal.specs.Collected.{listed, collected}
-use Rattle.maximal.specs.Collected.Laws.{collected-cut, collected-leaf, collected-last}
+use Rattle.maximal.specs.Collected.Search.{collected-cut, collected-leaf, collected-last}
 use Rattle.maximal.proofs.RowLaws.{rows-are}
 use Rattle.maximal.proofs.SupportLaws.{tables-kept, at-leaf, at-split, open-below, a-row, b-row, both-collected, twice-below}
 use borrow.Author.Needs.{needs}

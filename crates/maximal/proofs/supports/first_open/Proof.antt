@@ -6,7 +6,7 @@ use native.Mathlib.Omega.{arith}
 use lib.Dec.{T}
 use Rattle.files.specs.Decode.{decode-property}
 use Rattle.judging.proofs.CauseLaws.{none-on}
-use Rattle.maximal.specs.Collected.Laws.{open-at}
+use Rattle.maximal.specs.Collected.Search.{open-at}
 use Rattle.maximal.proofs.SupportLaws.{open-test, lowest-open, none-open}
 use Rattle.maximal.proofs.supports.first_open.Statement.{statement}
 use Rattle.maximal.proofs.supports.first_open.Tie as tie

@@ -5,7 +5,7 @@ use native.Mathlib.Omega.{arith}
 use lib.Pow.{pow-mono}
 use Rattle.files.specs.Decode.{decode-property}
 use Rattle.maximal.specs.Collected.{collected}
-use Rattle.maximal.specs.Collected.Laws.{supports-of-is}
+use Rattle.maximal.specs.Collected.Search.{supports-of-is}
 use borrow.Author.Needs.{needs}
 use Rattle.maximal.proofs.supports.supports.Statement.{statement}
 use Rattle.maximal.proofs.supports.supports.Tie as tie

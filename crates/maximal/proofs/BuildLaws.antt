@@ -1,0 +1,120 @@
+-- For the call: what an accepted property allows the search, when a model is too large, and the outcome of one that is counted and written.
+use mathlib.Core.Path.{_≡_, sym, ap, subst, _∙_}
+use mathlib.Core.Logic.{_⊎_, inl, inr}
+use mathlib.Core.List.{List, [], _∷_, _++_}
+use Prim.Native.Nat.{ℕ, zero, suc, _+_, _*_, _≤_, _<_}
+use native.Mathlib.Omega.{arith}
+use lib.ListN.{length, drop}
+use Rattle.files.specs.Access.{InterfaceFile, PropertyFile}
+use Rattle.files.specs.Checking.{checked}
+use Rattle.files.specs.Checking.Laws.{accepted-counts}
+use Rattle.files.specs.Decode.{decode-interface, decode-property, graph-bytes}
+use Rattle.files.specs.Decode.Properties.{decoded-rows, decoded-property}
+use Rattle.files.specs.Graph.{Graph, size}
+use Rattle.files.specs.Interface.{Interface}
+use Rattle.files.specs.Limits.{desk}
+use Rattle.files.specs.Outcome.{Answers, TooLarge, refusal-at, refused-answer, verdict-answer}
+use Rattle.files.specs.Property.{Row, Property}
+use Rattle.files.specs.Refusal.{property, interface}
+use Rattle.files.specs.declared.check.Checked.{Checked}
+use Rattle.files.specs.declared.check.Checked.the-variants.{Accepted}
+use Rattle.files.specs.declared.record.Limits.{Limits}
+use Rattle.files.specs.declared.refusal.Refusal.{Refusal}
+use Rattle.maximal.specs.declared.places.Scope.{Scope}
+use Rattle.maximal.specs.Charting.{Scoped, Crowded, Arranged}
+use Rattle.maximal.specs.Charting.States.{crowded-e}
+use Rattle.maximal.specs.Collected.Search.{or-count-is}
+use Rattle.maximal.specs.Listing.{tally-upto}
+use Rattle.maximal.specs.Listing.Laws.{total, tally-from-le, upto-is, model-nodes-many, model-edges-many, model-length}
+use Rattle.maximal.specs.Model.{model}
+use Rattle.maximal.specs.Model.Computed.{model-size}
+use Rattle.maximal.specs.Modelling.{from-size, Bounded}
+use Rattle.maximal.specs.Modelling.Steps.{answers-large, answers-short, answers-written}
+
+-- ---- accepted files
+
+-- the rows of an accepted property, and as many or-rows and states as the limits allow
+pub scope-of : (L : Limits) (p : List ℕ) → Bounded L → (x : Checked) (a n : ℕ) → x ≡ checked L property p 2 → x ≡ Accepted a n → Scoped (record { rows = n; ors = L .ors; states = L .nodes }) p
+scope-of L p b x a n e d =
+    let c = accepted-counts L property p 2 a n (sym e ∙ d) in
+    let f = decoded-property L p (c .0) in
+    record {
+      file = record { limits = L; accepted = c .0 };
+      rows-are = c .2;
+      few-rows = omega (arith, c .2, decoded-rows L p (c .0), f .few-rows, b .rows-fit);
+      enough-ors = omega (arith, or-count-is (decode-property p), f .few-ors);
+      few-ors = b .ors-fit;
+      few-states = b .nodes-fit;
+    }
+
+pub interface-file : (L : Limits) (i : List ℕ) (x : Checked) (a n : ℕ) → x ≡ checked L interface i 1 → x ≡ Accepted a n → InterfaceFile i
+interface-file L i x a n e d = record { limits = L; accepted = (accepted-counts L interface i 1 a n (sym e ∙ d)) .0 }
+
+pub named-rows : (p : List ℕ) → PropertyFile p → Property (decode-property p)
+named-rows p f = (decoded-property (f .limits) p (f .accepted)) .rows-named
+
+-- ---- the model
+
+total-few : (w : List ℕ) (c n : ℕ) → c ≤ 256 → total w c n ≤ 2304 * n
+total-few w c zero h = omega arith
+total-few w c (suc n) h = omega (arith, total-few w c n h, tally-from-le w c n 9 h)
+
+-- what is counted fits a length
+pub edges-few : (w : List ℕ) (c limit n : ℕ) → c ≤ 256 → n ≡ tally-upto w c limit c → n ≤ 2304 * c
+edges-few w c limit n h e = go (upto-is w c limit c)
+  where
+    go : (tally-upto w c limit c ≡ total w c c) ⊎ ((limit < tally-upto w c limit c) × (tally-upto w c limit c ≤ total w c c)) → n ≤ 2304 * c
+    go (inl d) = omega (arith, e, d, total-few w c c h)
+    go (inr d) = omega (arith, e, d .1, total-few w c c h)
+
+module _ (L : Limits) (i p : List ℕ) (f : PropertyFile p) (s : Scope) (states-are : s .states ≡ L .nodes) (out : List ℕ) where
+  abbrev I : Interface
+  I = decode-interface i
+
+  abbrev P : List Row
+  P = decode-property p
+
+  abbrev G : Graph
+  G = model I P
+
+  wf : Property P
+  wf = named-rows p f
+
+  -- too many states
+  pub answers-crowded : (r : Refusal) → Crowded I P (s .states) → r ≡ refusal-at 11 0 0 → Answers (from-size L i p (length out)) out out (refused-answer r)
+  answers-crowded r h e = answers-large L i p out r (inl (omega (arith, crowded-e I P (s .states) h, model-size I P wf, states-are))) e
+
+  module _ (c : ℕ) (within : c ≤ s .states) (w : List ℕ) (x : Arranged I P c w) (n : ℕ) (counted : n ≡ tally-upto w c (L .edges) c) where
+    -- too many edges
+    pub answers-edges : (r : Refusal) → L .edges < n → r ≡ refusal-at 11 0 0 → Answers (from-size L i p (length out)) out out (refused-answer r)
+    answers-edges r h e = answers-large L i p out r (inr (go (upto-is w c (L .edges) c))) e
+      where
+        go : (tally-upto w c (L .edges) c ≡ total w c c) ⊎ ((L .edges < tally-upto w c (L .edges) c) × (tally-upto w c (L .edges) c ≤ total w c c)) → L .edges < length (G .edges)
+        go (inl d) = omega (arith, counted, d, h, model-edges-many I P wf c w x)
+        go (inr d) = omega (arith, d .0, d .1, model-edges-many I P wf c w x)
+
+    module _ (few : n ≤ L .edges) where
+      pub edges-counted : n ≡ length (G .edges)
+      edges-counted = go (upto-is w c (L .edges) c)
+        where
+          go : (tally-upto w c (L .edges) c ≡ total w c c) ⊎ ((L .edges < tally-upto w c (L .edges) c) × (tally-upto w c (L .edges) c ≤ total w c c)) → n ≡ length (G .edges)
+          go (inl d) = counted ∙ d ∙ sym (model-edges-many I P wf c w x)
+          go (inr d) = absurd (omega (arith, counted, few, d .0))
+
+      small : TooLarge L G → ⊥
+      small (inl h) = omega (arith, h, model-nodes-many I P wf c w x, within, states-are)
+      small (inr h) = omega (arith, h, edges-counted, few)
+
+      long : length (graph-bytes G) ≡ 6 * (c + n)
+      long = model-length I P wf c w x ∙ ap (λ (m : ℕ). 6 * (c + m)) (sym edges-counted)
+
+      pub answers-full : (r : Refusal) → length out < 6 * (c + n) → r ≡ refusal-at 12 0 0 → Answers (from-size L i p (length out)) out out (refused-answer r)
+      answers-full r h e = answers-short L i p out small r (omega (arith, long, h)) e
+
+      pub answers-model : (out′ : List ℕ) → 6 * (c + n) ≤ length out → out′ ≡ graph-bytes G ++ drop (length (graph-bytes G)) out → Answers (from-size L i p (length out)) out out′ (verdict-answer 1 (c ∷ n ∷ []))
+      answers-model out′ h e = answers-written L i p out small out′ c n (omega (arith, long, h)) e (sym (model-nodes-many I P wf c w x)) edges-counted
+
+-- ---- the limits of the desk
+
+pub desk-bounded : (L : Limits) → L ≡ desk → Bounded L
+desk-bounded L e = subst Bounded (sym e) (record { nodes-fit = omega arith; rows-fit = omega arith; ors-fit = omega arith })

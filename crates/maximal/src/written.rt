@@ -1,0 +1,153 @@
+// A model that is found, counted and written: its nodes in order, then its edges by state, label and state. `write_model` states that its bytes are those of the
+// definition's graph.
+ghost use mathlib.Core.Path.{_≡_};
+ghost use mathlib.Core.Bool.{Bool};
+ghost use mathlib.Core.List.{_++_};
+ghost use Prim.Native.Nat.{_+_, _*_, _≤_, _<_};
+ghost use lib.ListN.{length, drop};
+ghost use Rattle.files.specs.Access.{PropertyFile};
+ghost use Rattle.files.specs.Basics.Lists.{each, span};
+ghost use Rattle.files.specs.Cells.{put-at};
+ghost use Rattle.files.specs.Decode.{decode-interface, decode-property, graph-bytes};
+ghost use Rattle.maximal.specs.Charting.{Arranged};
+ghost use Rattle.maximal.specs.Model.{model};
+ghost use Rattle.maximal.specs.Listing.{leads, tally-under, tally-from, tally-upto, node-bytes, under-bytes, from-bytes};
+use crate::places::Places;
+use files::cells::get8;
+use files::cells::has_bit;
+use files::encode::put_six;
+
+// An edge with this label leads from the i-th to the j-th state.
+fn leads(work: &[u8], i: usize, label: usize, j: usize) -> bool
+    requires { ⌜ (i < 256) × ((label < 9) × ((j < 256) × (103456 ≤ length (now work)))) ⌝ }
+    ensures { λ t. ⌜ t ≡ leads (now (work .entry)) i label j ⌝ }
+{
+    let from = get8(work, Places::ORDER, i) as usize;
+    let to = get8(work, Places::ORDER, j) as usize;
+    has_bit(work, Places::TARGETS, 256 * (9 * from + label) + to)
+}
+
+// How many edges with this label leave the i-th state.
+fn count_under(work: &[u8], c: usize, i: usize, label: usize) -> usize
+    requires { ⌜ (i < c) × ((label < 9) × ((c ≤ 256) × (103456 ≤ length (now work)))) ⌝ }
+    ensures { λ t. ⌜ t ≡ tally-under (now (work .entry)) c i label ⌝ }
+{
+    let mut j = 0;
+    let mut n = 0;
+    while j < c {
+        if leads(work, i, label, j) {
+            n += 1;
+        }
+        j += 1;
+    }
+    n
+}
+
+// How many edges leave the i-th state.
+fn count_from(work: &[u8], c: usize, i: usize) -> usize
+    requires { ⌜ (i < c) × ((c ≤ 256) × (103456 ≤ length (now work))) ⌝ }
+    ensures { λ t. ⌜ t ≡ tally-from (now (work .entry)) c i 9 ⌝ }
+{
+    let mut label = 0;
+    let mut n = 0;
+    while label < 9 {
+        n += count_under(work, c, i, label);
+        label += 1;
+    }
+    n
+}
+
+// How many edges leave all c states; it stops once there are more than there may be.
+pub(crate) fn count_edges(work: &[u8], c: usize, limit: usize) -> usize
+    requires { ⌜ (c ≤ 256) × (103456 ≤ length (now work)) ⌝ }
+    ensures { λ t. ⌜ t ≡ tally-upto (now (work .entry)) c limit c ⌝ }
+{
+    let mut i = 0;
+    let mut n = 0;
+    while i < c {
+        if limit < n {
+            return n;
+        }
+        n += count_from(work, c, i);
+        i += 1;
+    }
+    n
+}
+
+// Writes the i-th state as a node.
+fn write_node(work: &[u8], out: &mut [u8], i: usize)
+    requires { ⌜ (i < 256) × ((103456 ≤ length (now work)) × (6 * i + 6 ≤ length (now out))) ⌝ }
+    ensures { λ _. ⌜ now (out .exit) ≡ put-at (now (out .entry)) (6 * i) (node-bytes (now (work .entry)) i) ⌝ }
+{
+    let state = get8(work, Places::ORDER, i) as usize;
+    let kind = get8(work, Places::KINDS, state);
+    let mut entry = 0;
+    if has_bit(work, Places::TARGETS, 256 * Places::ENTRIES + state) {
+        entry = 1;
+    }
+    put_six(out, i, 1, kind / 2, kind % 2, entry, 0, 0);
+}
+
+// Writes all c states.
+fn write_nodes(work: &[u8], out: &mut [u8], c: usize)
+    requires { ⌜ (c ≤ 256) × ((103456 ≤ length (now work)) × (6 * c ≤ length (now out))) ⌝ }
+    ensures { λ _. ⌜ now (out .exit) ≡ put-at (now (out .entry)) 0 (each (node-bytes (now (work .entry))) (span 0 c)) ⌝ }
+{
+    let mut i = 0;
+    while i < c {
+        write_node(work, out, i);
+        i += 1;
+    }
+}
+
+// Writes the edges with this label from the i-th state, from record `at` on. The record after them.
+fn write_under(work: &[u8], out: &mut [u8], c: usize, i: usize, label: usize, at: usize) -> usize
+    requires { ⌜ (i < c) × ((label < 9) × ((c ≤ 256) × ((103456 ≤ length (now work)) × (6 * (at + tally-under (now work) c i label) ≤ length (now out))))) ⌝ }
+    ensures { λ t. ⌜ (t ≡ at + tally-under (now (work .entry)) c i label) × (now (out .exit) ≡ put-at (now (out .entry)) (6 * at) (under-bytes (now (work .entry)) c i label)) ⌝ }
+{
+    let mut j = 0;
+    let mut end = at;
+    while j < c {
+        if leads(work, i, label, j) {
+            put_six(out, end, 2, i as u8, label as u8, j as u8, 0, 0);
+            end += 1;
+        }
+        j += 1;
+    }
+    end
+}
+
+// Writes the edges from the i-th state.
+fn write_from(work: &[u8], out: &mut [u8], c: usize, i: usize, at: usize) -> usize
+    requires { ⌜ (i < c) × ((c ≤ 256) × ((103456 ≤ length (now work)) × (6 * (at + tally-from (now work) c i 9) ≤ length (now out)))) ⌝ }
+    ensures { λ t. ⌜ (t ≡ at + tally-from (now (work .entry)) c i 9) × (now (out .exit) ≡ put-at (now (out .entry)) (6 * at) (from-bytes (now (work .entry)) c i 9)) ⌝ }
+{
+    let mut label = 0;
+    let mut end = at;
+    while label < 9 {
+        end = write_under(work, out, c, i, label, end);
+        label += 1;
+    }
+    end
+}
+
+// Writes the model, which has c states and so many edges.
+pub(crate) fn write_model(
+    interface: &[u8],
+    property: &[u8],
+    work: &[u8],
+    out: &mut [u8],
+    c: usize,
+    edges: usize,
+)
+    requires { ⌜ (PropertyFile (now property)) × ((103456 ≤ length (now work)) × ((Arranged (decode-interface (now interface)) (decode-property (now property)) c (now work)) × ((edges ≡ length ((model (decode-interface (now interface)) (decode-property (now property))) .edges)) × (6 * (c + edges) ≤ length (now out))))) ⌝ }
+    ensures { λ _. ⌜ now (out .exit) ≡ graph-bytes (model (decode-interface (now (interface .entry))) (decode-property (now (property .entry)))) ++ drop (length (graph-bytes (model (decode-interface (now (interface .entry))) (decode-property (now (property .entry)))))) (now (out .entry)) ⌝ }
+{
+    write_nodes(work, out, c);
+    let mut i = 0;
+    let mut end = c;
+    while i < c {
+        end = write_from(work, out, c, i, end);
+        i += 1;
+    }
+}
