@@ -19,9 +19,12 @@ use Rattle.maximal.specs.declared.places.Scope.{Scope}
 use Rattle.maximal.specs.Collected.{or-count, supports-of}
 use Rattle.maximal.specs.Masks.{rows, asked-of}
 use Rattle.maximal.specs.Model.{State, Entry, Next, Reached, is-entry, is-label, is-next, states}
+pub mod Files
 pub mod States
+pub mod Kept
 pub mod Order
 pub mod Laws
+pub mod Entries
 
 -- the property is accepted, its rows are counted, and what the search may use fits the buffer
 pub record Scoped (s : Scope) (p : List ℕ) : Type 0 where

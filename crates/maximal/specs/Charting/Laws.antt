@@ -16,7 +16,8 @@ use Rattle.files.specs.Cells.Laws.{bit-byte, cell-agree}
 use Rattle.files.specs.Interface.{Interface}
 use Rattle.files.specs.Property.{Row, Property}
 use Rattle.maximal.specs.Collected.{or-count, supports-of}
-use Rattle.maximal.specs.Charting.{flag-of, kind-at, set-at, state-of, stored, method-at, asked-at, target, Elsewhere, Known, Holds, Admitted, Followed, Charting, Asking, Charted}
+use Rattle.maximal.specs.Charting.{flag-of, kind-at, set-at, state-of, stored, method-at, asked-at, target, Elsewhere, Holds, Admitted, Followed, Charting, Asking, Charted}
+use Rattle.maximal.specs.Charting.Kept.{off, holds-same, stored-same, tested-same, there-same, followed-same}
 use Rattle.maximal.specs.Charting.States.{kind-of, state-of-is, state-same, entry-is, next-is, next-collected}
 use Rattle.maximal.specs.Masks.{member, rows, asked-of}
 use Rattle.maximal.specs.Masks.Laws.{value-lt}
@@ -31,30 +32,25 @@ module _ (I : Interface) (P : List Row) where
 
   -- ---- the same states
 
-  stored-as : (w w′ : List ℕ) (i : ℕ) → kind-at w′ i ≡ kind-at w i → set-at w′ i ≡ set-at w i → stored n w′ i ≡ stored n w i
-  stored-as w w′ i a b = ap₂ (λ (k u : ℕ). state-of n k u) a b
-
   stored-once : (c : ℕ) (w : List ℕ) → Holds I P c w → (i j : ℕ) → i < c → j < c → stored n w i ≡ stored n w j → i ≡ j
   stored-once c w h i j a b e =
       let s = state-same n (kind-at w i) (kind-at w j) (set-at w i) (set-at w j) (h .known i a .of-rows) (h .known j b .of-rows) e in
       h .once i j a b (s .0) (s .1)
 
-  off : (b : Bool) → (T b → ⊥) → b ≡ false
-  off true f = absurd (f tt)
-  off false f = refl
-
   -- ---- entering one list after another
 
-  pub admitted-none : (c kind q : ℕ) (w : List ℕ) → Holds I P c w → Admitted I P c c kind [] q w w
-  admitted-none c kind q w h = record {
+  -- nothing is marked where the rows of bits stay
+  pub admitted-unmarked : (c c′ kind q : ℕ) (w w′ : List ℕ) → Holds I P c′ w′ → c ≤ c′ → ((i : ℕ) → i < c → kind-at w′ i ≡ kind-at w i) → ((i : ℕ) → i < c → set-at w′ i ≡ set-at w i) → q ≤ 2304
+      → ((p t : ℕ) → p ≤ 2304 → t < 256 → target w′ p t ≡ target w p t) → Elsewhere w w′ → Admitted I P c c′ kind [] q w w′
+  admitted-unmarked c c′ kind q w w′ h more kinds sets hq bits rest = record {
     holds = h;
-    more = omega arith;
-    kinds-kept = λ i l. refl;
-    sets-kept = λ i l. refl;
+    more = more;
+    kinds-kept = kinds;
+    sets-kept = sets;
     there = λ u i. absurd (List·Memᴰ·not-nil i);
-    marked = λ t l. sym (or-none (target w q t) (ltb t c) (eqb (kind-at w t) kind));
-    others-kept = λ p t a b d. refl;
-    elsewhere = λ b d. refl;
+    marked = λ t l. bits q t hq l ∙ sym (or-none (target w q t) (ltb t c′) (eqb (kind-at w′ t) kind));
+    others-kept = λ p t a b d. bits p t a b;
+    elsewhere = rest;
   }
     where
       or-none : (a b c : Bool) → (a || (b && (c && false))) ≡ a
@@ -62,6 +58,9 @@ module _ (I : Interface) (P : List Row) where
       or-none false true true = refl
       or-none false true false = refl
       or-none false false c = refl
+
+  pub admitted-none : (c kind q : ℕ) (w : List ℕ) → Holds I P c w → q ≤ 2304 → Admitted I P c c kind [] q w w
+  admitted-none c kind q w h hq = admitted-unmarked c c kind q w w h (omega arith) (λ i l. refl) (λ i l. refl) hq (λ p t a b. refl) (λ b d. refl)
 
   module _ (c a b kind : ℕ) (A B : List ℕ) (q : ℕ) (u v w : List ℕ) (x : Admitted I P c a kind A q u v) (y : Admitted I P a b kind B q v w) where
     any-append : (t : ℕ) → any (λ e. eqb t e) (A ++ B) ≡ (any (λ e. eqb t e) A || any (λ e. eqb t e) B)
@@ -136,7 +135,7 @@ module _ (I : Interface) (P : List Row) where
 
   module _ (wf : Property P) (c c′ kind : ℕ) (A : List ℕ) (q : ℕ) (w w′ : List ℕ) (x : Admitted I P c c′ kind A q w w′) where
     pub stored-kept : (i : ℕ) → i < c → stored n w′ i ≡ stored n w i
-    stored-kept i l = stored-as w w′ i (x .kinds-kept i l) (x .sets-kept i l)
+    stored-kept = stored-same I P c w w′ (x .kinds-kept) (x .sets-kept)
 
     pub method-kept : (p : ℕ) → p < 2304 → method-at w′ p ≡ method-at w p
     method-kept p l = cell-agree w′ w 1792 1 p (λ b h k. x .elsewhere b (inr (omega arith, omega arith)))
@@ -145,14 +144,14 @@ module _ (I : Interface) (P : List Row) where
     asked-kept p l = cell-agree w′ w 4096 4 p (λ b h k. x .elsewhere b (inr (omega arith, omega arith)))
 
     -- a state that is there was there, if it was
-    same-place : (t : ℕ) (s : State) → t < c′ → stored n w′ t ≡ s → (i : ℕ) × (i < c) × (stored n w i ≡ s) → t < c
+    pub same-place : (t : ℕ) (s : State) → t < c′ → stored n w′ t ≡ s → (i : ℕ) × (i < c) × (stored n w i ≡ s) → t < c
     same-place t s h e i = subst (λ (m : ℕ). m < c) (stored-once c′ w′ (x .holds) (i .0) t (omega (arith, i .1, x .more)) h (stored-kept (i .0) (i .1) ∙ i .2 ∙ sym e)) (i .1)
 
-    still-there : (s : State) → (t : ℕ) × (t < c) × (stored n w t ≡ s) → (t : ℕ) × (t < c′) × (stored n w′ t ≡ s)
+    pub still-there : (s : State) → (t : ℕ) × (t < c) × (stored n w t ≡ s) → (t : ℕ) × (t < c′) × (stored n w′ t ≡ s)
     still-there s t = (t .0, omega (arith, t .1, x .more), stored-kept (t .0) (t .1) ∙ t .2)
 
     -- a test that only states that were there pass reads the same
-    tested : (p : State → Bool) → ((t : ℕ) → t < c′ → T (p (stored n w′ t)) → t < c) → (t : ℕ) → (ltb t c && p (stored n w t)) ≡ (ltb t c′ && p (stored n w′ t))
+    pub tested : (p : State → Bool) → ((t : ℕ) → t < c′ → T (p (stored n w′ t)) → t < c) → (t : ℕ) → (ltb t c && p (stored n w t)) ≡ (ltb t c′ && p (stored n w′ t))
     tested p old t = go (decLt t c)
       where
         go : Dec (t < c) → (ltb t c && p (stored n w t)) ≡ (ltb t c′ && p (stored n w′ t))
@@ -379,11 +378,7 @@ module _ (I : Interface) (P : List Row) where
       → Asking I P c q method set w → ((t : ℕ) → t < 256 → target w′ q t ≡ target w p t) → ((b : ℕ) → (b < 13312 + 32 * q) ⊎ (13312 + 32 * q + 32 ≤ b) → getD w′ b 0 ≡ getD w b 0)
       → Charting I P c (q + 1) (q + 1) w′
   followed-again wf k enough c q method set p w w′ in-slots pq pos at-p asked-p asking row rest = record {
-    holds = record {
-      few = x .holds .few;
-      known = λ i h. subst (λ (m : ℕ). Known I P m (set-at w′ i)) (sym (kind-same i h)) (subst (Known I P (kind-at w i)) (sym (set-same i h)) (x .holds .known i h));
-      once = λ i j h m d e. x .holds .once i j h m (sym (kind-same i h) ∙ d ∙ kind-same j m) (sym (set-same i h) ∙ e ∙ set-same j m);
-    };
+    holds = holds-same I P c w w′ kind-same set-same (x .holds);
     entry-bits = λ t m. other 2304 t (omega arith) m (λ e. omega arith) ∙ x .entry-bits t m ∙ test (is-entry I P) t;
     entries-there = λ s e. moved s (x .entries-there s e);
     followed = λ i h. each i h (ℕ-discrete i q);
@@ -409,9 +404,6 @@ module _ (I : Interface) (P : List Row) where
       asked-same : (i : ℕ) → i < 2304 → asked-at w′ i ≡ asked-at w i
       asked-same i h = cell-agree w′ w 4096 4 i (λ b d e. rest b (inl (omega arith)))
 
-      stored-same : (i : ℕ) → i < c → stored n w′ i ≡ stored n w i
-      stored-same i h = stored-as w w′ i (kind-same i h) (set-same i h)
-
       other : (i t : ℕ) → i ≤ 2304 → t < 256 → (i ≡ q → ⊥) → target w′ i t ≡ target w i t
       other i t h m d = bit-byte w′ w 13312 13312 (256 * i + t) (rest (13312 + (256 * i + t) / 8) (side (decLt i q)))
         where
@@ -427,14 +419,10 @@ module _ (I : Interface) (P : List Row) where
                   go (inr z) = z
 
       test : (f : State → Bool) (t : ℕ) → (ltb t c && f (stored n w t)) ≡ (ltb t c && f (stored n w′ t))
-      test f t = go (decLt t c)
-        where
-          go : Dec (t < c) → (ltb t c && f (stored n w t)) ≡ (ltb t c && f (stored n w′ t))
-          go (yes h) = ap (λ (s : State). ltb t c && f s) (sym (stored-same t h))
-          go (no h) = off (ltb t c && f (stored n w t)) (λ z. h (ltb→lt t c (and-l (ltb t c) (f (stored n w t)) z))) ∙ sym (off (ltb t c && f (stored n w′ t)) (λ z. h (ltb→lt t c (and-l (ltb t c) (f (stored n w′ t)) z))))
+      test = tested-same I P c w w′ kind-same set-same
 
       moved : (s : State) → (t : ℕ) × (t < c) × (stored n w t ≡ s) → (t : ℕ) × (t < c) × (stored n w′ t ≡ s)
-      moved s t = (t .0, t .1, stored-same (t .0) (t .1) ∙ t .2)
+      moved = there-same I P c w w′ kind-same set-same
 
       here : q / 9 < c
       here = omega arith
@@ -467,17 +455,13 @@ module _ (I : Interface) (P : List Row) where
           go (no h) = off (ltb t c && is-next I P (stored n w (p / 9)) (p % 9) (stored n w t)) (λ z. h (ltb→lt t c (and-l (ltb t c) _ z))) ∙ sym (off (ltb t c && is-next I P (stored n w (q / 9)) (q % 9) (stored n w t)) (λ z. h (ltb→lt t c (and-l (ltb t c) _ z))))
 
       each : (i : ℕ) → i < q + 1 → Dec (i ≡ q) → Followed I P c w′ i
-      each i h (no d) = let g = x .followed i (omega arith) in let at : i / 9 < c = omega arith in record {
-        bits = λ t m. other i t (omega (arith, in-rows)) m d ∙ g .bits t m ∙ ap (λ (s : State). ltb t c && is-next I P s (i % 9) (stored n w t)) (sym (stored-same (i / 9) at)) ∙ test (is-next I P (stored n w′ (i / 9)) (i % 9)) t;
-        all-there = λ s z. moved s (g .all-there s (subst (λ (e : State). Next I P e (i % 9) s) (stored-same (i / 9) at) z));
-        method-is = λ t. method-same i (omega (arith, in-rows)) ∙ g .method-is t ∙ ap (λ (m : ℕ). m / 2) (sym (kind-same (i / 9) at));
-        no-method = λ t. method-same i (omega (arith, in-rows)) ∙ g .no-method t;
-        asked-is = λ t. asked-same i (omega (arith, in-rows)) ∙ g .asked-is t ∙ ap (λ (m : ℕ). asked-of P m (i % 9)) (sym (set-same (i / 9) at));
-      }
+      each i h (no d) =
+          followed-same I P c w w′ kind-same set-same i (omega arith) (λ t m. other i t (omega (arith, in-rows)) m d) (method-same i (omega (arith, in-rows))) (asked-same i (omega (arith, in-rows)))
+          (x .followed i (omega arith))
       each i h (yes d) = subst (Followed I P c w′) (sym d) (record {
-        bits = λ t m. row t m ∙ f .bits t m ∙ alike t ∙ ap (λ (s : State). ltb t c && is-next I P s (q % 9) (stored n w t)) (sym (stored-same (q / 9) here)) ∙ test (is-next I P (stored n w′ (q / 9)) (q % 9)) t;
+        bits = λ t m. row t m ∙ f .bits t m ∙ alike t ∙ ap (λ (s : State). ltb t c && is-next I P s (q % 9) (stored n w t)) (sym (stored-same I P c w w′ kind-same set-same (q / 9) here)) ∙ test (is-next I P (stored n w′ (q / 9)) (q % 9)) t;
         all-there = λ s z. moved s (f .all-there s (next-alike wf k enough (kind-at w (p / 9)) (set-at w (p / 9)) (p % 9) (kind-at w (q / 9)) (set-at w (q / 9)) (q % 9) same-method same-set label-p (asking .label) s
-            (subst (λ (e : State). Next I P e (q % 9) s) (stored-same (q / 9) here) z)));
+            (subst (λ (e : State). Next I P e (q % 9) s) (stored-same I P c w w′ kind-same set-same (q / 9) here) z)));
         method-is = λ t. method-same q in-rows ∙ asking .method-is ∙ asking .of-method ∙ ap (λ (m : ℕ). m / 2) (sym (kind-same (q / 9) here));
         no-method = λ t. absurd (t (asking .label));
         asked-is = λ t. asked-same q in-rows ∙ asking .asked-is ∙ asking .of-set ∙ ap (λ (m : ℕ). asked-of P m (q % 9)) (sym (set-same (q / 9) here));

@@ -16,6 +16,7 @@ use Rattle.files.specs.Basics.Queue.{Once, room}
 use Rattle.files.specs.Basics.Tables.{table, table-e, length-table}
 use Rattle.files.specs.Basics.Tests.{same-test, one, one-le, T-eq, eq-eqb, and-l, and-r, and-i, any, any-i, any-e}
 use Rattle.files.specs.Interface.{Interface, provides}
+use Rattle.files.specs.Interface.Laws.{in-set-small}
 use Rattle.files.specs.Property.{Row, Property}
 use Rattle.maximal.specs.Collected.{or-count, supports-of}
 use Rattle.maximal.specs.Collected.Laws.{supports-are}
@@ -24,6 +25,7 @@ use Rattle.maximal.specs.Masks.{member, rows, asked-of}
 use Rattle.maximal.specs.Masks.Laws.{member-one, member-lt, value-lt, value-rows, rows-value, asked-lt, member-asked}
 use Rattle.maximal.specs.Model.{Rows, Minimal, root, asked, State, Entry, Next, Reached, is-entry, is-label, is-next, states}
 use Rattle.maximal.specs.Model.Computed.{asked-row, entry-e, entry-i, next-e, next-i, label-e, states-are}
+use Rattle.maximal.specs.Model.Maximal.{reached-provided}
 use Rattle.maximal.specs.Model.Supports.{length-tab}
 
 -- ---- the state of a kind and a set
@@ -52,12 +54,24 @@ one-flag k = go (k % 2) (omega arith)
     go (suc zero) h = refl
     go (suc (suc d)) h = absurd (omega arith)
 
+pub kind-of-is : (n k u : ℕ) → kind-of (state-of n k u) ≡ k
+kind-of-is n k u = omega (arith, one-flag k)
+
 -- a state has one kind and one set
 pub state-same : (n a b u v : ℕ) → u < 2 ^ n → v < 2 ^ n → state-of n a u ≡ state-of n b v → (a ≡ b) × (u ≡ v)
 state-same n a b u v hu hv e =
     let m : a / 2 ≡ b / 2 = ap (λ (s : State). s .method) e in
     let f : a % 2 ≡ b % 2 = sym (one-flag a) ∙ ap (λ (s : State). one (s .flag)) e ∙ one-flag b in
     (omega (arith, m, f), sym (value-rows n u hu) ∙ ap (λ (s : State). value (s .rows)) e ∙ value-rows n v hv)
+
+-- a state of the model has a provided method, and so one of the kinds from 2 to 17
+pub kind-provided : (I : Interface) (s : State) → T (provides I (s .method)) → (2 ≤ kind-of s) × (kind-of s < 18)
+kind-provided I s t = let b = in-set-small (I .provided) (s .method) t in (omega (arith, b .0), omega (arith, b .1, one-le (s .flag)))
+
+pub known-i : (I : Interface) (P : List Row) (kind u : ℕ) → u < 2 ^ length P → Reached I P (state-of (length P) kind u) → Known I P kind u
+known-i I P kind u h r =
+    let b = kind-provided I (state-of (length P) kind u) (reached-provided I P (state-of (length P) kind u) r) in
+    record { method-from = omega (arith, b .0, kind-of-is (length P) kind u); method-to = omega (arith, b .1, kind-of-is (length P) kind u); of-rows = h; reached = r }
 
 -- ---- what is collected
 

@@ -85,6 +85,10 @@ module _ (I : Interface) (P : List Row) (wf : Property P) where
   unfolding is-entry
   entry-i s x = and-i (provides I (s .method)) _ (x .provided) (minimal-i P _ _ root root-row (s .rows) (x .minimal))
 
+  pub label-is : (l : ℕ) → is-label I P l ≡ (eqb l 0 || requires-method I l)
+  unfolding is-label
+  label-is l = refl
+
   pub label-e : (l : ℕ) → T (is-label I P l) → Labelled I l
   unfolding is-label
   label-e l t = go (or-e (eqb l 0) (requires-method I l) t)

@@ -1,0 +1,88 @@
+-- For the code that works the slots of states, what its stores change: a row of bits copied from another, and a slot's method and what it asks for.
+use mathlib.Core.Path.{_≡_, sym, ap, ap₂, subst, _∙_}
+use mathlib.Core.Logic.{inl, inr}
+use mathlib.Core.List.{List}
+use Prim.Native.Nat.{ℕ, _+_, _*_, _/_, _%_, _^_, _≤_, _<_}
+use native.Mathlib.Decide.{ℕ-discrete}
+use native.Mathlib.Omega.{arith}
+use lib.Dec.{eqb}
+use lib.ListN.{length, getD}
+use Rattle.files.specs.Cells.{cell, put-cell, has-bit}
+use Rattle.files.specs.Cells.Laws.{length-put-cell, cell-same, cell-other, cell-apart, cell-one, byte-outside, has-bit-is, bit-byte}
+use Rattle.judging.specs.Chains.{Outside}
+use Rattle.maximal.specs.Charting.{method-at, asked-at, target}
+
+-- ---- a row of bits copied
+
+-- k bytes of row p stand in row q, and nothing else has changed
+abbrev pub Copied : List ℕ → ℕ → ℕ → ℕ → List ℕ → Type 0
+Copied w₀ p q k w = ((i : ℕ) → i < k → getD w (13312 + 32 * q + i) 0 ≡ getD w₀ (13312 + 32 * p + i) 0) × Outside (13312 + 32 * q) (13312 + 32 * q + 32) w₀ w
+
+-- a row has 32 bytes
+in-row : (w : List ℕ) (p t : ℕ) → target w p t ≡ has-bit w (13312 + 32 * p) t
+in-row w p t =
+    let a : 13312 + (256 * p + t) / 8 ≡ 13312 + 32 * p + t / 8 = omega arith in
+    let b : (256 * p + t) % 8 ≡ t % 8 = omega arith in
+    has-bit-is w 13312 (256 * p + t) ∙ ap₂ (λ (n k : ℕ). eqb (getD w n 0 / 2 ^ k % 2) 1) a b ∙ sym (has-bit-is w (13312 + 32 * p) t)
+
+module _ (w₀ w : List ℕ) (p q k : ℕ) (pq : p < q) (x : Copied w₀ p q k w) where
+  -- one byte more
+  pub copied-on : q < 2304 → 103456 ≤ length w → k < 32 → (b : ℕ) (w′ : List ℕ) → b < 256 → b ≡ cell w (13312 + 32 * p) 1 k → w′ ≡ put-cell w (13312 + 32 * q) 1 k b → Copied w₀ p q (k + 1) w′
+  copied-on hq room hk b w′ hb is e = subst (Copied w₀ p q (k + 1)) (sym e) (λ i l. byte i l (ℕ-discrete i k), beside)
+    where
+      more : List ℕ
+      more = put-cell w (13312 + 32 * q) 1 k b
+
+      byte : (i : ℕ) → i < k + 1 → Dec (i ≡ k) → getD more (13312 + 32 * q + i) 0 ≡ getD w₀ (13312 + 32 * p + i) 0
+      byte i l (yes z) =
+          ap (λ (n : ℕ). getD more (13312 + 32 * q + n) 0) z
+          ∙ sym (cell-one more (13312 + 32 * q) k)
+          ∙ cell-same w (13312 + 32 * q) 1 k b (omega arith) (omega arith)
+          ∙ is
+          ∙ cell-one w (13312 + 32 * p) k
+          ∙ x .1 (13312 + 32 * p + k) (inl (omega arith))
+          ∙ ap (λ (n : ℕ). getD w₀ (13312 + 32 * p + n) 0) (sym z)
+      byte i l (no n) = byte-outside w (13312 + 32 * q) 1 k b (13312 + 32 * q + i) (inl (omega arith)) ∙ x .0 i (omega arith)
+
+      beside : Outside (13312 + 32 * q) (13312 + 32 * q + 32) w₀ more
+      beside b′ (inl l) = byte-outside w (13312 + 32 * q) 1 k b b′ (inl (omega arith)) ∙ x .1 b′ (inl l)
+      beside b′ (inr l) = byte-outside w (13312 + 32 * q) 1 k b b′ (inr (omega arith)) ∙ x .1 b′ (inr l)
+
+  -- all bytes
+  pub copied-all : 32 ≤ k → (t : ℕ) → t < 256 → target w q t ≡ target w₀ p t
+  copied-all l t ht = in-row w q t ∙ bit-byte w w₀ (13312 + 32 * q) (13312 + 32 * p) t (x .0 (t / 8) (omega arith)) ∙ sym (in-row w₀ p t)
+
+-- ---- the methods and what is asked for
+
+-- w₂ has a method and what is asked for in slot q
+module _ (q method set : ℕ) (w w₁ w₂ : List ℕ) (hq : q < 2304) (room : 103456 ≤ length w) (e₁ : w₁ ≡ put-cell w 1792 1 q method) (e₂ : w₂ ≡ put-cell w₁ 4096 4 q set) where
+  abbrev once : List ℕ
+  once = put-cell w 1792 1 q method
+
+  abbrev both : List ℕ
+  both = put-cell once 4096 4 q set
+
+  is-both : w₂ ≡ both
+  is-both = e₂ ∙ ap (λ (u : List ℕ). put-cell u 4096 4 q set) e₁
+
+  -- every byte but those of the slots
+  both-outside : Outside 1792 13312 w both
+  both-outside b (inl l) = byte-outside once 4096 4 q set b (inl (omega arith)) ∙ byte-outside w 1792 1 q method b (inl (omega arith))
+  both-outside b (inr l) = byte-outside once 4096 4 q set b (inr (omega arith)) ∙ byte-outside w 1792 1 q method b (inr (omega arith))
+
+  pub slot-outside : Outside 1792 13312 w w₂
+  slot-outside b d = ap (λ (u : List ℕ). getD u b 0) is-both ∙ both-outside b d
+
+  -- another slot
+  pub slot-other : (p : ℕ) → p < 2304 → (p ≡ q → ⊥) → (method-at w₂ p ≡ method-at w p) × (asked-at w₂ p ≡ asked-at w p)
+  slot-other p l d = (
+    ap (λ (u : List ℕ). method-at u p) is-both ∙ cell-apart once 4096 4 q set 1792 1 p (inl (omega arith)) ∙ cell-other w 1792 1 q p method (λ z. d (sym z)),
+    ap (λ (u : List ℕ). asked-at u p) is-both ∙ cell-other once 4096 4 q p set (λ z. d (sym z)) ∙ cell-apart w 1792 1 q method 4096 4 p (inr (omega arith)),
+  )
+
+  -- the slot itself
+  pub slot-same : method < 256 → set < 4294967296 → (method-at w₂ q ≡ method) × (asked-at w₂ q ≡ set)
+  slot-same l m = (
+    ap (λ (u : List ℕ). method-at u q) is-both ∙ cell-apart once 4096 4 q set 1792 1 q (inl (omega arith)) ∙ cell-same w 1792 1 q method (omega arith) l,
+    ap (λ (u : List ℕ). asked-at u q) is-both ∙ cell-same once 4096 4 q set (omega (arith, length-put-cell w 1792 1 q method)) m,
+  )

@@ -1,0 +1,55 @@
+use Rattle.maximal.proofs.BuildLaws.{interface-file}
+use Rattle.maximal.specs.Modelling.{modelled-answer}
+use Rattle.maximal.specs.Modelling.Steps.{interface-refused, interface-passed}
+use borrow.Author.Needs.{needs}
+use Rattle.maximal.proofs.build.model_files.Statement.{statement}
+use Rattle.maximal.proofs.build.model_files.Tie as tie
+use Rattle.maximal.proofs.build.model_files.Reads as reads
+use Rattle.maximal.proofs.build.model_files.Lts as lts
+use Rattle.files.proofs.check.check_interface.Reads as check-interface-reads
+use Rattle.maximal.proofs.build.model_property.Reads as model-property-reads
+
+-- src/build.rt:104:11
+check-interface-requires : tie.Need-check-interface-requires
+check-interface-requires c κs = search needs
+
+-- src/build.rt:105:26
+enum-known-refusal : tie.Need-enum-known-refusal
+enum-known-refusal c = search needs
+
+-- src/build.rt:106:73
+enum-told : tie.Need-enum-told
+enum-told c = search needs
+
+-- src/build.rt:106:37
+model-property-requires : tie.Need-model-property-requires
+model-property-requires c κs = let k = c .before .before .before .before .before .before .before .before .before in let x = c .before .before .enum-told .given in (interface-file (k .args .limits) (k .args .interface .now) (c .before .before .before .before .check-interface .result) (x .0 .0) (x .0 .1 .0) (c .before .before .before .before .check-interface .ensures) (x .1), k .pre)
+
+-- src/build.rt:94:1
+returns : tie.Need-returns
+returns c = let k = c .before .before .before .before .before .before .before .before in interface-refused (k .args .limits) (k .args .interface .now) (k .args .property .now) (k .args .out .now) (c .before .before .before .check-interface .result) (c .before .refusal .given .0 .0) (c .before .before .before .check-interface .ensures) (c .before .refusal .given .1)
+
+-- src/build.rt:94:1
+same-length : tie.Need-same-length
+same-length c = search needs
+
+-- src/build.rt:94:1
+same-length-2 : tie.Need-same-length-2
+same-length-2 c = search needs
+
+-- src/build.rt:94:1
+returns-2 : tie.Need-returns-2
+returns-2 c = let k = c .before .before .before .before .before .before .before .before .before .before .before .before .before .before in let x = c .before .before .before .before .before .before .before .enum-told .given in interface-passed (k .args .limits) (k .args .interface .now) (k .args .property .now) (k .args .out .now) (c .before .before .before .before .before .before .before .before .before .check-interface .result) (x .0 .0) (x .0 .1 .0) (c .before .before .before .before .model-property .last .1 .1 .0) (modelled-answer (c .before .before .before .before .model-property .result)) (c .before .before .before .before .before .before .before .before .before .check-interface .ensures) (x .1) (c .before .before .before .before .model-property .ensures)
+
+pub model-files-spec : {M : Type 1} → statement M
+model-files-spec =
+    tie.close
+    (tie.spec
+    check-interface-requires
+    enum-known-refusal
+    enum-told
+    model-property-requires
+    returns
+    same-length
+    same-length-2
+    returns-2)

@@ -1,0 +1,73 @@
+use mathlib.Core.Bool.{not}
+use Prim.Native.Nat.{ℕ, _-_, _≤_, _<_}
+use native.Mathlib.Omega.{arith}
+use lib.Dec.{T}
+use Rattle.maximal.proofs.StateLaws.{is-pair, pair-at, pair-past, pair-none}
+use Rattle.maximal.proofs.states.find.Statement.{statement}
+use Rattle.maximal.proofs.states.find.Tie as tie
+
+abbrev Inv-loop : tie.InvT-loop
+Inv-loop work c kind set i₀ i = (i ≤ c) × ((j : ℕ) → j < i → T (not (is-pair work 256 512 kind set j)))
+
+abbrev μ-loop : tie.MeasureT-loop
+μ-loop work c kind set i₀ i = c - i
+
+-- src/states.rt:27:5
+loop-holds : tie.Need-loop-holds Inv-loop μ-loop
+loop-holds c = (omega arith, λ j h. absurd (omega arith))
+
+-- src/states.rt:28:13
+get8-requires : tie.Need-get8-requires Inv-loop μ-loop
+get8-requires c κs = let k = c .before .before .before in omega (arith, k .pre .0, k .pre .1, c .loop-test .taken)
+
+-- src/states.rt:28:54
+get32-requires : tie.Need-get32-requires Inv-loop μ-loop
+get32-requires c κs = let k = c .before .before .before .before in omega (arith, k .pre .0, k .pre .1, c .before .loop-test .taken)
+
+-- src/states.rt:29:13
+returns : tie.Need-returns Inv-loop μ-loop
+returns c =
+    let a = c .before .before .before .before .before .before .args in
+    let l = c .before .before .before .before .loop in
+    let x = c .before .before .get8 in
+    let y = c .before .get32 in
+    pair-at (a .work .now) 256 512 (a .kind) (a .set) (a .c) (l .i) (l .inv .1) (x .result) (y .result) (x .ensures) (y .ensures) (c .if1 .taken) (c .before .before .before .loop-test .taken)
+
+-- src/states.rt:31:9
+add-i : tie.Need-add-i Inv-loop μ-loop
+add-i c = omega (arith, c .before .before .before .loop-test .taken)
+
+-- src/states.rt:27:5
+loop-less : tie.Need-loop-less Inv-loop μ-loop
+loop-less c = omega (arith, c .before .before .before .loop-test .taken)
+
+-- src/states.rt:27:5
+loop-again : tie.Need-loop-again Inv-loop μ-loop
+loop-again c =
+    let a = c .before .before .before .before .before .before .args in
+    let l = c .before .before .before .before .loop in
+    let x = c .before .before .get8 in
+    let y = c .before .get32 in
+    (omega (arith, c .before .before .before .loop-test .taken), pair-past (a .work .now) 256 512 (a .kind) (a .set) (a .c) (l .i) (l .inv .1) (x .result) (y .result) (x .ensures) (y .ensures) (c .if1 .left))
+
+-- src/states.rt:22:1
+returns-2 : tie.Need-returns-2 Inv-loop μ-loop
+returns-2 c =
+    let a = c .before .before .before .args in
+    let l = c .before .loop in
+    pair-none (a .work .now) 256 512 (a .kind) (a .set) (a .c) (l .i) (l .inv .1) (l .inv .0) (λ h. omega (arith, h, c .loop-test .left))
+
+pub find-spec : {M : Type 1} → statement M
+find-spec =
+    tie.close
+    (tie.spec
+    Inv-loop
+    μ-loop
+    loop-holds
+    get8-requires
+    get32-requires
+    returns
+    add-i
+    loop-less
+    loop-again
+    returns-2)

@@ -1,0 +1,168 @@
+// All states of a model: the entries, then for each state and label those that follow, until every state is worked. Equal sets asked for are worked once a method.
+// `explore` states that all states are there with what follows them, or that the model has too many.
+ghost use mathlib.Core.Path.{_≡_};
+ghost use mathlib.Core.Bool.{_||_};
+ghost use Prim.Native.Nat.{ℕ, _+_, _*_, _≤_, _<_};
+ghost use lib.Dec.{eqb};
+ghost use lib.ListN.{length, replicate};
+ghost use Rattle.files.specs.Interface.{requires-method};
+ghost use Rattle.files.specs.Access.{InterfaceFile};
+ghost use Rattle.files.specs.Decode.{decode-interface, decode-property};
+ghost use Rattle.judging.specs.Chains.{Outside};
+ghost use Rattle.maximal.specs.Charting.{Scoped, earlier, target, Crowded, Charting, Asking, Charted};
+ghost use Rattle.maximal.specs.Collected.{Tables};
+use crate::masks::asked;
+use crate::places::Places;
+use crate::places::Scope;
+use crate::states::admit;
+use crate::supports::tabulate;
+use files::cells::get8;
+use files::cells::get32;
+use files::cells::put8;
+use files::cells::put32;
+use files::encode::LINE;
+use files::interface::provides;
+use files::interface::requires_method;
+
+// An internal step, or a call of a required method.
+fn is_label(interface: &[u8], label: u8) -> bool
+    requires { ⌜ InterfaceFile (now interface) ⌝ }
+    ensures { λ t. ⌜ t ≡ (eqb label 0 || requires-method (decode-interface (now (interface .entry))) label) ⌝ }
+{
+    (label == 0) | requires_method(interface, label)
+}
+
+// Enters the entries of all provided methods.
+fn enter_entries(interface: &[u8], property: &[u8], s: Scope, work: &mut [u8]) -> usize
+    requires { ⌜ (InterfaceFile (now interface)) × ((Scoped s (now property)) × ((103456 ≤ length (now work)) × ((Tables (decode-property (now property)) (now work)) × (Outside 0 256 (replicate (length (now work)) 0) (now work))))) ⌝ }
+    ensures { λ t. ⌜ (t ≤ s .states → (Charting (decode-interface (now (interface .entry))) (decode-property (now (property .entry))) t 0 0 (now (work .exit))) × (Tables (decode-property (now (property .entry))) (now (work .exit)))) × ((t ≤ s .states + 1) × (s .states < t → Crowded (decode-interface (now (interface .entry))) (decode-property (now (property .entry))) (s .states))) ⌝ }
+{
+    let mut kind = 2;
+    let mut c = 0;
+    while kind < 18 {
+        if provides(interface, kind / 2) {
+            c = admit(interface, property, s, work, Places::ENTRIES, c, kind, 1);
+            if s.states < c {
+                return c;
+            }
+        }
+        kind += 1;
+    }
+    c
+}
+
+// The first slot below q with this method that asks for this set, or q.
+fn find_earlier(work: &[u8], q: usize, method: u8, set: u32) -> usize
+    requires { ⌜ (q ≤ 2304) × (103456 ≤ length (now work)) ⌝ }
+    ensures { λ t. ⌜ t ≡ earlier (now (work .entry)) q method set ⌝ }
+{
+    let mut p = 0;
+    while p < q {
+        if (get8(work, Places::METHODS, p) == method) & (get32(work, Places::ASKED, p) == set) {
+            return p;
+        }
+        p += 1;
+    }
+    p
+}
+
+// Row q becomes as row p.
+fn copy_row(work: &mut [u8], p: usize, q: usize)
+    requires { ⌜ (p < q) × ((q < 2304) × (103456 ≤ length (now work))) ⌝ }
+    ensures { λ _. ⌜ ((t : ℕ) → t < 256 → target (now (work .exit)) q t ≡ target (now (work .entry)) p t) × (Outside (13312 + 32 * q) (13312 + 32 * q + 32) (now (work .entry)) (now (work .exit))) ⌝ }
+{
+    let mut k = 0;
+    while k < LINE {
+        let byte = get8(work, Places::TARGETS + LINE * p, k);
+        put8(work, Places::TARGETS + LINE * q, k, byte);
+        k += 1;
+    }
+}
+
+// Enters what follows by slot q, whose state has this method and asks for this set: as an earlier slot, or anew with either flag.
+fn follow_anew(
+    interface: &[u8],
+    property: &[u8],
+    s: Scope,
+    work: &mut [u8],
+    q: usize,
+    c: usize,
+    method: u8,
+    set: u32,
+) -> usize
+    requires { ⌜ (Scoped s (now property)) × ((q < 9 * c) × ((c ≤ s .states) × ((103456 ≤ length (now work)) × ((Tables (decode-property (now property)) (now work)) × (Asking (decode-interface (now interface)) (decode-property (now property)) c q method set (now work)))))) ⌝ }
+    ensures { λ t. ⌜ (t ≤ s .states → (Charting (decode-interface (now (interface .entry))) (decode-property (now (property .entry))) t (q + 1) (q + 1) (now (work .exit))) × ((Tables (decode-property (now (property .entry))) (now (work .exit))) × (c ≤ t))) × ((t ≤ s .states + 1) × (s .states < t → Crowded (decode-interface (now (interface .entry))) (decode-property (now (property .entry))) (s .states))) ⌝ }
+{
+    let going = admit(interface, property, s, work, q, c, 2 * method, set);
+    if s.states < going {
+        return going;
+    }
+    admit(interface, property, s, work, q, going, 2 * method + 1, set)
+}
+
+// Enters what follows state i under label l.
+fn follow(
+    interface: &[u8],
+    property: &[u8],
+    s: Scope,
+    work: &mut [u8],
+    i: usize,
+    label: u8,
+    c: usize,
+) -> usize
+    requires { ⌜ (InterfaceFile (now interface)) × ((Scoped s (now property)) × ((i < c) × ((label < 9) × ((c ≤ s .states) × ((103456 ≤ length (now work)) × ((Tables (decode-property (now property)) (now work)) × (Charting (decode-interface (now interface)) (decode-property (now property)) c (9 * i + label) (9 * i + label) (now work)))))))) ⌝ }
+    ensures { λ t. ⌜ (t ≤ s .states → (Charting (decode-interface (now (interface .entry))) (decode-property (now (property .entry))) t (9 * i + label + 1) (9 * i + label + 1) (now (work .exit))) × ((Tables (decode-property (now (property .entry))) (now (work .exit))) × (c ≤ t))) × ((t ≤ s .states + 1) × (s .states < t → Crowded (decode-interface (now (interface .entry))) (decode-property (now (property .entry))) (s .states))) ⌝ }
+{
+    if !is_label(interface, label) {
+        return c;
+    }
+    let q = 9 * i + (label as usize);
+    let method = get8(work, Places::KINDS, i) / 2;
+    let set = asked(property, s.rows, get32(work, Places::SETS, i), label);
+    let p = find_earlier(work, q, method, set);
+    put8(work, Places::METHODS, q, method);
+    put32(work, Places::ASKED, q, set);
+    if p < q {
+        copy_row(work, p, q);
+        return c;
+    }
+    follow_anew(interface, property, s, work, q, c, method, set)
+}
+
+// Enters what follows state i under every label.
+fn expand(interface: &[u8], property: &[u8], s: Scope, work: &mut [u8], i: usize, c: usize) -> usize
+    requires { ⌜ (InterfaceFile (now interface)) × ((Scoped s (now property)) × ((i < c) × ((c ≤ s .states) × ((103456 ≤ length (now work)) × ((Tables (decode-property (now property)) (now work)) × (Charting (decode-interface (now interface)) (decode-property (now property)) c (9 * i) (9 * i) (now work))))))) ⌝ }
+    ensures { λ t. ⌜ (t ≤ s .states → (Charting (decode-interface (now (interface .entry))) (decode-property (now (property .entry))) t (9 * i + 9) (9 * i + 9) (now (work .exit))) × ((Tables (decode-property (now (property .entry))) (now (work .exit))) × (c ≤ t))) × ((t ≤ s .states + 1) × (s .states < t → Crowded (decode-interface (now (interface .entry))) (decode-property (now (property .entry))) (s .states))) ⌝ }
+{
+    let mut label = 0;
+    let mut total = c;
+    while label < 9 {
+        total = follow(interface, property, s, work, i, label, total);
+        if s.states < total {
+            return total;
+        }
+        label += 1;
+    }
+    total
+}
+
+// All states, in a buffer of zeros. How many there are; one more than there may be where there are more.
+pub(crate) fn explore(interface: &[u8], property: &[u8], s: Scope, work: &mut [u8]) -> usize
+    requires { ⌜ (InterfaceFile (now interface)) × ((Scoped s (now property)) × (((now work) ≡ replicate (length (now work)) 0) × (103456 ≤ length (now work)))) ⌝ }
+    ensures { λ t. ⌜ (t ≤ s .states → Charted (decode-interface (now (interface .entry))) (decode-property (now (property .entry))) t (now (work .exit))) × ((t ≤ s .states + 1) × (s .states < t → Crowded (decode-interface (now (interface .entry))) (decode-property (now (property .entry))) (s .states))) ⌝ }
+{
+    tabulate(property, s.rows, work);
+    let mut c = enter_entries(interface, property, s, work);
+    if s.states < c {
+        return c;
+    }
+    let mut i = 0;
+    while i < c {
+        c = expand(interface, property, s, work, i, c);
+        if s.states < c {
+            return c;
+        }
+        i += 1;
+    }
+    c
+}

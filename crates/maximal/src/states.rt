@@ -1,0 +1,107 @@
+// The states of a model, each once, numbered in the order in which they are found, and the rows of bits that say which states follow. `admit` states what is there
+// once the minimal supports of a set of rows are entered, or that the model has too many states.
+ghost use mathlib.Core.Path.{_≡_};
+ghost use mathlib.Core.List.{List·Memᴰ, [], _∷_};
+ghost use Prim.Native.Nat.{ℕ, _+_, _/_, _%_, _^_, _≤_, _<_};
+ghost use lib.ListN.{length};
+ghost use Rattle.files.specs.Access.{InterfaceFile};
+ghost use Rattle.files.specs.Decode.{decode-interface, decode-property};
+ghost use Rattle.judging.specs.Chains.{Outside};
+ghost use Rattle.maximal.specs.Charting.{Scoped, flag-of, found, Known, Holds, Crowded, Admitted};
+ghost use Rattle.maximal.specs.Collected.{Tables, listed, supports-of};
+use crate::places::Places;
+use crate::places::Scope;
+use crate::supports::supports;
+use files::cells::get8;
+use files::cells::get32;
+use files::cells::put_bit;
+use files::cells::put8;
+use files::cells::put32;
+
+// The number of the state with this kind and set among the first c, or c.
+fn find(work: &[u8], c: usize, kind: u8, set: u32) -> usize
+    requires { ⌜ (c ≤ 256) × (103456 ≤ length (now work)) ⌝ }
+    ensures { λ t. ⌜ t ≡ found (now (work .entry)) c kind set ⌝ }
+{
+    let mut i = 0;
+    while i < c {
+        if (get8(work, Places::KINDS, i) == kind) & (get32(work, Places::SETS, i) == set) {
+            return i;
+        }
+        i += 1;
+    }
+    i
+}
+
+// Enters a state, where it is new, and marks it in row q. How many states there are then; one more than there may be where there is no room.
+fn enter(
+    interface: &[u8],
+    property: &[u8],
+    s: Scope,
+    work: &mut [u8],
+    q: usize,
+    c: usize,
+    kind: u8,
+    set: u32,
+) -> usize
+    requires { ⌜ (Scoped s (now property)) × ((q ≤ 2304) × ((c ≤ s .states) × ((103456 ≤ length (now work)) × ((Holds (decode-interface (now interface)) (decode-property (now property)) c (now work)) × (Known (decode-interface (now interface)) (decode-property (now property)) kind set))))) ⌝ }
+    ensures { λ t. ⌜ (t ≤ s .states → (Admitted (decode-interface (now (interface .entry))) (decode-property (now (property .entry))) c t kind (set ∷ []) q (now (work .entry)) (now (work .exit))) × (Outside 256 87072 (now (work .entry)) (now (work .exit)))) × ((t ≤ s .states + 1) × (s .states < t → Crowded (decode-interface (now (interface .entry))) (decode-property (now (property .entry))) (s .states))) ⌝ }
+{
+    let t = find(work, c, kind, set);
+    if t < c {
+        put_bit(work, Places::TARGETS, 256 * q + t);
+        return c;
+    }
+    if c == s.states {
+        return c + 1;
+    }
+    put8(work, Places::KINDS, c, kind);
+    put32(work, Places::SETS, c, set);
+    put_bit(work, Places::TARGETS, 256 * q + c);
+    c + 1
+}
+
+// Enters all listed sets with this kind.
+fn enter_listed(
+    interface: &[u8],
+    property: &[u8],
+    s: Scope,
+    work: &mut [u8],
+    q: usize,
+    c: usize,
+    kind: u8,
+    n: usize,
+) -> usize
+    requires { ⌜ (Scoped s (now property)) × ((q ≤ 2304) × ((c ≤ s .states) × ((n ≤ 4096) × ((103456 ≤ length (now work)) × ((Holds (decode-interface (now interface)) (decode-property (now property)) c (now work)) × ((u : ℕ) → List·Memᴰ u (listed (now work) n) → Known (decode-interface (now interface)) (decode-property (now property)) kind u)))))) ⌝ }
+    ensures { λ t. ⌜ (t ≤ s .states → Admitted (decode-interface (now (interface .entry))) (decode-property (now (property .entry))) c t kind (listed (now (work .entry)) n) q (now (work .entry)) (now (work .exit))) × ((t ≤ s .states + 1) × (s .states < t → Crowded (decode-interface (now (interface .entry))) (decode-property (now (property .entry))) (s .states))) ⌝ }
+{
+    let mut k = 0;
+    let mut total = c;
+    while k < n {
+        let set = get32(work, Places::CANDIDATES, k);
+        total = enter(interface, property, s, work, q, total, kind, set);
+        if s.states < total {
+            return total;
+        }
+        k += 1;
+    }
+    total
+}
+
+// Enters the minimal supports of a set of rows with this kind.
+pub(crate) fn admit(
+    interface: &[u8],
+    property: &[u8],
+    s: Scope,
+    work: &mut [u8],
+    q: usize,
+    c: usize,
+    kind: u8,
+    set: u32,
+) -> usize
+    requires { ⌜ (Scoped s (now property)) × ((q ≤ 2304) × ((c ≤ s .states) × ((set < 2 ^ s .rows) × ((103456 ≤ length (now work)) × ((Tables (decode-property (now property)) (now work)) × ((Holds (decode-interface (now interface)) (decode-property (now property)) c (now work)) × ((u : ℕ) → List·Memᴰ u (supports-of (decode-property (now property)) (s .ors) (kind / 2) (flag-of kind) set) → Known (decode-interface (now interface)) (decode-property (now property)) kind u))))))) ⌝ }
+    ensures { λ t. ⌜ (t ≤ s .states → Admitted (decode-interface (now (interface .entry))) (decode-property (now (property .entry))) c t kind (supports-of (decode-property (now (property .entry))) (s .ors) (kind / 2) (flag-of kind) set) q (now (work .entry)) (now (work .exit))) × ((t ≤ s .states + 1) × (s .states < t → Crowded (decode-interface (now (interface .entry))) (decode-property (now (property .entry))) (s .states))) ⌝ }
+{
+    let n = supports(property, s.rows, work, s.ors, kind / 2, kind % 2 == 1, set);
+    enter_listed(interface, property, s, work, q, c, kind, n)
+}
