@@ -36,7 +36,13 @@ struct tintboulder_answer tintboulder_judge(const uint8_t *graph, size_t graph_l
 struct tintboulder_answer tintboulder_compare(const uint8_t *first, size_t first_length, const uint8_t *second, size_t second_length, uint8_t *out,
                                               size_t out_length, uint8_t *work, size_t work_length);
 
-/* The least length of the work buffer of a call: 1 judge, 2 compare; 0 for other numbers. */
+/* The maximal model of the interface and the property: it simulates a flow graph of the interface, however large, exactly when that graph satisfies the property.
+   Verdict 1: written; first is the number of its nodes, second that of its edges, and its graph file, 6 bytes for each of both, is written to out.
+   work is as above, of at least tintboulder_work(3) bytes. */
+struct tintboulder_answer tintboulder_model(const uint8_t *interface, size_t interface_length, const uint8_t *property, size_t property_length, uint8_t *out,
+                                            size_t out_length, uint8_t *work, size_t work_length);
+
+/* The least length of the work buffer of a call: 1 judge, 2 compare, 3 model; 0 for other numbers. */
 uint64_t tintboulder_work(uint64_t call);
 
 #ifdef __cplusplus

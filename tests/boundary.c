@@ -1,5 +1,5 @@
-/* The header against the static library: one accepted and one refused file of each kind; judging and comparing, with the buffers they are
-   lent. Exits with the number of answers that are wrong. */
+/* The header against the static library: one accepted and one refused file of each kind; judging, comparing and modelling, with the buffers they
+   are lent. Exits with the number of answers that are wrong. */
 #include "../include/tintboulder.h"
 
 #include <string.h>
@@ -20,15 +20,16 @@ static int refuses(check *checks, const uint8_t *file, size_t length, uint32_t n
 
 typedef struct tintboulder_answer on_two_files(const uint8_t *, size_t, const uint8_t *, size_t, uint8_t *, size_t, uint8_t *, size_t);
 
-/* A call on two files that has verdict 2: its value, and the bytes that it writes. */
+/* A call on two files that writes bytes: its verdict, its values and the bytes. */
 struct example {
     on_two_files *call;
     const uint8_t *first, *second, *result;
     size_t first_length, second_length, result_length;
-    uint64_t value;
+    uint32_t verdict;
+    uint64_t values[2];
 };
 
-enum { MOST_OUT = 66, MOST_WORK = 196608 };
+enum { MOST_OUT = 128, MOST_WORK = 196608 };
 
 static int filled(const uint8_t *bytes, size_t length, uint8_t with)
 {
@@ -42,12 +43,13 @@ static int filled(const uint8_t *bytes, size_t length, uint8_t with)
 static int answers(const struct example *e, size_t out_length, size_t work_length, uint32_t verdict, uint32_t number)
 {
     static uint8_t out[MOST_OUT], work[MOST_WORK];
-    size_t written = verdict == 2 ? e->result_length : 0;
+    int said = verdict != 0;
+    size_t written = said ? e->result_length : 0;
     struct tintboulder_answer a;
     memset(out, 7, MOST_OUT);
     memset(work, 7, MOST_WORK);
     a = e->call(e->first, e->first_length, e->second, e->second_length, out, out_length, work, work_length);
-    return a.verdict == verdict && a.number == number && a.first == (verdict == 2 ? e->value : 0) && a.second == 0 && a.third == 0 && a.fourth == 0
+    return a.verdict == verdict && a.number == number && a.first == (said ? e->values[0] : 0) && a.second == (said ? e->values[1] : 0) && a.third == 0 && a.fourth == 0
         && memcmp(out, e->result, written) == 0 && filled(out + written, MOST_OUT - written, 7) && filled(work, work_length, number == 13 ? 7 : 0)
         && filled(work + work_length, MOST_WORK - work_length, 7);
 }
@@ -55,7 +57,7 @@ static int answers(const struct example *e, size_t out_length, size_t work_lengt
 /* Its verdict, and the refusals 12 and 13. */
 static int wrong_answers(const struct example *e, size_t work_length)
 {
-    return !answers(e, e->result_length + 2, work_length, 2, 0) + !answers(e, e->result_length - 1, work_length, 0, 12)
+    return !answers(e, e->result_length + 2, work_length, e->verdict, 0) + !answers(e, e->result_length - 1, work_length, 0, 12)
         + !answers(e, e->result_length, work_length - 1, 0, 13);
 }
 
@@ -65,7 +67,7 @@ static int wrong_judging(void)
     static const uint8_t graph[] = {1, 1, 0, 1, 0, 0, 1, 1, 1, 0, 0, 0, 2, 0, 1, 1, 0, 0};
     static const uint8_t property[] = {3, 9, 1, 1, 0, 0, 3, 6, 0, 0, 0, 0};
     static const uint8_t sheet[] = {0, 0, 1, 1, 0, 255, 1, 1, 0, 255, 0, 255};
-    static const struct example p6 = {tintboulder_judge, graph, property, sheet, sizeof graph, sizeof property, sizeof sheet, 2};
+    static const struct example p6 = {tintboulder_judge, graph, property, sheet, sizeof graph, sizeof property, sizeof sheet, 2, {2, 0}};
     return wrong_answers(&p6, 41664) + (tintboulder_work(1) != 41664);
 }
 
@@ -75,8 +77,19 @@ static int wrong_comparing(void)
     static const uint8_t first[] = {1, 1, 0, 0, 0, 0, 1, 1, 0, 1, 0, 0, 2, 1, 0, 1, 0, 0};
     static const uint8_t second[] = {1, 1, 0, 1, 0, 0};
     static const uint8_t relation[64] = {1};
-    static const struct example p9 = {tintboulder_compare, first, second, relation, sizeof first, sizeof second, sizeof relation, 1};
+    static const struct example p9 = {tintboulder_compare, first, second, relation, sizeof first, sizeof second, sizeof relation, 2, {1, 0}};
     return wrong_answers(&p9, 165152) + (tintboulder_work(2) != 165152);
+}
+
+/* Example P1. */
+static int wrong_modelling(void)
+{
+    static const uint8_t interface[] = {5, 1, 1, 0, 0, 0};
+    static const uint8_t property[] = {3, 7, 1, 3, 0, 0, 3, 9, 1, 2, 0, 0, 3, 2, 0, 0, 0, 0, 3, 5, 0, 0, 0, 0};
+    static const uint8_t model[] = {1, 1, 0, 0, 0, 0, 1, 1, 1, 0, 0, 0, 1, 1, 1, 1, 0, 0, 2, 0, 0, 0, 0, 0, 2, 0, 0, 1, 0, 0, 2, 0, 1, 0, 0, 0, 2, 0, 1,
+                                    1, 0, 0, 2, 1, 0, 0, 0, 0, 2, 1, 0, 1, 0, 0, 2, 1, 1, 0, 0, 0, 2, 1, 1, 1, 0, 0, 2, 2, 0, 0, 0, 0, 2, 2, 0, 1, 0, 0};
+    static const struct example p1 = {tintboulder_model, interface, property, model, sizeof interface, sizeof property, sizeof model, 1, {3, 10}};
+    return wrong_answers(&p1, 103456) + (tintboulder_work(3) != 103456);
 }
 
 int main(void)
@@ -96,6 +109,7 @@ int main(void)
     wrong += !refuses(tintboulder_check_interface, interface, 12, 2, 1);
     wrong += wrong_judging();
     wrong += wrong_comparing();
+    wrong += wrong_modelling();
     wrong += tintboulder_work(0) != 0;
     return wrong;
 }

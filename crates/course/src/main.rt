@@ -1,6 +1,6 @@
 // Runs the examples of data/ through the proved code, one after the other as the arguments name them. The first letter of a name tells what its file is: a graph,
-// property, rule or interface file is checked, and its line has `accepted`, nodes and records, or `refused`, number, file and record; `judge` and `compare` name a
-// call on two files, and its verdict's line is followed by the records or the relation's lines that it wrote.
+// property, rule or interface file is checked, and its line has `accepted`, nodes and records, or `refused`, number, file and record; `judge`, `compare` and
+// `model` name a call on two files, and its verdict's line is followed by the records or the relation's lines that it wrote.
 ghost use mathlib.Core.Path.{_≡_};
 ghost use Prim.Native.Nat.{_+_, _*_, _≤_, _<_};
 ghost use lib.ListN.{length};
@@ -15,6 +15,8 @@ use judging::answers::Judged;
 use judging::shape::Shape;
 use judging::sizes::Sizes;
 use libc::STDOUT_FILENO;
+use maximal::answers::Modelled;
+use maximal::places::Places;
 
 // Room for the longest example: 257 nodes or 4,097 edges with their nodes.
 const LONGEST: usize = 60000;
@@ -156,6 +158,30 @@ fn say_compared(answer: Compared, out: &[u8]) {
     }
 }
 
+// How many records so many nodes and edges are, at most all.
+fn records_of(nodes: usize, edges: usize, all: usize) -> usize
+    ensures { λ r. ⌜ r ≤ all ⌝ }
+{
+    let first = at_most(nodes, all);
+    first + at_most(edges, all - first)
+}
+
+fn say_modelled(answer: Modelled, out: &[u8]) {
+    match answer {
+        Modelled::Written(nodes, edges) => {
+            say(b": written");
+            say_number(nodes as u64);
+            say_number(edges as u64);
+            say(b"\n");
+            say_records(out, records_of(nodes, edges, out.len() / Record::LEN));
+        }
+        Modelled::Refused(r) => {
+            say_refused(r);
+            say(b"\n");
+        }
+    }
+}
+
 fn two_bytes(low: u8, high: u8) -> usize
     ensures { λ r. ⌜ r < 65536 ⌝ }
 {
@@ -171,6 +197,9 @@ fn work_length(letter: u8, flag: u8) -> usize
     }
     if letter == b'j' {
         return Shape::ROOM;
+    }
+    if letter == b'm' {
+        return Places::ROOM;
     }
     Sizes::ROOM
 }
@@ -189,6 +218,11 @@ fn call_on(
     if letter == b'j' {
         let answer = judging::judge(first, second, &mut out[..room], &mut work[..lent]);
         say_judged(answer, &out[..room]);
+        return;
+    }
+    if letter == b'm' {
+        let answer = maximal::model(first, second, &mut out[..room], &mut work[..lent]);
+        say_modelled(answer, &out[..room]);
         return;
     }
     let answer = judging::compare(first, second, &mut out[..room], &mut work[..lent]);
@@ -239,7 +273,7 @@ fn one(i: usize) {
     let n = io::read_full(fd, &mut file);
     libc::close(fd);
     say(&name[..length]);
-    if (name[0] == b'j') | (name[0] == b'c') {
+    if (name[0] == b'j') | (name[0] == b'c') | (name[0] == b'm') {
         call(name[0], &file[..n]);
         return;
     }

@@ -12,6 +12,7 @@ use Rattle.files.specs.Outcome.{Outcome, answer, out-after, work-after}
 use Rattle.files.specs.Outcome as outcome
 use Rattle.judging.specs.Compare.{compare-room}
 use Rattle.judging.specs.Judge.{judge-room}
+use Rattle.maximal.specs.Modelling.{model-room}
 use Rattle.exports.specs.declared.Answer.{Answer}
 
 -- verdict 0: the refusal's number, then file and record
@@ -40,4 +41,4 @@ pub record Gives (o : Outcome) (out work out′ work′ : List ℕ) (a : Answer)
 
 -- the published length of a call's work buffer, by the call's number
 abbrev pub work-lengths : ℕ → ℕ
-work-lengths call = cond (eqb call 1) judge-room (cond (eqb call 2) compare-room 0)
+work-lengths call = cond (eqb call 1) judge-room (cond (eqb call 2) compare-room (cond (eqb call 3) model-room 0))

@@ -6,6 +6,7 @@ ghost use Rattle.files.specs.Checking.{checked};
 ghost use lib.ListN.{length};
 ghost use Rattle.judging.specs.Judge.{judged, judged-answer};
 ghost use Rattle.judging.specs.Compare.{compared, compared-answer};
+ghost use Rattle.maximal.specs.Modelling.{modelled, modelled-answer};
 ghost use Rattle.exports.specs.Boundary.{refused-numbers, verdict-numbers, checked-numbers, answer-numbers, Gives, work-lengths};
 use files::check::Checked;
 use files::record::Limits;
@@ -14,6 +15,8 @@ use judging::answers::Compared;
 use judging::answers::Judged;
 use judging::shape::Shape;
 use judging::sizes::Sizes;
+use maximal::answers::Modelled;
+use maximal::places::Places;
 
 // Verdict 0 is a refusal: its number, file (first) and record (second). Other verdicts carry their values from first on.
 #[repr(C)]
@@ -161,7 +164,36 @@ pub extern "C" fn tintboulder_compare(
     compared_answer(judging::compare(first, second, out, work))
 }
 
-// The published length of a call's work buffer: 1 is judge, 2 compare; 0 for other numbers.
+fn modelled_answer(m: Modelled) -> Answer
+    ensures { λ a. ⌜ a ≡ answer-numbers (modelled-answer m) ⌝ }
+{
+    match m {
+        Modelled::Written(nodes, edges) => Answer {
+            verdict: 1,
+            number: 0,
+            first: nodes as u64,
+            second: edges as u64,
+            third: 0,
+            fourth: 0,
+        },
+        Modelled::Refused(r) => refused(r),
+    }
+}
+
+// The maximal model of an interface and a property: verdict 1 written, with its nodes and edges; its graph file is written to `out`.
+#[no_mangle]
+pub extern "C" fn tintboulder_model(
+    interface: &[u8],
+    property: &[u8],
+    out: &mut [u8],
+    work: &mut [u8],
+) -> Answer
+    ensures { λ a. ⌜ Gives (modelled desk (now (interface .entry)) (now (property .entry)) (length (now (out .entry))) (length (now (work .entry)))) (now (out .entry)) (now (work .entry)) (now (out .exit)) (now (work .exit)) a ⌝ }
+{
+    modelled_answer(maximal::model(interface, property, out, work))
+}
+
+// The published length of a call's work buffer: 1 is judge, 2 compare, 3 model; 0 for other numbers.
 #[no_mangle]
 pub extern "C" fn tintboulder_work(call: u64) -> u64
     ensures { λ n. ⌜ n ≡ work-lengths call ⌝ }
@@ -171,6 +203,9 @@ pub extern "C" fn tintboulder_work(call: u64) -> u64
     }
     if call == 2 {
         return Sizes::ROOM as u64;
+    }
+    if call == 3 {
+        return Places::ROOM as u64;
     }
     0
 }

@@ -2,6 +2,7 @@
 
 mod inputs;
 mod judge;
+mod model;
 mod side_by_side;
 mod simulation;
 
@@ -17,7 +18,8 @@ fn main() -> io::Result<()> {
     println!("{NOTE}");
     let judging = (compare::judge::CALL, judge::inputs()?);
     let comparing = (compare::simulation::CALL, simulation::inputs()?);
-    for (call, inputs) in [judging, comparing] {
+    let modelling = (compare::model::CALL, model::inputs()?);
+    for (call, inputs) in [judging, comparing, modelling] {
         print_header(call.name);
         for input in &inputs {
             print_line(&call, input);

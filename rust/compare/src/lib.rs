@@ -4,6 +4,7 @@ mod case;
 mod checks;
 pub mod judge;
 mod minimal;
+pub mod model;
 pub mod pairs;
 mod report;
 pub mod simulation;
@@ -13,7 +14,7 @@ use generator::generate::{Kind, Random};
 use pairs::Call;
 use tally::Tally;
 
-const CALLS: &[Call] = &[judge::CALL, simulation::CALL];
+const CALLS: &[Call] = &[judge::CALL, simulation::CALL, model::CALL];
 
 /// Prints a line for each call, or ends with the report of a difference.
 pub fn run(seed: u64, count: u64) -> Result<(), String> {

@@ -7,7 +7,7 @@ use second::record::{Limits, RECORD_LEN};
 use second::{compare, Outcome};
 
 /// The published length of comparing's work buffer.
-pub const ROOM: usize = 156_960;
+pub const ROOM: usize = 165_152;
 const LINE: usize = 32;
 const NODE: [u8; 6] = [1, 1, 0, 1, 0, 0];
 

@@ -5,6 +5,8 @@ mod cases;
 mod compared;
 mod examples;
 mod judged;
+pub mod listing;
+mod modelled;
 
 use second::files::{check_graph, check_interface, check_property, check_rules};
 use second::record::{Limits, RECORD_LEN};
@@ -33,7 +35,15 @@ pub fn examples() -> io::Result<Vec<Example>> {
     all.extend(compared::of_the_paper());
     all.extend(compared::of_lent_buffers());
     all.extend(compared::of_cases(&cases));
+    all.extend(modelled::of_the_paper());
+    all.extend(modelled::of_lent_buffers());
+    all.extend(modelled::of_cases(&cases));
     Ok(all)
+}
+
+/// What the program `listing` is run on.
+pub fn listings() -> io::Result<Vec<listing::Run>> {
+    Ok(listing::runs(&cases::read(&repository().join("cases"))?))
 }
 
 /// What the program prints of an example, as the second implementation has it.
@@ -44,6 +54,9 @@ pub fn line(example: &Example) -> String {
     }
     if name.starts_with("compare-") {
         return compared::lines(name, &calls::Call::of(bytes));
+    }
+    if name.starts_with("model-") {
+        return modelled::lines(name, &calls::Call::of(bytes));
     }
     let nodes = match name.as_bytes().first() {
         Some(b'g') => check_graph(bytes, &Limits::DESK).map(|graph| graph.nodes.len()),

@@ -4,8 +4,10 @@ mod boundary;
 mod checks;
 mod compare;
 mod judge;
+mod model;
 
 pub use boundary::{Answer, OnTwoFiles, Refusal};
 pub use checks::{check_graph, check_interface, check_property, check_rules, Accepted};
 pub use compare::{compare, Compared, COMPARE};
 pub use judge::{judge, Judged, JUDGE};
+pub use model::{model, Written, MODEL};

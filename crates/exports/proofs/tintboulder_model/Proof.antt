@@ -1,0 +1,33 @@
+use mathlib.Core.Path.{_≡_, refl, sym, ap, _∙_}
+use Rattle.exports.specs.Boundary.{answer-numbers}
+use borrow.Author.Needs.{needs}
+use Rattle.exports.proofs.tintboulder_model.Statement.{statement}
+use Rattle.exports.proofs.tintboulder_model.Tie as tie
+use Rattle.exports.proofs.tintboulder_model.Reads as reads
+use Rattle.exports.proofs.tintboulder_model.Lts as lts
+use Rattle.exports.proofs.modelled_answer.Reads as modelled-answer-reads
+use Rattle.maximal.proofs.model.Reads as model-reads
+
+-- src/lib.rt:121:19
+model-requires : tie.Need-model-requires
+model-requires c κs = search needs
+
+-- src/lib.rt:121:5
+modelled-answer-requires : tie.Need-modelled-answer-requires
+modelled-answer-requires c κs = search needs
+
+-- src/lib.rt:112:1
+same-length : tie.Need-same-length
+same-length c = search needs
+
+-- src/lib.rt:112:1
+same-length-2 : tie.Need-same-length-2
+same-length-2 c = search needs
+
+-- src/lib.rt:112:1
+returns : tie.Need-returns
+returns c = let j = c .before .before .before .before .before .model in record { numbers-are = c .modelled-answer .ensures ∙ ap answer-numbers (j .ensures .answers .answer-is); out-is = j .ensures .answers .out-is; work-is = j .ensures .work-is }
+
+pub tintboulder-model-spec : {M : Type 1} → statement M
+tintboulder-model-spec =
+    tie.close (tie.spec model-requires modelled-answer-requires same-length same-length-2 returns)

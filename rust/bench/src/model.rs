@@ -1,0 +1,26 @@
+//! What modelling is timed on: the first record of a list is the interface, the rest is the property.
+
+use crate::inputs::{cases, input, Input};
+use std::io;
+
+pub fn inputs() -> io::Result<Vec<Input>> {
+    let mut inputs = vec![
+        split("P1", P1),
+        split("336 states, refused", include_str!("../data/six-rows-336-states.txt")),
+        split("255 states, 4,091 edges", include_str!("../data/full-255-states-4091-edges.txt")),
+        split("257 states, refused", include_str!("../data/past-257-states.txt")),
+        split("4,098 edges, refused", include_str!("../data/past-4098-edges.txt")),
+        split("213 states, 12 or-rows", include_str!("../data/slow-213-states.txt")),
+    ];
+    inputs.extend(cases("interface", "property")?);
+    Ok(inputs)
+}
+
+const P1: &str = "5 1 1 0 0 0  3 7 1 3 0 0  3 9 1 2 0 0  3 2 0 0 0 0  3 5 0 0 0 0";
+
+fn split(name: &str, decimals: &str) -> Input {
+    let bytes: Vec<u8> =
+        decimals.split_whitespace().map(|field| field.parse().expect("a byte")).collect();
+    let (interface, property) = bytes.split_at(6);
+    input(name, interface.to_vec(), property.to_vec())
+}

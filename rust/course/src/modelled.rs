@@ -1,0 +1,82 @@
+//! Examples of modelling: those of the paper, its refusals, and every interface of a case study with every property of that case.
+
+use crate::calls::{decimals, example, Call};
+use crate::cases::Case;
+use crate::Example;
+use second::record::Limits;
+use second::{model, Outcome};
+
+/// The published length of modelling's work buffer.
+const ROOM: usize = 103_456;
+/// Room for every model.
+const LONG: usize = 26_112;
+type Record = [u8; 6];
+const ONE: Record = [5, 1, 0, 0, 0, 0];
+pub const ITSELF: Record = [3, 8, 0, 0, 0, 0];
+pub const FALSE: Record = [3, 2, 0, 0, 0, 0];
+pub const P1: [Record; 5] =
+    [[5, 1, 1, 0, 0, 0], [3, 7, 1, 3, 0, 0], [3, 9, 1, 2, 0, 0], FALSE, [3, 5, 0, 0, 0, 0]];
+/// Six rows whose model has 336 states with eight methods and one label.
+pub const LARGE: [Record; 7] = [
+    [5, 255, 1, 0, 0, 0],
+    [3, 9, 1, 4, 0, 0],
+    [3, 9, 1, 2, 0, 0],
+    [3, 9, 1, 5, 0, 0],
+    [3, 7, 1, 0, 0, 0],
+    [3, 8, 1, 0, 0, 0],
+    [3, 9, 1, 3, 0, 0],
+];
+
+/// The interface is the first record, the property the rest.
+fn simple(name: &str, records: &[Record]) -> Example {
+    let (interface, property) = (records[0], records[1..].concat());
+    let call = Call { first: &interface, second: &property, out_len: LONG, lends_work: true };
+    example("model", name, &call)
+}
+
+pub fn of_the_paper() -> Vec<Example> {
+    vec![
+        simple("p1-no-call-and-return", &P1),
+        simple("p2-or-of-itself", &[ONE, ITSELF]),
+        simple("p3-root-false", &[[5, 255, 255, 0, 0, 0], FALSE]),
+        simple("11-336-states", &LARGE),
+        simple("interface-refused", &[[5, 1, 0, 1, 0, 0], ITSELF]),
+        simple("property-refused", &[ONE]),
+    ]
+}
+
+pub fn of_lent_buffers() -> Vec<Example> {
+    let call = Call { first: &ONE, second: &ITSELF, out_len: 71, lends_work: true };
+    vec![
+        example("model", "12-output-of-71-bytes", &call),
+        example("model", "12-output-of-72-bytes", &Call { out_len: 72, ..call }),
+        example("model", "12-no-output-for-no-state", &Call { out_len: 0, second: &FALSE, ..call }),
+        example("model", "13-no-work-buffer", &Call { lends_work: false, ..call }),
+    ]
+}
+
+pub fn of_cases(cases: &[Case]) -> Vec<Example> {
+    let mut all = Vec::new();
+    for case in cases {
+        for (interface_name, interface) in case.files("interface") {
+            for (property_name, property) in case.files("property") {
+                let name = format!("{interface_name}-{property_name}-of-{}", case.name);
+                let call =
+                    Call { first: interface, second: property, out_len: LONG, lends_work: true };
+                all.push(example("model", &name, &call));
+            }
+        }
+    }
+    all
+}
+
+/// What the program prints of a call, as the second implementation has it.
+pub fn lines(name: &str, call: &Call) -> String {
+    let work_len = if call.lends_work { ROOM } else { 0 };
+    match model(&Limits::DESK, call.first, call.second, call.out_len, work_len, ROOM) {
+        Outcome::Refused(r) => format!("{name}: refused {} {} {}\n", r.number, r.file, r.record),
+        Outcome::Said { values, written, .. } => {
+            format!("{name}: written {} {}\n{}", values[0], values[1], decimals(&written, 6))
+        }
+    }
+}

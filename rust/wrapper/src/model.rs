@@ -1,0 +1,67 @@
+//! Modelling: the most general module that an interface and a property allow.
+
+use crate::boundary::{Answer, OnTwoFiles, Refusal};
+
+extern "C" {
+    fn tintboulder_model(
+        interface: *const u8,
+        interface_length: usize,
+        property: *const u8,
+        property_length: usize,
+        out: *mut u8,
+        out_length: usize,
+        work: *mut u8,
+        work_length: usize,
+    ) -> Answer;
+}
+
+/// Modelling as a call, for its published length and the answer as six numbers.
+// Safe: it is a function of the boundary, and 3 is its number there.
+pub const MODEL: OnTwoFiles = unsafe { OnTwoFiles::new(tintboulder_model, 3) };
+
+/// The model's graph file stands at the start of the output: 6 bytes for each node, then 6 for each edge.
+#[derive(Clone, Copy, Debug, PartialEq, Eq)]
+pub struct Written {
+    pub nodes: u64,
+    pub edges: u64,
+}
+
+/// Writes the model. The work buffer is zero afterwards, except after refusal 13.
+pub fn model(
+    interface: &[u8],
+    property: &[u8],
+    out: &mut [u8],
+    work: &mut [u8],
+) -> Result<Written, Refusal> {
+    let answer = MODEL.answer([interface, property], out, work).accepted()?;
+    Ok(Written { nodes: answer.first, edges: answer.second })
+}
+
+#[cfg(test)]
+mod tests {
+    use super::{model, Refusal, Written, MODEL};
+
+    const INTERFACE: &[u8] = &[5, 1, 0, 0, 0, 0];
+    /// Row 0 is "0 or 0", which is true everywhere.
+    const ITSELF: &[u8] = &[3, 8, 0, 0, 0, 0];
+
+    #[test]
+    fn the_model_of_true_has_four_states_and_eight_edges() {
+        let (mut out, mut work) = (vec![7; 73], vec![7; MODEL.work()]);
+        let answer = model(INTERFACE, ITSELF, &mut out, &mut work);
+        assert_eq!(answer, Ok(Written { nodes: 4, edges: 8 }));
+        assert_eq!((&out[..6], out[72]), (&[1, 1, 0, 0, 0, 0][..], 7));
+        assert!(work.iter().all(|&byte| byte == 0));
+    }
+
+    #[test]
+    fn refusals_leave_the_output() {
+        let refused = |number, file| Err(Refusal { number, file, record: 0 });
+        let (mut out, mut work) = (vec![7; 71], vec![7; MODEL.work()]);
+        assert_eq!(model(INTERFACE, ITSELF, &mut out, &mut work), refused(12, 0));
+        assert_eq!(model(INTERFACE, &[], &mut out, &mut work), refused(6, 2));
+        let short = work.len() - 1;
+        assert_eq!(model(INTERFACE, ITSELF, &mut out, &mut work[..short]), refused(13, 0));
+        assert_eq!(out, vec![7; 71]);
+    }
+}
