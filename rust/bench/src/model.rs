@@ -10,7 +10,8 @@ pub fn inputs() -> io::Result<Vec<Input>> {
         split("255 states, 4,091 edges", include_str!("../data/full-255-states-4091-edges.txt")),
         split("257 states, refused", include_str!("../data/past-257-states.txt")),
         split("4,098 edges, refused", include_str!("../data/past-4098-edges.txt")),
-        split("213 states, 12 or-rows", include_str!("../data/slow-213-states.txt")),
+        // The slowest that a climb over properties of 32 rows found.
+        split("242 states, 3,676 edges, dear", include_str!("../data/dear-242-states.txt")),
     ];
     inputs.extend(cases("interface", "property")?);
     Ok(inputs)
