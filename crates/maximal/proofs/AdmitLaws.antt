@@ -18,7 +18,7 @@ use Rattle.maximal.specs.declared.places.Scope.{Scope}
 use Rattle.maximal.specs.Charting.{Scoped, kind-at, set-at, Known, Holds, Admitted}
 use Rattle.maximal.specs.Charting.Files.{rows-fit}
 use Rattle.maximal.specs.Charting.Kept.{tables-same, holds-same}
-use Rattle.maximal.specs.Charting.Laws.{admitted-unmarked, admitted-none, admitted-both}
+use Rattle.maximal.specs.Charting.Entering.{admitted-unmarked, admitted-none, admitted-both}
 use Rattle.maximal.specs.Collected.{listed, Tables}
 use Rattle.maximal.proofs.StateLaws.{Entered}
 

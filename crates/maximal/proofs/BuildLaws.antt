@@ -10,7 +10,7 @@ use Rattle.files.specs.Checking.{checked}
 use Rattle.files.specs.Checking.Laws.{accepted-counts}
 use Rattle.files.specs.Decode.{decode-interface, decode-property, graph-bytes}
 use Rattle.files.specs.Decode.Properties.{decoded-rows, decoded-property}
-use Rattle.files.specs.Graph.{Graph, size}
+use Rattle.files.specs.Graph.{Graph}
 use Rattle.files.specs.Interface.{Interface}
 use Rattle.files.specs.Limits.{desk}
 use Rattle.files.specs.Outcome.{Answers, TooLarge, refusal-at, refused-answer, verdict-answer}
@@ -22,6 +22,7 @@ use Rattle.files.specs.declared.record.Limits.{Limits}
 use Rattle.files.specs.declared.refusal.Refusal.{Refusal}
 use Rattle.maximal.specs.declared.places.Scope.{Scope}
 use Rattle.maximal.specs.Charting.{Scoped, Crowded, Arranged}
+use Rattle.maximal.specs.Charting.Files.{file-named}
 use Rattle.maximal.specs.Charting.States.{crowded-e}
 use Rattle.maximal.specs.Collected.Search.{or-count-is}
 use Rattle.maximal.specs.Listing.{tally-upto}
@@ -50,9 +51,6 @@ scope-of L p b x a n e d =
 pub interface-file : (L : Limits) (i : List ℕ) (x : Checked) (a n : ℕ) → x ≡ checked L interface i 1 → x ≡ Accepted a n → InterfaceFile i
 interface-file L i x a n e d = record { limits = L; accepted = (accepted-counts L interface i 1 a n (sym e ∙ d)) .0 }
 
-pub named-rows : (p : List ℕ) → PropertyFile p → Property (decode-property p)
-named-rows p f = (decoded-property (f .limits) p (f .accepted)) .rows-named
-
 -- ---- the model
 
 total-few : (w : List ℕ) (c n : ℕ) → c ≤ 256 → total w c n ≤ 2304 * n
@@ -78,7 +76,7 @@ module _ (L : Limits) (i p : List ℕ) (f : PropertyFile p) (s : Scope) (states-
   G = model I P
 
   wf : Property P
-  wf = named-rows p f
+  wf = file-named p f
 
   -- too many states
   pub answers-crowded : (r : Refusal) → Crowded I P (s .states) → r ≡ refusal-at 11 0 0 → Answers (from-size L i p (length out)) out out (refused-answer r)

@@ -17,7 +17,7 @@ use Rattle.maximal.specs.declared.places.Scope.{Scope}
 use Rattle.maximal.specs.Charting.{Scoped, flag-of, state-of, Known, Admitted}
 use Rattle.maximal.specs.Charting.Entries.{EntriesBelow, entries-none, entries-more}
 use Rattle.maximal.specs.Charting.Files.{rows-is, rows-named}
-use Rattle.maximal.specs.Charting.Laws.{admitted-none}
+use Rattle.maximal.specs.Charting.Entering.{admitted-none}
 use Rattle.maximal.specs.Charting.States.{known-i, collected-entry, entry-is}
 use Rattle.maximal.specs.Collected.{supports-of, Tables}
 use Rattle.maximal.specs.Model.{at-entry, is-entry}

@@ -19,7 +19,8 @@ use Rattle.maximal.specs.declared.places.Scope.{Scope}
 use Rattle.maximal.specs.Charting.{Scoped, flag-of, kind-at, set-at, method-at, asked-at, target, earlier, Known, Crowded, Admitted, Charting, Asking}
 use Rattle.maximal.specs.Charting.Files.{rows-is, rows-fit, rows-named}
 use Rattle.maximal.specs.Charting.Kept.{tables-same, charting-same}
-use Rattle.maximal.specs.Charting.Laws.{followed-none, followed-again, followed-anew}
+use Rattle.maximal.specs.Charting.Anew.{followed-anew}
+use Rattle.maximal.specs.Charting.Slots.{followed-none, followed-again}
 use Rattle.maximal.specs.Charting.States.{known-i, collected-next}
 use Rattle.maximal.specs.Collected.{supports-of, Tables}
 use Rattle.maximal.specs.Masks.{asked-of}

@@ -11,14 +11,14 @@ use lib.ListN.{length}
 use Rattle.files.specs.Access.{PropertyFile, row-held}
 use Rattle.files.specs.Basics.Tests.{and-l, and-r}
 use Rattle.files.specs.Decode.{decode-property}
-use Rattle.files.specs.Decode.Properties.{decoded-rows, decoded-property}
-use Rattle.files.specs.Property.{Row, always, never, returns, not-returns, in-method, not-in-method, both, either, box, row, names, Property, obliged}
+use Rattle.files.specs.Property.{Row, always, never, returns, not-returns, in-method, not-in-method, both, either, box, row, names, obliged}
 use Rattle.files.specs.Record.{count}
 use Rattle.files.specs.declared.property.PropertyRow.{PropertyRow}
 use Rattle.files.specs.declared.property.RowAt.{RowAt}
 use Rattle.files.specs.declared.property.RowAt.the-variants.{Is as RowIs}
 use Rattle.judging.proofs.HeldLaws.{held-row}
 use Rattle.judging.specs.Ranking.{leaf-false}
+use Rattle.maximal.specs.Charting.Files.{file-rows, file-named}
 use Rattle.maximal.specs.Collected.{settlers}
 use Rattle.maximal.specs.Masks.{and-rows, untrue-at, obliged-rows}
 
@@ -127,15 +127,12 @@ module _ (x : RowAt) (u : PropertyRow) (v : Row) (is : x ≡ RowIs u) (holds : x
 
 module _ (p : List ℕ) (file : PropertyFile p) (n : ℕ) (n-is : n ≡ count p) where
   pub rows-are : length (decode-property p) ≡ n
-  rows-are = decoded-rows (file .limits) p (file .accepted) ∙ sym n-is
-
-  pub rows-named : Property (decode-property p)
-  rows-named = (decoded-property (file .limits) p (file .accepted)) .rows-named
+  rows-are = file-rows p file ∙ sym n-is
 
   pub names-rows : (r : ℕ) → r < n → T (names n (row (decode-property p) r))
   names-rows r h =
       subst (λ (k : ℕ). T (names k (row (decode-property p) r))) rows-are
-      (rows-named .names-rows r (omega (arith, rows-are)))
+      (file-named p file .names-rows r (omega (arith, rows-are)))
 
   -- row r, read as u
   module _ (r : ℕ) (h : r < n) (x : RowAt) (u : PropertyRow) (is : x ≡ RowIs u) (holds : x ≡ RowIs (row-held (row (decode-property p) r))) where

@@ -23,7 +23,7 @@ use Rattle.maximal.specs.Charting.{Scoped, kind-at, set-at, same-state, 
 use Rattle.maximal.specs.Charting.Files.{rows-named}
 use Rattle.maximal.specs.Charting.Kept.{off, known-same, holds-same}
 use Rattle.maximal.specs.Charting.States.{crowded}
-use Rattle.maximal.specs.Charting.Laws.{admitted-unmarked, admitted-both}
+use Rattle.maximal.specs.Charting.Entering.{admitted-unmarked, admitted-both}
 
 -- ---- the first place with a kind and a set, or with a method and what is asked for
 

@@ -14,7 +14,7 @@ use lib.Pow.{pow-lt}
 use Rattle.files.specs.Access.{PropertyFile, row-held}
 use Rattle.files.specs.Basics.Tests.{same-test, T-eq, eq-eqb, and-l, and-r, and-i, or-e, or-l, or-r}
 use Rattle.files.specs.Cells.{cell, put-cell}
-use Rattle.files.specs.Cells.Laws.{length-put-cell, cell-agree, cell-same, cell-other, cell-apart, byte-outside}
+use Rattle.files.specs.Cells.Laws.{length-put-cell, cell-same, cell-other, cell-apart, byte-outside}
 use Rattle.files.specs.Decode.{decode-property}
 use Rattle.files.specs.Property.{Row, always, never, returns, not-returns, in-method, not-in-method, both, either, box, row, names}
 use Rattle.files.specs.Record.{count}
@@ -25,12 +25,14 @@ use Rattle.judging.proofs.HeldLaws.{held-row}
 use Rattle.judging.specs.Chains.{Outside}
 use Rattle.judging.specs.Sheets.Laws.{least-at, least-none}
 use Rattle.judging.proofs.LevelLaws.{below-more}
+use Rattle.maximal.specs.Charting.Kept.{tables-same}
+use Rattle.maximal.specs.Charting.Files.{file-named}
 use Rattle.maximal.specs.Masks.{member, apart, completion}
 use Rattle.maximal.specs.Masks.Laws.{member-one, member-two, apart-e, apart-i}
 use Rattle.maximal.specs.Collected.{unsettled, settlers, first-open, operand-a, operand-b, collected, Tables}
 use Rattle.maximal.specs.Collected.Rows.{open-row}
 use Rattle.maximal.specs.Collected.Search.{open-at, first-open-is, open-le, collected-split}
-use Rattle.maximal.proofs.RowLaws.{rows-are, rows-named, names-rows}
+use Rattle.maximal.proofs.RowLaws.{rows-are, names-rows}
 
 -- ---- the tables
 
@@ -72,10 +74,7 @@ module _ (P : List Row) where
 
   -- they stand before the part that is written
   pub tables-kept : (w w′ : List ℕ) → length P ≤ 32 → Outside 87072 103456 w w′ → Tables P w → Tables P w′
-  tables-kept w w′ few o t = record {
-    closed-are = λ r h. cell-agree w′ w 0 4 r (λ q a b. o q (inl (omega arith))) ∙ t .closed-are r h;
-    settlers-are = λ r h. cell-agree w′ w 128 4 r (λ q a b. o q (inl (omega arith))) ∙ t .settlers-are r h;
-  }
+  tables-kept w w′ few o = tables-same P w w′ few (λ b l. o b (inl (omega arith)))
 
 -- ---- the lowest open row
 
@@ -156,7 +155,7 @@ module _ (p : List ℕ) (file : PropertyFile p) (n : ℕ) (n-is : n ≡ count p)
 
       operands-below : (operand-a P (first-open P s) < length P) × (operand-b P (first-open P s) < length P)
       operands-below =
-          let y = open-row P (rows-named p file n n-is) s (omega (arith, is, open-below split, rows-are p file n n-is)) in
+          let y = open-row P (file-named p file) s (omega (arith, is, open-below split, rows-are p file n n-is)) in
           (y .4, y .5)
 
       pub a-row : u .a < n

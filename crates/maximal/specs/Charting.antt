@@ -23,7 +23,9 @@ pub mod Files
 pub mod States
 pub mod Kept
 pub mod Order
-pub mod Laws
+pub mod Entering
+pub mod Anew
+pub mod Slots
 pub mod Entries
 
 -- the property is accepted, its rows are counted, and what the search may use fits the buffer

@@ -15,7 +15,7 @@ use Rattle.files.specs.Interface.{Interface}
 use Rattle.files.specs.Property.{Row, Property}
 use Rattle.maximal.specs.Charting.{kind-at, set-at, state-of, stored, method-at, target, Holds, Admitted, Charting}
 use Rattle.maximal.specs.Charting.Kept.{off}
-use Rattle.maximal.specs.Charting.Laws.{method-kept, same-place, still-there, tested}
+use Rattle.maximal.specs.Charting.Entering.{method-kept, same-place, still-there, tested}
 use Rattle.maximal.specs.Charting.States.{kind-of, kind-of-is, kind-provided, state-of-is}
 use Rattle.maximal.specs.Masks.{member}
 use Rattle.maximal.specs.Masks.Laws.{member-none, value-lt}

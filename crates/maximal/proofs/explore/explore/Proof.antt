@@ -4,7 +4,7 @@ use native.Mathlib.Omega.{arith}
 use lib.ListN.{length}
 use Rattle.files.specs.Decode.{decode-interface, decode-property}
 use Rattle.maximal.specs.Charting.Files.{rows-named}
-use Rattle.maximal.specs.Charting.Laws.{charted}
+use Rattle.maximal.specs.Charting.Slots.{charted}
 use Rattle.maximal.proofs.EntryLaws.{zeros-outside}
 use Rattle.maximal.proofs.ExploreLaws.{worked-all, Working, working-on}
 use Rattle.maximal.proofs.explore.explore.Statement.{statement}

@@ -6,8 +6,9 @@ use lib.Dec.{eqb}
 use lib.ListN.{length}
 use borrow.Author.Tests.{eqb-true, eqb-false, not-true, not-false}
 use Rattle.files.specs.Decode.{decode-property}
+use Rattle.maximal.specs.Charting.Files.{file-named}
 use Rattle.maximal.proofs.CompleteLaws.{Completing, completing-none, some-left, next-row, less-left, completing-on, completing-all}
-use Rattle.maximal.proofs.RowLaws.{rows-are, rows-named}
+use Rattle.maximal.proofs.RowLaws.{rows-are}
 use Rattle.maximal.proofs.masks.complete.Statement.{statement}
 use Rattle.maximal.proofs.masks.complete.Tie as tie
 
@@ -65,7 +66,7 @@ loop-again c =
     let l = c .before .before .before .before .loop in
     let P = decode-property (k .args .property .now) in
     let h = c .before .before .highest in
-    completing-on P (k .args .set) (l .all) (l .done) (l .inv) (h .result) (h .ensures .0) (h .ensures .1) (rows-named (k .args .property .now) (k .pre .0) (k .args .n) (k .pre .1 .0) .names-rows (h .result) (next-row P (k .args .set) (l .all) (l .done) (l .inv) (h .result) (h .ensures .0) (h .ensures .1))) (c .and-rows .result) (c .before .one-row .result) (c .and-rows .ensures) (c .before .one-row .ensures)
+    completing-on P (k .args .set) (l .all) (l .done) (l .inv) (h .result) (h .ensures .0) (h .ensures .1) (file-named (k .args .property .now) (k .pre .0) .names-rows (h .result) (next-row P (k .args .set) (l .all) (l .done) (l .inv) (h .result) (h .ensures .0) (h .ensures .1))) (c .and-rows .result) (c .before .one-row .result) (c .and-rows .ensures) (c .before .one-row .ensures)
 
 -- src/masks.rt:57:1
 returns : tie.Need-returns Inv-loop μ-loop

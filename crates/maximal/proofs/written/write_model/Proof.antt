@@ -1,11 +1,8 @@
 use mathlib.Core.Path.{_≡_, subst, _∙_}
-use mathlib.Core.List.{List}
 use Prim.Native.Nat.{ℕ, _-_, _≤_}
 use native.Mathlib.Omega.{arith}
-use Rattle.files.specs.Access.{PropertyFile}
 use Rattle.files.specs.Decode.{decode-interface, decode-property}
-use Rattle.files.specs.Decode.Properties.{decoded-property}
-use Rattle.files.specs.Property.{Property}
+use Rattle.maximal.specs.Charting.Files.{file-named}
 use Rattle.maximal.specs.Listing.Laws.{edges-bytes, model-edges-many}
 use Rattle.maximal.proofs.WrittenLaws.{Wrote, wrote-none, state-on, state-fits, model-end}
 use Rattle.maximal.proofs.written.write_model.Statement.{statement}
@@ -14,9 +11,6 @@ use Rattle.maximal.proofs.written.write_model.Reads as reads
 use Rattle.maximal.proofs.written.write_model.Lts as lts
 use Rattle.maximal.proofs.written.write_from.Reads as write-from-reads
 use Rattle.maximal.proofs.written.write_nodes.Reads as write-nodes-reads
-
-is-property : (p : List ℕ) → PropertyFile p → Property (decode-property p)
-is-property p x = (decoded-property (x .limits) p (x .accepted)) .rows-named
 
 abbrev Inv-loop : tie.InvT-loop
 Inv-loop interface property work out₀ c edges i₀ end₀ out i end = (i ≤ c) × Wrote out₀ out c end (edges-bytes work c i)
@@ -37,7 +31,7 @@ write-from-requires : tie.Need-write-from-requires Inv-loop μ-loop
 write-from-requires c κs = let a = c .before .before .before .before .before .before .before .before .before .before .before .args in
     let p = c .before .before .before .before .before .before .before .before .before .before .before .pre in
     let l = c .before .before .loop in
-    let many = model-edges-many (decode-interface (a .interface .now)) (decode-property (a .property .now)) (is-property (a .property .now) (p .0)) (a .c) (a .work .now) (p .1 .1 .0) in
+    let many = model-edges-many (decode-interface (a .interface .now)) (decode-property (a .property .now)) (file-named (a .property .now) (p .0)) (a .c) (a .work .now) (p .1 .1 .0) in
     (c .before .loop-test .taken, (p .1 .1 .0 .charted .holds .few, (p .1 .0, state-fits (a .work .now) (a .c) (c .before .before .before .before .before .write-nodes .last .1 .0) (l .out) (l .i) (l .end) (l .inv .1) (c .before .loop-test .taken) (omega (arith, p .1 .1 .1 .0, p .1 .1 .1 .1, c .before .before .before .before .before .write-nodes .kept .1 .0, many)))))
 
 -- src/written.rt:151:9
@@ -65,7 +59,7 @@ returns c = let a = c .before .before .before .before .before .before .before .b
     let p = c .before .before .before .before .before .before .before .before .before .before .pre in
     let l = c .before .loop in
     let e : l .i ≡ a .c = omega (arith, c .loop-test .left, l .inv .0) in
-    model-end (a .work .now) (decode-interface (a .interface .now)) (decode-property (a .property .now)) (a .c) (l .end) (a .out .now) (c .before .before .before .before .write-nodes .last .1 .0) (l .out) (is-property (a .property .now) (p .0)) (p .1 .1 .0) (c .before .before .before .before .write-nodes .ensures)
+    model-end (a .work .now) (decode-interface (a .interface .now)) (decode-property (a .property .now)) (a .c) (l .end) (a .out .now) (c .before .before .before .before .write-nodes .last .1 .0) (l .out) (file-named (a .property .now) (p .0)) (p .1 .1 .0) (c .before .before .before .before .write-nodes .ensures)
     (subst (λ (n : ℕ). Wrote (c .before .before .before .before .write-nodes .last .1 .0) (l .out) (a .c) (l .end) (edges-bytes (a .work .now) (a .c) n)) e (l .inv .1))
 
 pub write-model-spec : {M : Type 1} → statement M
