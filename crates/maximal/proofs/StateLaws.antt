@@ -19,17 +19,13 @@ use Rattle.judging.specs.Chains.{Outside}
 use Rattle.judging.specs.Sheets.Laws.{least-at, least-none}
 use Rattle.judging.proofs.CauseLaws.{none-on}
 use Rattle.maximal.specs.declared.places.Scope.{Scope}
-use Rattle.maximal.specs.Charting.{Scoped, kind-at, set-at, same-state, found, target, Elsewhere, Known, Holds, Crowded, Admitted}
+use Rattle.maximal.specs.Charting.{is-pair, Scoped, kind-at, set-at, same-state, found, target, Elsewhere, Known, Holds, Crowded, Admitted}
 use Rattle.maximal.specs.Charting.Files.{rows-named}
 use Rattle.maximal.specs.Charting.Kept.{off, known-same, holds-same}
 use Rattle.maximal.specs.Charting.States.{crowded}
 use Rattle.maximal.specs.Charting.Entering.{admitted-unmarked, admitted-both}
 
 -- ---- the first place with a kind and a set, or with a method and what is asked for
-
--- a byte and a number of four bytes, in two regions
-abbrev pub is-pair : List ℕ → ℕ → ℕ → ℕ → ℕ → ℕ → Bool
-is-pair w a b kind set i = eqb (cell w a 1 i) kind && eqb (cell w b 4 i) set
 
 module _ (w : List ℕ) (a b kind set n i : ℕ) (none : (j : ℕ) → j < i → T (not (is-pair w a b kind set j))) where
   module _ (x y : ℕ) (is-x : x ≡ cell w a 1 i) (is-y : y ≡ cell w b 4 i) where

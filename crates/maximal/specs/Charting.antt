@@ -56,9 +56,13 @@ state-of n kind k = record { method = kind / 2; flag = flag-of kind; rows = rows
 abbrev pub stored : ℕ → List ℕ → ℕ → State
 stored n w i = state-of n (kind-at w i) (set-at w i)
 
+-- place i has this byte from a on and this set from b on
+abbrev pub is-pair : List ℕ → ℕ → ℕ → ℕ → ℕ → ℕ → Bool
+is-pair w a b byte set i = eqb (cell w a 1 i) byte && eqb (cell w b 4 i) set
+
 -- state i has this kind and set
 abbrev pub same-state : List ℕ → ℕ → ℕ → ℕ → Bool
-same-state w kind set i = eqb (kind-at w i) kind && eqb (set-at w i) set
+same-state w kind set i = is-pair w 256 512 kind set i
 
 -- the state with this kind and set among the first c, or c
 abbrev pub found : List ℕ → ℕ → ℕ → ℕ → ℕ
@@ -77,7 +81,7 @@ target w p t = has-bit w 13312 (256 * p + t)
 
 -- the first slot below q with this method that asks for this set, or q
 abbrev pub earlier : List ℕ → ℕ → ℕ → ℕ → ℕ
-earlier w q method set = least (λ p. eqb (method-at w p) method && eqb (asked-at w p) set) q
+earlier w q method set = least (is-pair w 1792 4096 method set) q
 
 -- the number of the state that stands k-th
 abbrev pub order-at : List ℕ → ℕ → ℕ

@@ -9,12 +9,13 @@ ghost use Rattle.files.specs.Interface.{requires-method};
 ghost use Rattle.files.specs.Access.{InterfaceFile};
 ghost use Rattle.files.specs.Decode.{decode-interface, decode-property};
 ghost use Rattle.judging.specs.Chains.{Outside};
-ghost use Rattle.maximal.specs.Charting.{Scoped, earlier, target, Crowded, Charting, Asking, Charted};
+ghost use Rattle.maximal.specs.Charting.{Scoped, target, Crowded, Charting, Asking, Charted};
 ghost use Rattle.maximal.specs.Collected.{Tables};
 use crate::masks::asked;
 use crate::places::Places;
 use crate::places::Scope;
 use crate::states::admit;
+use crate::states::find_pair;
 use crate::supports::tabulate;
 use files::cells::get8;
 use files::cells::get32;
@@ -49,21 +50,6 @@ fn enter_entries(interface: &[u8], property: &[u8], s: Scope, work: &mut [u8]) -
         kind += 1;
     }
     c
-}
-
-// The first slot below q with this method that asks for this set, or q.
-fn find_earlier(work: &[u8], q: usize, method: u8, set: u32) -> usize
-    requires { ⌜ (q ≤ 2304) × (103456 ≤ length (now work)) ⌝ }
-    ensures { λ t. ⌜ t ≡ earlier (now (work .entry)) q method set ⌝ }
-{
-    let mut p = 0;
-    while p < q {
-        if (get8(work, Places::METHODS, p) == method) & (get32(work, Places::ASKED, p) == set) {
-            return p;
-        }
-        p += 1;
-    }
-    p
 }
 
 // Row q becomes as row p.
@@ -119,7 +105,8 @@ fn follow(
     let q = 9 * i + (label as usize);
     let method = get8(work, Places::KINDS, i) / 2;
     let set = asked(property, s.rows, get32(work, Places::SETS, i), label);
-    let p = find_earlier(work, q, method, set);
+    // The first slot below q with this method that asks for this set, or q.
+    let p = find_pair(work, Places::METHODS, Places::ASKED, q, method, set);
     put8(work, Places::METHODS, q, method);
     put32(work, Places::ASKED, q, set);
     if p < q {

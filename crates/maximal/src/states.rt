@@ -2,12 +2,12 @@
 // once the minimal supports of a set of rows are entered, or that the model has too many states.
 ghost use mathlib.Core.Path.{_≡_};
 ghost use mathlib.Core.List.{List·Memᴰ, [], _∷_};
-ghost use Prim.Native.Nat.{ℕ, _+_, _/_, _%_, _^_, _≤_, _<_};
+ghost use Prim.Native.Nat.{ℕ, _+_, _*_, _/_, _%_, _^_, _≤_, _<_};
 ghost use lib.ListN.{length};
-ghost use Rattle.files.specs.Access.{InterfaceFile};
+ghost use Rattle.files.specs.Basics.Least.{least};
 ghost use Rattle.files.specs.Decode.{decode-interface, decode-property};
 ghost use Rattle.judging.specs.Chains.{Outside};
-ghost use Rattle.maximal.specs.Charting.{Scoped, flag-of, found, Known, Holds, Crowded, Admitted};
+ghost use Rattle.maximal.specs.Charting.{Scoped, flag-of, is-pair, Known, Holds, Crowded, Admitted};
 ghost use Rattle.maximal.specs.Collected.{Tables, listed, supports-of};
 use crate::places::Places;
 use crate::places::Scope;
@@ -18,14 +18,21 @@ use files::cells::put_bit;
 use files::cells::put8;
 use files::cells::put32;
 
-// The number of the state with this kind and set among the first c, or c.
-fn find(work: &[u8], c: usize, kind: u8, set: u32) -> usize
-    requires { ⌜ (c ≤ 256) × (103456 ≤ length (now work)) ⌝ }
-    ensures { λ t. ⌜ t ≡ found (now (work .entry)) c kind set ⌝ }
+// The first of n places that has this byte among those from `bytes` on and this set among those from `sets` on, or n.
+pub(crate) fn find_pair(
+    work: &[u8],
+    bytes: usize,
+    sets: usize,
+    n: usize,
+    byte: u8,
+    set: u32,
+) -> usize
+    requires { ⌜ (bytes + n ≤ length (now work)) × (sets + 4 * n ≤ length (now work)) ⌝ }
+    ensures { λ t. ⌜ t ≡ least (is-pair (now (work .entry)) bytes sets byte set) n ⌝ }
 {
     let mut i = 0;
-    while i < c {
-        if (get8(work, Places::KINDS, i) == kind) & (get32(work, Places::SETS, i) == set) {
+    while i < n {
+        if (get8(work, bytes, i) == byte) & (get32(work, sets, i) == set) {
             return i;
         }
         i += 1;
@@ -47,7 +54,7 @@ fn enter(
     requires { ⌜ (Scoped s (now property)) × ((q ≤ 2304) × ((c ≤ s .states) × ((103456 ≤ length (now work)) × ((Holds (decode-interface (now interface)) (decode-property (now property)) c (now work)) × (Known (decode-interface (now interface)) (decode-property (now property)) kind set))))) ⌝ }
     ensures { λ t. ⌜ (t ≤ s .states → (Admitted (decode-interface (now (interface .entry))) (decode-property (now (property .entry))) c t kind (set ∷ []) q (now (work .entry)) (now (work .exit))) × (Outside 256 87072 (now (work .entry)) (now (work .exit)))) × ((t ≤ s .states + 1) × (s .states < t → Crowded (decode-interface (now (interface .entry))) (decode-property (now (property .entry))) (s .states))) ⌝ }
 {
-    let t = find(work, c, kind, set);
+    let t = find_pair(work, Places::KINDS, Places::SETS, c, kind, set);
     if t < c {
         put_bit(work, Places::TARGETS, 256 * q + t);
         return c;

@@ -40,8 +40,8 @@ asked-requires c κs =
     (k .pre .1 .0 .file, (k .pre .1 .0 .rows-are, (k .pre .1 .0 .few-rows, stored-fits (a .s) (decode-interface (a .interface .now)) (a .property .now) (k .pre .1 .0) (a .i) (a .label) (a .c) (a .work .now) (k .pre .1 .1 .0) (k .pre .1 .1 .1 .0) (k .pre .1 .1 .1 .1 .0) (k .pre .1 .1 .1 .1 .1 .0) (k .pre .1 .1 .1 .1 .1 .1 .0) (k .pre .1 .1 .1 .1 .1 .1 .1) (c .before .before .before .before .before .is-label .result) (c .before .before .before .before .before .is-label .ensures) (c .get32 .result) (c .get32 .ensures))))
 
 -- src/explore.rt:122:9
-find-earlier-requires : tie.Need-find-earlier-requires
-find-earlier-requires c κs = search needs
+find-pair-requires : tie.Need-find-pair-requires
+find-pair-requires c κs = search needs
 
 -- src/explore.rt:123:5
 put8-requires : tie.Need-put8-requires
@@ -70,7 +70,7 @@ returns-2 c =
     let r = c .before .before .copy-row in
     worked-again (a .s) (decode-interface (a .interface .now)) (a .property .now) (k .pre .1 .0) (a .i) (a .label) (a .c) (a .work .now) (k .pre .1 .1 .0) (k .pre .1 .1 .1 .0) (k .pre .1 .1 .1 .1 .0) (k .pre .1 .1 .1 .1 .1 .0) (k .pre .1 .1 .1 .1 .1 .1 .0) (k .pre .1 .1 .1 .1 .1 .1 .1) (c .before .before .before .before .before .before .before .before .before .before .before .before .before .before .before .before .before .before .before .before .before .is-label .result) (c .before .before .before .before .before .before .before .before .before .before .before .before .before .before .before .before .before .before .before .before .before .is-label .ensures) (c .before .before .before .before .before .before .before .before .before .before .before .before .before .before .before .before .before .before .before .before .if1 .left) (c .before .before .before .before .before .before .before .before .before .before .before .before .before .before .before .before .before .before .get8 .result) (c .before .before .before .before .before .before .before .before .before .before .before .before .before .before .before .before .get32 .result) (c .before .before .before .before .before .before .before .before .before .before .before .before .before .before .before .asked .result) (c .before .before .before .before .before .before .before .before .before .before .before .before .before .before .before .before .before .before .get8 .ensures) (c .before .before .before .before .before .before .before .before .before .before .before .before .before .before .before .before .get32 .ensures) (c .before .before .before .before .before .before .before .before .before .before .before .before .before .before .before .asked .ensures) (omega (arith, c .before .before .before .before .before .before .before .before .before .before .before .before .before .before .before .asked .ok))
     (c .before .before .before .before .before .before .before .before .before .before .before .put8 .last .0) (c .before .before .before .before .before .before .before .put32 .last .0) (c .before .before .before .before .before .before .before .before .before .before .before .put8 .ensures) (c .before .before .before .before .before .before .before .put32 .ensures)
-    (c .before .before .before .before .before .before .before .before .before .before .before .before .before .find-earlier .result) (c .before .before .before .before .before .before .before .before .before .before .before .before .before .find-earlier .ensures) (c .before .before .before .before .if2 .taken) (r .last .0) (r .ensures .0) (r .ensures .1)
+    (c .before .before .before .before .before .before .before .before .before .before .before .before .before .find-pair .result) (c .before .before .before .before .before .before .before .before .before .before .before .before .before .find-pair .ensures) (c .before .before .before .before .if2 .taken) (r .last .0) (r .ensures .0) (r .ensures .1)
 
 -- src/explore.rt:129:5
 follow-anew-requires : tie.Need-follow-anew-requires
@@ -110,7 +110,7 @@ follow-spec =
     get8-requires
     get32-requires
     asked-requires
-    find-earlier-requires
+    find-pair-requires
     put8-requires
     put32-requires
     copy-row-requires

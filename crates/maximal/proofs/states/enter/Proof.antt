@@ -6,8 +6,8 @@ use Rattle.maximal.proofs.states.enter.Statement.{statement}
 use Rattle.maximal.proofs.states.enter.Tie as tie
 
 -- src/states.rt:50:9
-find-requires : tie.Need-find-requires
-find-requires c κs = search needs
+find-pair-requires : tie.Need-find-pair-requires
+find-pair-requires c κs = search needs
 
 -- src/states.rt:52:40
 mul-put-bit : tie.Need-mul-put-bit
@@ -30,7 +30,7 @@ returns : tie.Need-returns
 returns c =
     let k = c .before .before .before .before .before .before .before .before .before .before in
     let a = k .args in
-    let f = c .before .before .before .before .before .find in
+    let f = c .before .before .before .before .before .find-pair in
     entered-again (a .s) (decode-interface (a .interface .now)) (a .property .now) (k .pre .0) (a .q) (a .c) (a .kind) (a .set) (a .work .now) (k .pre .1 .0) (k .pre .1 .1 .0) (k .pre .1 .1 .1 .0) (k .pre .1 .1 .1 .1 .0) (k .pre .1 .1 .1 .1 .1) (f .result) (f .ensures) (c .before .before .before .before .if1 .taken) (c .before .before .put-bit .last .0) (c .before .before .put-bit .ensures)
 
 -- src/states.rt:56:16
@@ -46,7 +46,7 @@ returns-2 : tie.Need-returns-2
 returns-2 c =
     let k = c .before .before .before .before .before .before .before .before in
     let a = k .args in
-    let f = c .before .before .before .find in
+    let f = c .before .before .before .find-pair in
     entered-past (a .s) (decode-interface (a .interface .now)) (a .property .now) (k .pre .0) (a .q) (a .c) (a .kind) (a .set) (a .work .now) (k .pre .1 .0) (k .pre .1 .1 .0) (k .pre .1 .1 .1 .0) (k .pre .1 .1 .1 .1 .0) (k .pre .1 .1 .1 .1 .1) (f .result) (f .ensures) (λ h. omega (arith, h, c .before .before .if1 .left)) (c .if2 .taken)
 
 -- src/states.rt:58:5
@@ -82,7 +82,7 @@ returns-3 : tie.Need-returns-3
 returns-3 c =
     let k = c .before .before .before .before .before .before .before .before .before .before .before .before .before .before .before .before .before .before .before .before in
     let a = k .args in
-    let f = c .before .before .before .before .before .before .before .before .before .before .before .before .before .before .before .find in
+    let f = c .before .before .before .before .before .before .before .before .before .before .before .before .before .before .before .find-pair in
     entered-new (a .s) (decode-interface (a .interface .now)) (a .property .now) (k .pre .0) (a .q) (a .c) (a .kind) (a .set) (a .work .now) (k .pre .1 .0) (k .pre .1 .1 .0) (k .pre .1 .1 .1 .0) (k .pre .1 .1 .1 .1 .0) (k .pre .1 .1 .1 .1 .1) (f .result) (f .ensures) (λ h. omega (arith, h, c .before .before .before .before .before .before .before .before .before .before .before .before .before .before .if1 .left)) (c .before .before .before .before .before .before .before .before .before .before .before .before .if2 .left) (omega arith)
     (c .before .before .before .before .before .before .before .before .before .before .put8 .last .0) (c .before .before .before .before .before .before .put32 .last .0) (c .before .before .put-bit2 .last .0) (c .before .before .before .before .before .before .before .before .before .before .put8 .ensures) (c .before .before .before .before .before .before .put32 .ensures) (c .before .before .put-bit2 .ensures)
 
@@ -90,7 +90,7 @@ pub enter-spec : {M : Type 1} → statement M
 enter-spec =
     tie.close
     (tie.spec
-    find-requires
+    find-pair-requires
     mul-put-bit
     add-put-bit
     put-bit-requires

@@ -2,15 +2,16 @@ use mathlib.Core.Bool.{not}
 use Prim.Native.Nat.{ℕ, _-_, _≤_, _<_}
 use native.Mathlib.Omega.{arith}
 use lib.Dec.{T}
-use Rattle.maximal.proofs.StateLaws.{is-pair, pair-at, pair-past, pair-none}
-use Rattle.maximal.proofs.states.find.Statement.{statement}
-use Rattle.maximal.proofs.states.find.Tie as tie
+use Rattle.maximal.specs.Charting.{is-pair}
+use Rattle.maximal.proofs.StateLaws.{pair-at, pair-past, pair-none}
+use Rattle.maximal.proofs.states.find_pair.Statement.{statement}
+use Rattle.maximal.proofs.states.find_pair.Tie as tie
 
 abbrev Inv-loop : tie.InvT-loop
-Inv-loop work c kind set i₀ i = (i ≤ c) × ((j : ℕ) → j < i → T (not (is-pair work 256 512 kind set j)))
+Inv-loop work bytes sets n byte set i₀ i = (i ≤ n) × ((j : ℕ) → j < i → T (not (is-pair work bytes sets byte set j)))
 
 abbrev μ-loop : tie.MeasureT-loop
-μ-loop work c kind set i₀ i = c - i
+μ-loop work bytes sets n byte set i₀ i = n - i
 
 -- src/states.rt:27:5
 loop-holds : tie.Need-loop-holds Inv-loop μ-loop
@@ -31,7 +32,7 @@ returns c =
     let l = c .before .before .before .before .loop in
     let x = c .before .before .get8 in
     let y = c .before .get32 in
-    pair-at (a .work .now) 256 512 (a .kind) (a .set) (a .c) (l .i) (l .inv .1) (x .result) (y .result) (x .ensures) (y .ensures) (c .if1 .taken) (c .before .before .before .loop-test .taken)
+    pair-at (a .work .now) (a .bytes) (a .sets) (a .byte) (a .set) (a .n) (l .i) (l .inv .1) (x .result) (y .result) (x .ensures) (y .ensures) (c .if1 .taken) (c .before .before .before .loop-test .taken)
 
 -- src/states.rt:31:9
 add-i : tie.Need-add-i Inv-loop μ-loop
@@ -48,17 +49,17 @@ loop-again c =
     let l = c .before .before .before .before .loop in
     let x = c .before .before .get8 in
     let y = c .before .get32 in
-    (omega (arith, c .before .before .before .loop-test .taken), pair-past (a .work .now) 256 512 (a .kind) (a .set) (a .c) (l .i) (l .inv .1) (x .result) (y .result) (x .ensures) (y .ensures) (c .if1 .left))
+    (omega (arith, c .before .before .before .loop-test .taken), pair-past (a .work .now) (a .bytes) (a .sets) (a .byte) (a .set) (a .n) (l .i) (l .inv .1) (x .result) (y .result) (x .ensures) (y .ensures) (c .if1 .left))
 
 -- src/states.rt:22:1
 returns-2 : tie.Need-returns-2 Inv-loop μ-loop
 returns-2 c =
     let a = c .before .before .before .args in
     let l = c .before .loop in
-    pair-none (a .work .now) 256 512 (a .kind) (a .set) (a .c) (l .i) (l .inv .1) (l .inv .0) (λ h. omega (arith, h, c .loop-test .left))
+    pair-none (a .work .now) (a .bytes) (a .sets) (a .byte) (a .set) (a .n) (l .i) (l .inv .1) (l .inv .0) (λ h. omega (arith, h, c .loop-test .left))
 
-pub find-spec : {M : Type 1} → statement M
-find-spec =
+pub find-pair-spec : {M : Type 1} → statement M
+find-pair-spec =
     tie.close
     (tie.spec
     Inv-loop
