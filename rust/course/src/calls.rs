@@ -1,6 +1,7 @@
 //! A call on two files as one file that the program reads: the first file's length and the output's length, two bytes each, low byte first, whether a work buffer
 //! is lent, 0, then both files.
 
+use crate::cases::Case;
 use crate::Example;
 
 #[derive(Clone, Copy)]
@@ -24,6 +25,24 @@ pub fn example(verb: &str, name: &str, call: &Call) -> Example {
     let header = [first_len, out_len, [u8::from(call.lends_work), 0]].concat();
     let bytes = [&header, call.first, call.second].concat();
     Example { name: format!("{verb}-{name}.bin"), bytes }
+}
+
+/// Every file of the first kind with every file of the second, in each case study.
+pub fn of_pairs(
+    cases: &[Case],
+    [first, second]: [&str; 2],
+    example: fn(&str, &[u8], &[u8]) -> Example,
+) -> Vec<Example> {
+    let mut all = Vec::new();
+    for case in cases {
+        for (first_name, first) in case.files(first) {
+            for (second_name, second) in case.files(second) {
+                let name = format!("{first_name}-{second_name}-of-{}", case.name);
+                all.push(example(&name, first, second));
+            }
+        }
+    }
+    all
 }
 
 /// Bytes as decimals, so many to a line.

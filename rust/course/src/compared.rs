@@ -1,6 +1,6 @@
 //! Examples of comparing: those of the paper, its refusals, and every two graphs of a case study, each way.
 
-use crate::calls::{example, Call};
+use crate::calls::{example, of_pairs, Call};
 use crate::cases::Case;
 use crate::Example;
 use second::record::{Limits, RECORD_LEN};
@@ -23,7 +23,7 @@ fn simple(name: &str, first: &[u8], second: &[u8]) -> Example {
 
 pub fn of_the_paper() -> Vec<Example> {
     let self_loop = [NODE, [2, 0, 0, 0, 0, 0]].concat();
-    let cycle = [NODE, [1, 1, 0, 0, 0, 0], [2, 0, 0, 1, 0, 0], [2, 1, 0, 0, 0, 0]].concat();
+    let cycle = [NODE, NODE, [2, 0, 0, 1, 0, 0], [2, 1, 0, 0, 0, 0]].concat();
     vec![
         simple("p8-cycle-by-self-loop", &cycle, &self_loop),
         simple("p8-self-loop-by-cycle", &self_loop, &cycle),
@@ -48,16 +48,7 @@ pub fn of_lent_buffers() -> Vec<Example> {
 }
 
 pub fn of_cases(cases: &[Case]) -> Vec<Example> {
-    let mut all = Vec::new();
-    for case in cases {
-        for (first_name, first) in case.files("graph") {
-            for (second_name, second) in case.files("graph") {
-                let name = format!("{first_name}-{second_name}-of-{}", case.name);
-                all.push(simple(&name, first, second));
-            }
-        }
-    }
-    all
+    of_pairs(cases, ["graph", "graph"], simple)
 }
 
 /// What the program prints of a call, as the second implementation has it.

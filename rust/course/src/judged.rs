@@ -1,6 +1,6 @@
 //! Examples of judging: those of the paper, its refusals, and every graph of a case study with every property of that case.
 
-use crate::calls::{decimals, example, Call};
+use crate::calls::{decimals, example, of_pairs, Call};
 use crate::cases::Case;
 use crate::Example;
 use second::record::Limits;
@@ -15,13 +15,14 @@ const NOT_RETURN: [u8; 6] = [3, 6, 0, 0, 0, 0];
 /// Room for the longest sheet of these examples.
 const LONG: usize = 60_000;
 
+/// A call with room for all that it writes.
+fn whole(name: &str, graph: &[u8], property: &[u8]) -> Example {
+    let call = Call { first: graph, second: property, out_len: LONG, lends_work: true };
+    example("judge", name, &call)
+}
+
 fn simple(name: &str, graph: &[[u8; 6]], property: &[[u8; 6]]) -> Example {
-    let (graph, property) = (graph.concat(), property.concat());
-    example(
-        "judge",
-        name,
-        &Call { first: &graph, second: &property, out_len: LONG, lends_work: true },
-    )
+    whole(name, &graph.concat(), &property.concat())
 }
 
 pub fn of_the_paper() -> Vec<Example> {
@@ -55,17 +56,7 @@ pub fn of_lent_buffers() -> Vec<Example> {
 }
 
 pub fn of_cases(cases: &[Case]) -> Vec<Example> {
-    let mut all = Vec::new();
-    for case in cases {
-        for (graph_name, graph) in case.files("graph") {
-            for (property_name, property) in case.files("property") {
-                let name = format!("{graph_name}-{property_name}-of-{}", case.name);
-                let call = Call { first: graph, second: property, out_len: LONG, lends_work: true };
-                all.push(example("judge", &name, &call));
-            }
-        }
-    }
-    all
+    of_pairs(cases, ["graph", "property"], whole)
 }
 
 /// What the program prints of a call, as the second implementation has it.

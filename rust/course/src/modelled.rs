@@ -1,6 +1,6 @@
 //! Examples of modelling: those of the paper, its refusals, and every interface of a case study with every property of that case.
 
-use crate::calls::{decimals, example, Call};
+use crate::calls::{decimals, example, of_pairs, Call};
 use crate::cases::Case;
 use crate::Example;
 use second::record::Limits;
@@ -27,11 +27,15 @@ pub const LARGE: [Record; 7] = [
     [3, 9, 1, 3, 0, 0],
 ];
 
+/// A call with room for every model.
+fn whole(name: &str, interface: &[u8], property: &[u8]) -> Example {
+    let call = Call { first: interface, second: property, out_len: LONG, lends_work: true };
+    example("model", name, &call)
+}
+
 /// The interface is the first record, the property the rest.
 fn simple(name: &str, records: &[Record]) -> Example {
-    let (interface, property) = (records[0], records[1..].concat());
-    let call = Call { first: &interface, second: &property, out_len: LONG, lends_work: true };
-    example("model", name, &call)
+    whole(name, &records[0], &records[1..].concat())
 }
 
 pub fn of_the_paper() -> Vec<Example> {
@@ -56,18 +60,7 @@ pub fn of_lent_buffers() -> Vec<Example> {
 }
 
 pub fn of_cases(cases: &[Case]) -> Vec<Example> {
-    let mut all = Vec::new();
-    for case in cases {
-        for (interface_name, interface) in case.files("interface") {
-            for (property_name, property) in case.files("property") {
-                let name = format!("{interface_name}-{property_name}-of-{}", case.name);
-                let call =
-                    Call { first: interface, second: property, out_len: LONG, lends_work: true };
-                all.push(example("model", &name, &call));
-            }
-        }
-    }
-    all
+    of_pairs(cases, ["interface", "property"], whole)
 }
 
 /// What the program prints of a call, as the second implementation has it.
