@@ -65,7 +65,7 @@ fn copy_row(work: &mut [u8], p: usize, q: usize)
     }
 }
 
-// Enters what follows by slot q, whose state has this method and asks for this set: as an earlier slot, or anew with either flag.
+// Enters what follows by slot q, whose state has this method and asks for this set, with either flag.
 fn follow_anew(
     interface: &[u8],
     property: &[u8],
