@@ -1,8 +1,8 @@
--- For the code that builds images and narrows by them: an edge as the code holds it, the part of the buffer that is cleared, a row that is copied, and a walk along the
--- edges into a node.
+-- For the code that builds images and narrows by them: an edge as the code holds it, the part of the buffer that is cleared, a row that is copied, and walks along the
+-- edges into a node of either graph.
 use mathlib.Core.Path.{_≡_, refl, sym, ap, subst, _∙_}
 use mathlib.Core.Logic.{inl, inr}
-use mathlib.Core.Bool.{Bool, true, false, not, cond}
+use mathlib.Core.Bool.{Bool, true, false, not}
 use mathlib.Core.List.{List, _++_, append-assoc}
 use Prim.Native.Nat.{ℕ, _+_, _*_, _-_, _/_, _≤_, _<_}
 use native.Mathlib.Decide.{ℕ-discrete}
@@ -19,25 +19,20 @@ use Rattle.files.specs.Decode.{decode-graph}
 use Rattle.files.specs.Graph.{Graph, size}
 use Rattle.files.specs.declared.graph.GraphEdge.{GraphEdge}
 use Rattle.judging.specs.declared.sizes.Sizes.{Sizes}
-use Rattle.judging.specs.Chains.{Outside, into}
-use Rattle.judging.specs.Refinement.{Both, code, rel, image, held, edge, dropped, tail-after, image-after, Imaged, RowHeld, Refining, Shrank, Matched, NodeMatched, Settling}
+use Rattle.judging.specs.Chains.{Chained, Outside, into, last-where}
+use Rattle.judging.specs.Chains.Laws.{chained-past}
+use Rattle.judging.specs.Refinement.{Both, code, rel, image, held, edge, dropped, tail-after, Imaged, RowHeld, Refining, Shrank, Matched, NodeMatched, Settling}
 use Rattle.judging.specs.Refinement.Files.{first-size, second-size, first-edges, second-edges, first-flow, second-flow, first-fits, second-fits, first-edges-fit, second-edges-fit, first-edge-in, second-edge-in}
-use Rattle.judging.specs.Refinement.Images.{Narrow, Imaging, rel-outside, imaging-start, imaging-on, imaging-end, imaged-same}
+use Rattle.judging.specs.Refinement.Images.{Narrow, Entered, Adding, Added, Imaging, rel-outside, entered-here, entered-still, adding-on, adding-end, imaging-start, imaging-related, imaging-unrelated, imaging-end, imaged-same}
 use Rattle.judging.specs.Refinement.Matches.{matched-kept, node-matched-i}
 use Rattle.judging.specs.Refinement.Narrowing.{Whole, Narrowed, may-drop, narrow-drop, narrow-keep, narrow-end, whole-still, narrow-matched, Matching, refining-held, imaged-held, row-held, matching-more, matching-end}
+use Rattle.judging.proofs.LevelLaws.{Walk, walk-start, walk-item, walk-turn, walk-less}
 
 -- ---- one edge put into the image of its label
 
-pub image-yes : (H : Graph) (w w′ : List ℕ) (v j : ℕ) (u : GraphEdge) (b : Bool) → u ≡ edge-held (edge H j) → b ≡ has-bit w 0 (256 * v + u .to) → b ≡ true
-    → w′ ≡ put-bit w (8192 + 32 * u .label) (u .from) → w′ ≡ image-after H w v j
-image-yes H w w′ v j u b is t y e =
-    e
-    ∙ ap (λ (z : GraphEdge). put-bit w (8192 + 32 * z .label) (z .from)) is
-    ∙ sym (ap (λ (c : Bool). cond c (put-bit w (8192 + 32 * (edge H j) .label) ((edge H j) .from)) w) (sym (ap (λ (z : GraphEdge). has-bit w 0 (256 * v + z .to)) is) ∙ sym t ∙ y))
-
-pub image-no : (H : Graph) (w : List ℕ) (v j : ℕ) (u : GraphEdge) (b : Bool) → u ≡ edge-held (edge H j) → b ≡ has-bit w 0 (256 * v + u .to) → b ≡ false → w ≡ image-after H w v j
-image-no H w v j u b is t y =
-    sym (ap (λ (c : Bool). cond c (put-bit w (8192 + 32 * (edge H j) .label) ((edge H j) .from)) w) (sym (ap (λ (z : GraphEdge). has-bit w 0 (256 * v + z .to)) is) ∙ sym t ∙ y))
+pub image-edge : (H : Graph) (w w′ : List ℕ) (j : ℕ) (u : GraphEdge) → u ≡ edge-held (edge H j) → w′ ≡ put-bit w (8192 + 32 * u .label) (u .from)
+    → w′ ≡ put-bit w (8192 + 32 * (edge H j) .label) ((edge H j) .from)
+image-edge H w w′ j u is e = e ∙ ap (λ (z : GraphEdge). put-bit w (8192 + 32 * z .label) (z .from)) is
 
 -- ---- the images cleared
 
@@ -131,8 +126,10 @@ module _ (s : Sizes) (f g : List ℕ) (x : Both s f g) where
   node-fits v h = omega (arith, x .few-first-nodes)
 
   -- an edge of the second graph, as the code holds it
-  pub edge-fits : (j : ℕ) (u : GraphEdge) → j < s .edges2 → u ≡ edge-held (edge H j) → (u .from < 256) × (u .to < 256) × (u .label < 9)
-  edge-fits j u h is = subst (λ (z : GraphEdge). (z .from < 256) × (z .to < 256) × (z .label < 9)) (sym is) (narrow-edges j (omega (arith, second-edges s f g x)))
+  pub second-edge-fits : (j : ℕ) (u : GraphEdge) → j < s .edges2 → u ≡ edge-held (edge H j) → (u .from < 256) × (u .label < 9)
+  second-edge-fits j u h is =
+      let a = second-edge-in s f g x j h in
+      subst (λ (z : GraphEdge). (z .from < 256) × (z .label < 9)) (sym is) (omega (arith, a .0, x .few-second-nodes), a .2)
 
   -- an edge of the first graph
   pub first-edge-fits : (e : ℕ) (u : GraphEdge) → e < s .edges → u ≡ edge-held (edge G e) → (u .from < 256) × (u .label < 9)
@@ -140,15 +137,74 @@ module _ (s : Sizes) (f g : List ℕ) (x : Both s f g) where
       let a = first-edge-in s f g x e h in
       subst (λ (z : GraphEdge). (z .from < 256) × (z .label < 9)) (sym is) (omega (arith, a .0, x .few-first-nodes), a .2)
 
-  -- ---- images, edge by edge
+  -- ---- a walk along the edges into a node of the second graph
 
-  pub image-more : (w₀ w w′ : List ℕ) (v j : ℕ) → v < s .nodes → 165152 ≤ length w → j < s .edges2 → Imaging H w₀ v j w → w′ ≡ image-after H w v j → Imaging H w₀ v (j + 1) w′
-  image-more w₀ w w′ v j hv room hj y e = imaging-on H w₀ w v j (node-fits v hv) (omega arith) narrow-edges (omega (arith, second-edges s f g x)) y w′ e
+  -- the chains of the second graph stand in w
+  abbrev pub SecondChained : List ℕ → Type 0
+  SecondChained w = Chained w 17184 17696 (into H) (s .nodes2) (s .edges2)
 
-  pub image-all : (w w₁ w₂ : List ℕ) (v j : ℕ) → v < s .nodes → s .edges2 ≤ j → Outside 8192 8480 w w₁ → Imaging H w₁ v j w₂ → Imaged H w v w₂ × Outside 8192 8480 w w₂
-  image-all w w₁ w₂ v j hv l o y = (
-    imaged-same H w₁ w w₂ w₂ v narrow-edges (λ t ht. sym (rel-outside w w₁ o v t (node-fits v hv) ht)) (λ l h hl hh. refl) (imaging-end H w₁ w₂ v j (omega (arith, second-edges s f g x)) y),
-    λ q d. y .rest q d ∙ o q d,
+  pub second-chained : (w : List ℕ) → Chained w 17184 17696 (into H) (size H) (length (H .edges)) → SecondChained w
+  second-chained w c = subst (λ (n : ℕ). Chained w 17184 17696 (into H) n (s .edges2)) (second-size s f g x) (subst (Chained w 17184 17696 (into H) (size H)) (second-edges s f g x) c)
+
+  -- images stand before them
+  chained-still : (w w′ : List ℕ) → Outside 8192 8480 w w′ → SecondChained w → SecondChained w′
+  chained-still w w′ = chained-past w w′ 17184 17696 (into H) (s .nodes2) (s .edges2) 8192 8480 (omega arith) (omega arith)
+
+  pub into-start : (w : List ℕ) (h at : ℕ) → h < s .nodes2 → SecondChained w → at ≡ cell w 17184 2 h → Walk (into H h) (s .edges2) at (Entered H w)
+  into-start w h at hh c e = walk-start (into H h) (s .edges2) at (Entered H w) (e ∙ c .heads-are h hh)
+
+  module _ (h at : ℕ) (hh : h < s .nodes2) (w₀ w : List ℕ) (y : Adding H w₀ h w) (q : Walk (into H h) (s .edges2) at (Entered H w)) (l : 0 < at) where
+    edge-item : T (into H h (at - 1)) × (at - 1 < s .edges2)
+    edge-item = walk-item (into H h) (s .edges2) at (Entered H w) q l
+
+    pub into-item : at - 1 < s .edges2
+    into-item = edge-item .1
+
+    pub into-turn : 165152 ≤ length w → SecondChained w₀ → (next : ℕ) (w′ : List ℕ) → w′ ≡ put-bit w (8192 + 32 * (edge H (at - 1)) .label) ((edge H (at - 1)) .from) → next ≡ cell w′ 17696 2 (at - 1)
+        → Adding H w₀ h w′ × Walk (into H h) (s .edges2) next (Entered H w′) × (next < at)
+    into-turn room c next w′ is e = (
+      added,
+      walk-turn (into H h) (s .edges2) at next (Entered H w) (Entered H w′) q l goes
+          (λ d hd t. subst (λ (z : List ℕ). Entered H z d) (sym is) (entered-still H w (at - 1) (omega arith) narrow-edges inside d (omega (arith, second-edges s f g x)) t))
+          (subst (λ (z : List ℕ). Entered H z (at - 1)) (sym is) (entered-here H w (at - 1) (omega arith) narrow-edges inside)),
+      walk-less (into H h) at next l goes,
+    )
+      where
+        inside : at - 1 < length (H .edges)
+        inside = omega (arith, edge-item .1, second-edges s f g x)
+
+        added : Adding H w₀ h w′
+        added = subst (Adding H w₀ h) (sym is) (adding-on H w (at - 1) (omega arith) narrow-edges inside w₀ h (edge-item .0) y)
+
+        goes : next ≡ last-where (into H h) (at - 1)
+        goes = e ∙ (chained-still w₀ w′ (added .rest) c) .nexts-are h (at - 1) hh (edge-item .1) (edge-item .0)
+
+  pub into-all : (h at : ℕ) (w₀ w : List ℕ) → at ≤ 0 → Adding H w₀ h w → Walk (into H h) (s .edges2) at (Entered H w) → Added H w₀ h w × Outside 8192 8480 w₀ w
+  into-all h at w₀ w n y q = (adding-end H w₀ w h (λ d hd t. q .3 d (omega (arith, second-edges s f g x)) t (omega arith)) y, y .rest)
+
+  -- ---- images, node by node
+
+  image-outside : (w w₁ w₂ : List ℕ) (v h : ℕ) → Outside 8192 8480 w w₁ → Imaging H w₁ v h w₂ → Outside 8192 8480 w w₂
+  image-outside w w₁ w₂ v h o y q d = y .rest q d ∙ o q d
+
+  pub image-chained : (w w₁ w₂ : List ℕ) (v h : ℕ) → Outside 8192 8480 w w₁ → Imaging H w₁ v h w₂ → SecondChained w → SecondChained w₂
+  image-chained w w₁ w₂ v h o y = chained-still w w₂ (image-outside w w₁ w₂ v h o y)
+
+  module _ (w₀ w : List ℕ) (v h : ℕ) (hv : v < s .nodes) (hh : h < s .nodes2) (y : Imaging H w₀ v h w) (b : Bool) (is : b ≡ has-bit w 0 (256 * v + h)) where
+    h-fits : h < 256
+    h-fits = omega (arith, x .few-second-nodes)
+
+    pub image-related : b ≡ true → (w′ : List ℕ) → Added H w h w′ × Outside 8192 8480 w w′ → Imaging H w₀ v (h + 1) w′
+    image-related t w′ a = imaging-related H w₀ w v h (node-fits v hv) h-fits y narrow-edges (sym is ∙ t) w′ (a .0) (a .1)
+
+    pub image-unrelated : b ≡ false → Imaging H w₀ v (h + 1) w
+    image-unrelated t = imaging-unrelated H w₀ w v h (node-fits v hv) h-fits y (sym is ∙ t)
+
+  pub image-all : (w w₁ w₂ : List ℕ) (v h : ℕ) → v < s .nodes → s .nodes2 ≤ h → Outside 8192 8480 w w₁ → Imaging H w₁ v h w₂ → Imaged H w v w₂ × Outside 8192 8480 w w₂
+  image-all w w₁ w₂ v h hv l o y = (
+    imaged-same H w₁ w w₂ w₂ v narrow-edges (λ t ht. sym (rel-outside w w₁ o v t (node-fits v hv) ht)) (λ l g hl hg. refl)
+        (imaging-end H w₁ w₂ v h (λ d hd. omega (arith, (second-edge-in s f g x d (omega (arith, second-edges s f g x))) .1)) y),
+    image-outside w w₁ w₂ v h o y,
   )
 
   -- ---- narrowing by an image

@@ -9,7 +9,8 @@ use lib.Dec.{T, eqb, ltb, leb}
 use lib.ListN.{length, getD}
 use Rattle.files.specs.Access.{GraphFile}
 use Rattle.files.specs.Basics.Tables.{tally}
-use Rattle.files.specs.Cells.{cell, put-cell, has-bit, put-bit, drop-bit}
+use Rattle.files.specs.Basics.Tests.{any}
+use Rattle.files.specs.Cells.{cell, put-cell, has-bit, drop-bit}
 use Rattle.files.specs.Graph.{Graph, Edge, size, node, no-edge}
 use Rattle.files.specs.Record.{count}
 use Rattle.files.specs.Refusal.{nodes-of}
@@ -74,9 +75,9 @@ Reaches H v h l = (d : ℕ) × (d < length (H .edges)) × ((edge H d) .from ≡ 
 abbrev pub row-related : Graph → Graph → List ℕ → ℕ → ℕ → ℕ → Bool
 row-related G H w g m p = has-bit w 0 p || (eqb (p / 256) g && (ltb (p % 256) m && alike (node G g) (node H (p % 256))))
 
--- the list after edge j of the second graph was put into the image of its label for node v
-abbrev pub image-after : Graph → List ℕ → ℕ → ℕ → List ℕ
-image-after H w v j = cond (rel w v ((edge H j) .to)) (put-bit w (8192 + 32 * (edge H j) .label) ((edge H j) .from)) w
+-- some edge with label l leads from node g to node h
+pub leads-into : Graph → ℕ → ℕ → ℕ → Bool
+leads-into H h l g = any (λ (d : Edge). eqb (d .to) h && (eqb (d .label) l && eqb (d .from) g)) (H .edges)
 
 -- w has the images of node v, by the relation of w₀
 pub record Imaged (H : Graph) (w₀ : List ℕ) (v : ℕ) (w : List ℕ) : Type 0 where

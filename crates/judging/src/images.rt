@@ -2,13 +2,14 @@
 // narrowing by them what the nodes with an edge to v are related to. `match_all` states that after it every edge of the first graph is matched by what its end holds:
 // what it is related to, or was when its images were taken.
 ghost use mathlib.Core.Path.{_≡_};
-ghost use mathlib.Core.Bool.{false};
+ghost use mathlib.Core.Bool.{false, _||_};
 ghost use Prim.Native.Nat.{ℕ, _+_, _*_, _≤_, _<_};
 ghost use lib.Dec.{T};
 ghost use lib.ListN.{length};
+ghost use Rattle.files.specs.Cells.{put-bit};
 ghost use Rattle.files.specs.Decode.{decode-graph};
-ghost use Rattle.judging.specs.Chains.{Outside};
-ghost use Rattle.judging.specs.Refinement.{Both, rel, held, image, edge, image-after, Reaches, Imaged, RowHeld, Refining, Shrank, NodeMatched, Settling};
+ghost use Rattle.judging.specs.Chains.{Chained, Outside, into};
+ghost use Rattle.judging.specs.Refinement.{Both, rel, held, image, edge, leads-into, Reaches, Imaged, RowHeld, Refining, Shrank, NodeMatched, Settling};
 use crate::relation::drop_pair;
 use crate::sizes::Sizes;
 use files::cells::clear;
@@ -21,29 +22,42 @@ use files::encode::LINE;
 use files::graph::EdgeAt;
 use files::graph::edge_at;
 
-// Puts where edge j of the second graph comes from into the image of its label, if it leads to what v is related to.
-fn image_edge(first: &[u8], second: &[u8], s: Sizes, work: &mut [u8], v: usize, j: usize)
-    requires { ⌜ ((Both s (now first) (now second))) × ((v < s .nodes) × ((j < s .edges2) × (165152 ≤ length (now work)))) ⌝ }
-    ensures { λ _. ⌜ (now (work .exit)) ≡ image-after (decode-graph (now (second .entry))) (now (work .entry)) v j ⌝ }
+// Puts where edge j of the second graph comes from into the image of its label.
+fn image_edge(first: &[u8], second: &[u8], s: Sizes, work: &mut [u8], j: usize)
+    requires { ⌜ ((Both s (now first) (now second))) × ((j < s .edges2) × (165152 ≤ length (now work))) ⌝ }
+    ensures { λ _. ⌜ (now (work .exit)) ≡ put-bit (now (work .entry)) (8192 + 32 * (edge (decode-graph (now (second .entry))) j) .label) ((edge (decode-graph (now (second .entry))) j) .from) ⌝ }
 {
     let EdgeAt::Is(e) = edge_at(second, s.nodes2, j, 2) else {
         return;
     };
-    if has_bit(work, 0, Sizes::STRIDE * v + e.to) {
-        put_bit(work, Sizes::IMAGES + LINE * (e.label as usize), e.from);
+    put_bit(work, Sizes::IMAGES + LINE * (e.label as usize), e.from);
+}
+
+// The same of every edge that leads to node h.
+fn image_into(first: &[u8], second: &[u8], s: Sizes, work: &mut [u8], h: usize)
+    requires { ⌜ ((Both s (now first) (now second))) × ((h < s .nodes2) × ((165152 ≤ length (now work)) × (Chained (now work) 17184 17696 (into (decode-graph (now second))) (s .nodes2) (s .edges2)))) ⌝ }
+    ensures { λ _. ⌜ ((l g : ℕ) → l < 9 → g < 256 → image (now (work .exit)) l g ≡ (image (now (work .entry)) l g || leads-into (decode-graph (now (second .entry))) h l g)) × (Outside 8192 8480 (now (work .entry)) (now (work .exit))) ⌝ }
+{
+    let mut at = get16(work, Sizes::SECOND_HEADS, h) as usize;
+    while at > 0 {
+        let j = at - 1;
+        image_edge(first, second, s, work, j);
+        at = get16(work, Sizes::SECOND_NEXTS, j) as usize;
     }
 }
 
-// The images of node v of the first graph, one for each label.
+// The images of node v of the first graph, one for each label: only edges that lead to what v is related to are looked at.
 fn images(first: &[u8], second: &[u8], s: Sizes, work: &mut [u8], v: usize)
-    requires { ⌜ ((Both s (now first) (now second))) × ((v < s .nodes) × (165152 ≤ length (now work))) ⌝ }
+    requires { ⌜ ((Both s (now first) (now second))) × ((v < s .nodes) × ((165152 ≤ length (now work)) × (Chained (now work) 17184 17696 (into (decode-graph (now second))) (s .nodes2) (s .edges2)))) ⌝ }
     ensures { λ _. ⌜ (Imaged (decode-graph (now (second .entry))) (now (work .entry)) v (now (work .exit))) × (Outside 8192 8480 (now (work .entry)) (now (work .exit))) ⌝ }
 {
     clear(&mut work[Sizes::IMAGES..Sizes::FIRST_HEADS]);
-    let mut j = 0;
-    while j < s.edges2 {
-        image_edge(first, second, s, work, v, j);
-        j += 1;
+    let mut h = 0;
+    while h < s.nodes2 {
+        if has_bit(work, 0, Sizes::STRIDE * v + h) {
+            image_into(first, second, s, work, h);
+        }
+        h += 1;
     }
 }
 

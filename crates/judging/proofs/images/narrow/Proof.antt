@@ -21,55 +21,55 @@ Inv-loop first second s work₀ tail e x base h₀ end₀ work h end = (h ≤ s 
 abbrev μ-loop : tie.MeasureT-loop
 μ-loop first second s work₀ tail e x base h₀ end₀ work h end = s .nodes2 - h
 
--- src/images.rt:55:25
+-- src/images.rt:69:25
 edge-at-requires : tie.Need-edge-at-requires Inv-loop μ-loop
 edge-at-requires c κs = search needs
 
--- src/images.rt:55:20
+-- src/images.rt:69:20
 enum-known-x : tie.Need-enum-known-x Inv-loop μ-loop
 enum-known-x c = search needs
 
--- src/images.rt:56:9
+-- src/images.rt:70:9
 enum-told : tie.Need-enum-told Inv-loop μ-loop
 enum-told c = search needs
 
--- src/images.rt:56:9
+-- src/images.rt:70:9
 returns : tie.Need-returns Inv-loop μ-loop
 returns c = absurd (edge-read (c .before .before .edge-at .result) _ _ (c .before .before .edge-at .ensures) (c .enum-told .given .1))
 
--- src/images.rt:58:40
+-- src/images.rt:72:40
 cast-base : tie.Need-cast-base Inv-loop μ-loop
 cast-base c = search needs
 
--- src/images.rt:58:32
+-- src/images.rt:72:32
 mul-base : tie.Need-mul-base Inv-loop μ-loop
 mul-base c = search needs
 
--- src/images.rt:58:16
+-- src/images.rt:72:16
 add-base : tie.Need-add-base Inv-loop μ-loop
 add-base c = search needs
 
--- src/images.rt:61:5
+-- src/images.rt:75:5
 loop-holds : tie.Need-loop-holds Inv-loop μ-loop
 loop-holds c = let k = c .before .before .before .before .before .before .before .before in (omega arith, refl, shrank-none (decode-graph (k .args .first .now)) (decode-graph (k .args .second .now)) (k .args .tail) (k .args .work .now) (k .pre .1 .1 .0), λ h b. absurd (omega arith))
 
--- src/images.rt:62:13
+-- src/images.rt:76:13
 has-bit-requires : tie.Need-has-bit-requires Inv-loop μ-loop
 has-bit-requires c κs = let l = c .before .before .before .loop in omega (arith, first-edge-fits (c .before .before .before .before .before .before .before .before .before .before .before .before .args .s) (c .before .before .before .before .before .before .before .before .before .before .before .before .args .first .now) (c .before .before .before .before .before .before .before .before .before .before .before .before .args .second .now) (c .before .before .before .before .before .before .before .before .before .before .before .before .pre .0) (c .before .before .before .before .before .before .before .before .before .before .before .before .args .e) _ (c .before .before .before .before .before .before .before .before .before .before .before .before .pre .1 .0) (held-edge (c .before .before .before .before .before .before .before .before .edge-at .result) _ (edge (decode-graph (c .before .before .before .before .before .before .before .before .before .before .before .before .args .first .now)) (c .before .before .before .before .before .before .before .before .before .before .before .before .args .e)) (c .before .before .before .before .before .before .x .given .1) (c .before .before .before .before .before .before .before .before .edge-at .ensures)) .1, c .before .if1 .taken, c .before .before .before .before .before .before .before .before .before .before .before .before .pre .0 .few-second-nodes, l .inv .2 .refining .room)
 
--- src/images.rt:63:13
+-- src/images.rt:77:13
 drop-pair-requires : tie.Need-drop-pair-requires Inv-loop μ-loop
 drop-pair-requires c κs = let l = c .before .before .before .before .before .before .loop in may-narrow (c .before .before .before .before .before .before .before .before .before .before .before .before .before .before .before .args .s) (c .before .before .before .before .before .before .before .before .before .before .before .before .before .before .before .args .first .now) (c .before .before .before .before .before .before .before .before .before .before .before .before .before .before .before .args .second .now) (c .before .before .before .before .before .before .before .before .before .before .before .before .before .before .before .pre .0) (c .before .before .before .before .before .before .before .before .before .before .before .before .before .before .before .args .e) (c .before .before .before .before .before .before .before .before .before .before .before .before .before .before .before .pre .1 .0) _ (held-edge (c .before .before .before .before .before .before .before .before .before .before .before .edge-at .result) _ (edge (decode-graph (c .before .before .before .before .before .before .before .before .before .before .before .before .before .before .before .args .first .now)) (c .before .before .before .before .before .before .before .before .before .before .before .before .before .before .before .args .e)) (c .before .before .before .before .before .before .before .before .before .x .given .1) (c .before .before .before .before .before .before .before .before .before .before .before .edge-at .ensures)) (c .before .before .before .before .before .before .before .before .before .before .before .before .before .before .before .args .tail) (l .end) (c .before .before .before .before .before .before .before .before .before .before .before .before .before .before .before .args .work .now) (l .work) (l .inv .2) (l .h) (c .before .before .before .before .if1 .taken)
 
--- src/images.rt:65:9
+-- src/images.rt:79:9
 add-h : tie.Need-add-h Inv-loop μ-loop
 add-h c = omega (arith, c .before .before .before .if1 .taken, c .before .before .before .before .before .before .before .before .before .before .before .before .before .before .pre .0 .few-second-nodes)
 
--- src/images.rt:61:5
+-- src/images.rt:75:5
 loop-less : tie.Need-loop-less Inv-loop μ-loop
 loop-less c = omega (arith, c .before .before .before .if1 .taken)
 
--- src/images.rt:61:5
+-- src/images.rt:75:5
 loop-again : tie.Need-loop-again Inv-loop μ-loop
 loop-again c = let k = c .before .before .before .before .before .before .before .before .before .before .before .before .before .before in
     let l = c .before .before .before .before .before .loop in
@@ -85,11 +85,11 @@ loop-again c = let k = c .before .before .before .before .before .before .before
     ))
     (c .if2 .came)
 
--- src/images.rt:51:1
+-- src/images.rt:65:1
 same-length : tie.Need-same-length Inv-loop μ-loop
 same-length c = c .before .before .loop .inv .1
 
--- src/images.rt:51:1
+-- src/images.rt:65:1
 returns-2 : tie.Need-returns-2 Inv-loop μ-loop
 returns-2 c = let l = c .before .before .loop in (l .inv .2, narrow-past (c .before .before .before .before .before .before .before .before .before .before .before .args .s) (c .before .before .before .before .before .before .before .before .before .before .before .args .first .now) (c .before .before .before .before .before .before .before .before .before .before .before .args .second .now) (c .before .before .before .before .before .before .before .before .before .before .before .pre .0) (c .before .before .before .before .before .before .before .before .before .before .before .args .e) (c .before .before .before .before .before .before .before .before .before .before .before .pre .1 .0) _ (held-edge (c .before .before .before .before .before .before .before .edge-at .result) _ (edge (decode-graph (c .before .before .before .before .before .before .before .before .before .before .before .args .first .now)) (c .before .before .before .before .before .before .before .before .before .before .before .args .e)) (c .before .before .before .before .before .x .given .1) (c .before .before .before .before .before .before .before .edge-at .ensures)) (c .before .before .before .before .before .before .before .before .before .before .before .args .tail) (l .end) (c .before .before .before .before .before .before .before .before .before .before .before .args .work .now) (l .work) (l .inv .2) (l .h) (omega (arith, c .if1 .left)) (l .inv .3))
 
