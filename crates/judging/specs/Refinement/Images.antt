@@ -47,8 +47,7 @@ leads-into-e H h l g t = go (any-e (leads h l g) (H .edges) t)
         let i = index-i no-edge (H .edges) (a .0) (a .1) in
         let d = edge H (i .0) in
         let s : T (leads h l g d) = subst (λ (z : Edge). T (leads h l g z)) (sym (i .2)) (a .2) in
-        let r = and-r (eqb (d .to) h) (eqb (d .label) l && eqb (d .from) g) s in
-        (
+        let r = and-r (eqb (d .to) h) (eqb (d .label) l && eqb (d .from) g) s in (
           i .0,
           i .1,
           eqb→eq (d .from) g (and-r (eqb (d .label) l) (eqb (d .from) g) r),
