@@ -16,6 +16,7 @@ use Rattle.files.specs.Interface.{Interface, provides, requires-method}
 use Rattle.files.specs.Refusal.{of-kind}
 pub mod Laws
 pub mod Reads
+pub mod Looks
 pub mod Examples
 
 -- 9: "graph not of its interface": record i is a node whose method is not provided, or an edge that calls a method that is not required
@@ -68,9 +69,13 @@ shares I J = any (λ (m : ℕ). provides I m && provides J m) (span 1 8)
 abbrev pub Shares : Interface → Interface → Type 0
 Shares I J = (m : ℕ) × T (provides I m) × T (provides J m)
 
+-- a required method that is not provided
+pub lacks : Interface → Bool
+lacks I = any (λ (k : ℕ). requires-method I k && not (provides I k)) (span 1 8)
+
 -- 10: "a required method, or the start method, is provided by nobody"
 pub unprovided : Interface → ℕ → Bool
-unprovided I m = not (provides I m) || any (λ (k : ℕ). requires-method I k && not (provides I k)) (span 1 8)
+unprovided I m = not (provides I m) || lacks I
 
 abbrev pub Unprovided : Interface → ℕ → Type 0
 Unprovided I m = (T (provides I m) → ⊥) ⊎ ((k : ℕ) × T (requires-method I k) × (T (provides I k) → ⊥))

@@ -41,3 +41,25 @@ pub fn requires_method(interface: &[u8], m: u8) -> bool
     };
     in_set(required, m)
 }
+
+// The byte of the provided methods.
+pub fn provided_methods(interface: &[u8]) -> u8
+    requires { ⌜ InterfaceFile (now interface) ⌝ }
+    ensures { λ r. ⌜ r ≡ (decode-interface (now (interface .entry))) .provided ⌝ }
+{
+    let Parsed::Interface { provided, .. } = parse(interface, 0) else {
+        return 0;
+    };
+    provided
+}
+
+// The byte of the required methods.
+pub fn required_methods(interface: &[u8]) -> u8
+    requires { ⌜ InterfaceFile (now interface) ⌝ }
+    ensures { λ r. ⌜ r ≡ (decode-interface (now (interface .entry))) .required ⌝ }
+{
+    let Parsed::Interface { required, .. } = parse(interface, 0) else {
+        return 0;
+    };
+    required
+}

@@ -1,10 +1,11 @@
-// Refusal 9 of an accepted graph and an accepted interface: the first record of the graph that is not of the interface.
+// Refusals 9 and 10 of accepted graphs and interfaces: the first record of a graph that is not of its interface, a method that two sides provide, and one that
+// nobody provides.
 ghost use mathlib.Core.Path.{_≡_};
 ghost use Prim.Native.Nat.{_+_, _*_, _≤_};
 ghost use lib.ListN.{length};
 ghost use Rattle.files.specs.Checking.{parsed-at};
 ghost use Rattle.files.specs.Decode.{decode-interface};
-ghost use Rattle.files.specs.Sides.{foreign-node, foreign-call, foreign-of, first-foreign-record};
+ghost use Rattle.files.specs.Sides.{foreign-node, foreign-call, foreign-of, first-foreign-record, shares, lacks, unprovided};
 ghost use Rattle.files.specs.Access.{GraphFile, InterfaceFile};
 use crate::interface::provides;
 use crate::interface::requires_method;
@@ -57,4 +58,42 @@ pub fn first_foreign(graph: &[u8], interface: &[u8]) -> usize
         i += 1;
     }
     n
+}
+
+// Two sides provide one method.
+pub fn shares(first: &[u8], second: &[u8]) -> bool
+    requires { ⌜ (InterfaceFile (now first)) × (InterfaceFile (now second)) ⌝ }
+    ensures { λ r. ⌜ r ≡ shares (decode-interface (now (first .entry))) (decode-interface (now (second .entry))) ⌝ }
+{
+    let mut m = 1;
+    while m < 9 {
+        if provides(first, m) & provides(second, m) {
+            return true;
+        }
+        m += 1;
+    }
+    false
+}
+
+// A required method is not provided.
+fn lacks(interface: &[u8]) -> bool
+    requires { ⌜ InterfaceFile (now interface) ⌝ }
+    ensures { λ r. ⌜ r ≡ lacks (decode-interface (now (interface .entry))) ⌝ }
+{
+    let mut m = 1;
+    while m < 9 {
+        if requires_method(interface, m) & !provides(interface, m) {
+            return true;
+        }
+        m += 1;
+    }
+    false
+}
+
+// A required method, or the start method, is provided by nobody.
+pub fn unprovided(interface: &[u8], start: u8) -> bool
+    requires { ⌜ InterfaceFile (now interface) ⌝ }
+    ensures { λ r. ⌜ r ≡ unprovided (decode-interface (now (interface .entry))) start ⌝ }
+{
+    !provides(interface, start) | lacks(interface)
 }

@@ -19,7 +19,7 @@ use files::property::RowAt;
 use files::property::row_at;
 
 // Puts an item at the head of a key's chain.
-fn link(work: &mut [u8], heads: usize, nexts: usize, key: usize, item: usize)
+pub fn link(work: &mut [u8], heads: usize, nexts: usize, key: usize, item: usize)
     requires { ⌜ (heads + 2 * key + 2 ≤ length (now work)) × ((nexts + 2 * item + 2 ≤ length (now work)) × (item < 65535)) ⌝ }
     ensures { λ _. ⌜ now (work .exit) ≡ linked (now (work .entry)) heads nexts key item ⌝ }
 {

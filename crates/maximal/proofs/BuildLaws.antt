@@ -5,7 +5,7 @@ use mathlib.Core.List.{List, [], _∷_, _++_}
 use Prim.Native.Nat.{ℕ, zero, suc, _+_, _*_, _≤_, _<_}
 use native.Mathlib.Omega.{arith}
 use lib.ListN.{length, drop}
-use Rattle.files.specs.Access.{InterfaceFile, PropertyFile}
+use Rattle.files.specs.Access.{PropertyFile}
 use Rattle.files.specs.Checking.{checked}
 use Rattle.files.specs.Checking.Laws.{accepted-counts}
 use Rattle.files.specs.Decode.{decode-interface, decode-property, graph-bytes}
@@ -14,8 +14,9 @@ use Rattle.files.specs.Graph.{Graph}
 use Rattle.files.specs.Interface.{Interface}
 use Rattle.files.specs.Limits.{desk}
 use Rattle.files.specs.Outcome.{Answers, TooLarge, refusal-at, refused-answer, verdict-answer}
+use Rattle.files.specs.Outcome.Steps.{answers-large, answers-short, answers-written}
 use Rattle.files.specs.Property.{Row, Property}
-use Rattle.files.specs.Refusal.{property, interface}
+use Rattle.files.specs.Refusal.{property}
 use Rattle.files.specs.declared.check.Checked.{Checked}
 use Rattle.files.specs.declared.check.Checked.the-variants.{Accepted}
 use Rattle.files.specs.declared.record.Limits.{Limits}
@@ -30,7 +31,6 @@ use Rattle.maximal.specs.Listing.Laws.{total, tally-from-le, upto-is, mo
 use Rattle.maximal.specs.Model.{model}
 use Rattle.maximal.specs.Model.Computed.{model-size}
 use Rattle.maximal.specs.Modelling.{from-size, Bounded}
-use Rattle.maximal.specs.Modelling.Steps.{answers-large, answers-short, answers-written}
 
 -- ---- accepted files
 
@@ -47,9 +47,6 @@ scope-of L p b x a n e d =
       few-ors = b .ors-fit;
       few-states = b .nodes-fit;
     }
-
-pub interface-file : (L : Limits) (i : List ℕ) (x : Checked) (a n : ℕ) → x ≡ checked L interface i 1 → x ≡ Accepted a n → InterfaceFile i
-interface-file L i x a n e d = record { limits = L; accepted = (accepted-counts L interface i 1 a n (sym e ∙ d)) .0 }
 
 -- ---- the model
 
@@ -80,12 +77,12 @@ module _ (L : Limits) (i p : List ℕ) (f : PropertyFile p) (s : Scope) (states-
 
   -- too many states
   pub answers-crowded : (r : Refusal) → Crowded I P (s .states) → r ≡ refusal-at 11 0 0 → Answers (from-size L i p (length out)) out out (refused-answer r)
-  answers-crowded r h e = answers-large L i p out r (inl (omega (arith, crowded-e I P (s .states) h, model-size I P wf, states-are))) e
+  answers-crowded r h e = answers-large L G [] out r (inl (omega (arith, crowded-e I P (s .states) h, model-size I P wf, states-are))) e
 
   module _ (c : ℕ) (within : c ≤ s .states) (w : List ℕ) (x : Arranged I P c w) (n : ℕ) (counted : n ≡ tally-upto w c (L .edges) c) where
     -- too many edges
     pub answers-edges : (r : Refusal) → L .edges < n → r ≡ refusal-at 11 0 0 → Answers (from-size L i p (length out)) out out (refused-answer r)
-    answers-edges r h e = answers-large L i p out r (inr (go (upto-is w c (L .edges) c))) e
+    answers-edges r h e = answers-large L G [] out r (inr (go (upto-is w c (L .edges) c))) e
       where
         go : (tally-upto w c (L .edges) c ≡ total w c c) ⊎ ((L .edges < tally-upto w c (L .edges) c) × (tally-upto w c (L .edges) c ≤ total w c c)) → L .edges < length (G .edges)
         go (inl d) = omega (arith, counted, d, h, model-edges-many I P wf c w x)
@@ -107,10 +104,10 @@ module _ (L : Limits) (i p : List ℕ) (f : PropertyFile p) (s : Scope) (states-
       long = model-length I P wf c w x ∙ ap (λ (m : ℕ). 6 * (c + m)) (sym edges-counted)
 
       pub answers-full : (r : Refusal) → length out < 6 * (c + n) → r ≡ refusal-at 12 0 0 → Answers (from-size L i p (length out)) out out (refused-answer r)
-      answers-full r h e = answers-short L i p out small r (omega (arith, long, h)) e
+      answers-full r h e = answers-short L G [] out small r (omega (arith, long, h)) e
 
       pub answers-model : (out′ : List ℕ) → 6 * (c + n) ≤ length out → out′ ≡ graph-bytes G ++ drop (length (graph-bytes G)) out → Answers (from-size L i p (length out)) out out′ (verdict-answer 1 (c ∷ n ∷ []))
-      answers-model out′ h e = answers-written L i p out small out′ c n (omega (arith, long, h)) e (sym (model-nodes-many I P wf c w x)) edges-counted
+      answers-model out′ h e = answers-written L G [] out small out′ c n (omega (arith, long, h)) e (sym (model-nodes-many I P wf c w x)) edges-counted
 
 -- ---- the limits of the desk
 

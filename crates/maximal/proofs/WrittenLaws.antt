@@ -1,19 +1,18 @@
 -- For the code that counts and writes a model: one node, edge, label or state more, in the count and in the bytes written, and that there is room for it.
 use mathlib.Core.Path.{_≡_, refl, sym, ap, ap₂, _∙_}
 use mathlib.Core.Bool.{Bool, true, false}
-use mathlib.Core.List.{List, [], _∷_, _++_, append-assoc, append-nil}
+use mathlib.Core.List.{List, [], _∷_, _++_, append-nil}
 use Prim.Native.Nat.{ℕ, zero, suc, _+_, _*_, _/_, _%_, _≤_, _<_}
 use native.Mathlib.Decide.{ℕ-discrete}
 use native.Mathlib.Nat.{add-zero}
 use native.Mathlib.Numerals.{add-one}
 use native.Mathlib.Omega.{arith}
 use lib.ListN.{length, take, drop, length-append, take-append-drop}
-use lib.Seq.{length-take-le, take-append-seam, drop-append-add, drop-drop}
 use Rattle.files.specs.Basics.Lists.{put, keep, each, each-append, span}
 use Rattle.files.specs.Basics.Tables.{tally}
 use Rattle.files.specs.Basics.Tests.{one}
 use Rattle.files.specs.Cells.{put-at}
-use Rattle.files.specs.Cells.Laws.{put-at-is}
+use Rattle.files.specs.Cells.Laws.{put-at-is, put-front, put-after}
 use Rattle.files.specs.Decode.{graph-bytes}
 use Rattle.files.specs.Interface.{Interface}
 use Rattle.files.specs.Property.{Row, Property}
@@ -39,19 +38,6 @@ climbs f up n (suc m) h = go (climbs f up n m) (ℕ-discrete n (suc m))
 
 -- ---- records, written one after another
 
--- a run stored after a run
-put-after : (l : List ℕ) (p : ℕ) (xs ys : List ℕ) → p ≤ length l → put-at (put-at l p xs) (p + length xs) ys ≡ put-at l p (xs ++ ys)
-put-after l p xs ys h =
-    let front : List ℕ = take p l ++ xs in
-    let rest : List ℕ = drop (p + length xs) l in
-    let size : p + length xs ≡ length front = sym (length-append (take p l) xs ∙ ap (λ (k : ℕ). k + length xs) (length-take-le p l h)) in
-    let both : p + length xs + length ys ≡ p + length (xs ++ ys) = omega (arith, length-append xs ys) in
-    ap₂ (λ (m : List ℕ) (k : ℕ). put-at m k ys) (put-at-is l p xs) size
-    ∙ put-at-is (front ++ rest) (length front) ys
-    ∙ ap₂ (λ (a b : List ℕ). a ++ ys ++ b) (take-append-seam front rest) (drop-append-add front rest (length ys) ∙ drop-drop (length ys) (p + length xs) l)
-    ∙ ap₂ (λ (a : List ℕ) (k : ℕ). a ++ drop k l) (append-assoc (take p l) xs ys) both
-    ∙ sym (put-at-is l p (xs ++ ys))
-
 -- the bytes xs stand in `out` from record `at` on up to record `end`, and all else is as it was
 pub record Wrote (out₀ out : List ℕ) (at end : ℕ) (xs : List ℕ) : Type 0 where
   pub as-long : length out ≡ length out₀
@@ -68,7 +54,7 @@ wrote-none out at = record {
     p : ℕ
     p = 6 * at
 
-wrote-more : (out₀ out out′ : List ℕ) (at end end′ : ℕ) (xs ys zs : List ℕ) → 6 * at ≤ length out₀ → zs ≡ xs ++ ys → Wrote out₀ out at end xs
+pub wrote-more : (out₀ out out′ : List ℕ) (at end end′ : ℕ) (xs ys zs : List ℕ) → 6 * at ≤ length out₀ → zs ≡ xs ++ ys → Wrote out₀ out at end xs
     → out′ ≡ put-at out (6 * end) ys → length out′ ≡ length out → 6 * end′ ≡ 6 * end + length ys → Wrote out₀ out′ at end′ zs
 wrote-more out₀ out out′ at end end′ xs ys zs h e x a b d = record {
   as-long = b ∙ x .as-long;
@@ -150,10 +136,8 @@ module _ (w : List ℕ) where
   model-end I P c end out₀ out₁ out wf a e x =
       let G : List ℕ = graph-bytes (model I P) in
       let n : 6 * c ≡ 0 + length (nodes-bytes w c) = omega (arith, nodes-length w c) in
-      let z : 0 + length G ≡ length G = omega arith in
       x .bytes
       ∙ ap₂ (λ (m : List ℕ) (k : ℕ). put-at m k (edges-bytes w c c)) e n
       ∙ put-after out₀ 0 (nodes-bytes w c) (edges-bytes w c c) (omega arith)
       ∙ ap (put-at out₀ 0) (sym (model-bytes I P wf c w a))
-      ∙ put-at-is out₀ 0 G
-      ∙ ap (λ (k : ℕ). G ++ drop k out₀) z
+      ∙ put-front out₀ G

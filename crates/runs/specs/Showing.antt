@@ -2,23 +2,28 @@
 use mathlib.Core.Path.{_≡_}
 use mathlib.Core.Bool.{cond}
 use mathlib.Core.List.{List, []}
-use Prim.Native.Nat.{ℕ, _+_, _-_, _≤_, _<_}
+use lib.ListN.{length}
+use Prim.Native.Nat.{ℕ, _+_, _*_, _-_, _≤_, _<_}
 use lib.Dec.{leb, ltb}
 use Rattle.files.specs.Decode.{decode-graph, node-rec}
 use Rattle.files.specs.Graph.{Graph, size, node}
-use Rattle.files.specs.Outcome.{Said, Outcome, Answer, refused-answer, Check, whole-check, file-checks, answered, Lines, whole-line, file-lines, verdict-answer, no-lines}
+use Rattle.files.specs.Outcome.{Said, Outcome, says, refuses, Answer, refused-answer, Check, whole-check, file-checks, answered, Lines, whole-line, file-lines, verdict-answer, no-lines}
 use Rattle.files.specs.Record.{part, six}
 use Rattle.files.specs.Refusal.{graph}
 use Rattle.files.specs.declared.record.Limits.{Limits}
 use Rattle.runs.specs.Join.{join}
-use Rattle.runs.specs.declared.answers.Shown.the-variants.{Part, Refused}
+use Rattle.runs.specs.declared.answers.Shown.the-variants.{Part}
+use Rattle.runs.specs.declared.answers.Shown.the-variants as shown-variants
+use Rattle.runs.specs.declared.showing.Place.{Place}
+use Rattle.runs.specs.declared.showing.Place.the-variants.{First, Second, Refused}
 use Rattle.runs.specs.declared.answers.Shown.{Shown}
 pub mod Laws
+pub mod Steps
 
 -- the paper's number and values for each case
 abbrev pub shown-answer : Shown → Answer
 shown-answer Part = verdict-answer 1 []
-shown-answer (Refused r) = refused-answer r
+shown-answer (shown-variants.Refused r) = refused-answer r
 
 -- "Showing takes two graphs and a number."
 module _ (L : Limits) (g1 g2 : List ℕ) (number : ℕ) where
@@ -42,6 +47,16 @@ module _ (L : Limits) (g1 g2 : List ℕ) (number : ℕ) where
   -- what the companion call answers
   pub shown : Outcome
   shown = answered show-checks show-said
+
+-- the outcome from the second graph's numbers on, as the code comes to it
+abbrev pub from-second : Limits → List ℕ → List ℕ → ℕ → Outcome
+from-second L g1 g2 number = answered (file-checks L 2 graph g2 (whole-check 7 (leb (show-size L g1 g2 number) number) [])) (show-said L g1 g2 number)
+
+-- the place that the code finds is the outcome's: a record of one of the files, which is shown, or the refusal
+abbrev pub Stands : Outcome → List ℕ → List ℕ → Place → Type 0
+Stands o g1 g2 (First i) = (6 * i + 6 ≤ length g1) × (o ≡ says (record { verdict = 1; values = []; written = part g1 i 1 }))
+Stands o g1 g2 (Second i) = (6 * i + 6 ≤ length g2) × (o ≡ says (record { verdict = 1; values = []; written = part g2 i 1 }))
+Stands o g1 g2 (Refused r) = o ≡ refuses r
 
 -- What showing says where it is not refused: the part is the record of the node of that number in the joined graph.
 pub record Shows (K G : Graph) (number : ℕ) (s : Said) : Type 0 where

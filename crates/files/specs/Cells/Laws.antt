@@ -4,15 +4,15 @@ use mathlib.Core.Logic.{_⊎_, inl, inr}
 use mathlib.Core.Bool.{Bool, true, false, _&&_}
 use mathlib.Core.List.{List, _++_, append-assoc}
 use Prim.Native.Nat.{ℕ, zero, suc, _+_, _*_, _-_, _/_, _%_, _^_, _≤_, _<_}
-use native.Mathlib.Nat.{mul-suc, mul-le-mul-left, pow-suc, mod-eq-of-lt, one-mul}
+use native.Mathlib.Nat.{mul-suc, mul-le-mul-left, pow-suc, mod-eq-of-lt, one-mul, zero-add}
 use native.Mathlib.Numerals.{add-one}
 use native.Mathlib.Decide.{ℕ-discrete, decLt}
 use native.Mathlib.Omega.{arith}
 use lib.Bits.{bitOr, bitAnd, or-shr, or-mod, and-shr, and-mod, or-zero-r, and-zero-r, and-mask, or-add-and}
 use lib.Dec.{eqb, eqb→eq, eqb-refl, not-T}
-use lib.ListN.{length, getD, set, take, drop, length-set, List·getD-append}
+use lib.ListN.{length, getD, set, take, drop, length-set, length-append, List·getD-append}
 use lib.Pow.{shl-exact}
-use lib.Seq.{getD-set-same, getD-set-other, set-out, getD-take, getD-drop, getD-append-add, length-take-le, sets-eq, length-sets, paste, paste-suc, take-length}
+use lib.Seq.{getD-set-same, getD-set-other, set-out, getD-take, getD-drop, getD-append-add, length-take-le, sets-eq, length-sets, paste, paste-suc, take-length, take-at, drop-append-add, drop-drop}
 use Rattle.files.specs.Basics.Tests.{one, one-true, one-false, all, all-e, upto, upto-i, and-l, and-r}
 use Rattle.files.specs.Cells.{little, put-little, cell, put-cell, has-bit, put-bit, drop-bit, put-at}
 
@@ -294,6 +294,23 @@ drop-bit-is l base h = refl
 pub put-at-is : (l : List ℕ) (p : ℕ) (xs : List ℕ) → put-at l p xs ≡ take p l ++ xs ++ drop (p + length xs) l
 unfolding put-at
 put-at-is l p xs = refl
+
+-- a run stored at the start
+pub put-front : (l xs : List ℕ) → put-at l 0 xs ≡ xs ++ drop (length xs) l
+put-front l xs = put-at-is l 0 xs ∙ ap (λ (k : ℕ). xs ++ drop k l) (zero-add (length xs))
+
+-- a run stored after a run is one run
+pub put-after : (l : List ℕ) (p : ℕ) (xs ys : List ℕ) → p ≤ length l → put-at (put-at l p xs) (p + length xs) ys ≡ put-at l p (xs ++ ys)
+put-after l p xs ys h =
+    let rest : List ℕ = drop (p + length xs) l in
+    let m : List ℕ = take p l ++ xs ++ rest in
+    let q : length (take p l ++ xs) ≡ p + length xs = omega (arith, length-append (take p l) xs, length-take-le p l h) in
+    let sum : p + length (xs ++ ys) ≡ p + length xs + length ys = omega (arith, length-append xs ys) in
+    ap (λ (a : List ℕ). put-at a (p + length xs) ys) (put-at-is l p xs)
+    ∙ put-at-is m (p + length xs) ys
+    ∙ ap₂ (λ (a b : List ℕ). a ++ ys ++ b) (take-at (take p l ++ xs) rest (p + length xs) q)
+    (ap (λ (n : ℕ). drop (n + length ys) m) (sym q) ∙ drop-append-add (take p l ++ xs) rest (length ys) ∙ drop-drop (length ys) (p + length xs) l)
+    ∙ sym (put-at-is l p (xs ++ ys) ∙ ap₂ (λ (a : List ℕ) (k : ℕ). a ++ drop k l) (sym (append-assoc (take p l) xs ys)) sum)
 
 -- one more byte of a copy
 pub copy-on : (out₀ src out : List ℕ) (at i x : ℕ) → at + i < length out₀ → i < length src → getD src i 0 ≡ x → out ≡ paste out₀ at src i

@@ -7,12 +7,13 @@ use Prim.Native.Nat.{ℕ, zero, suc, _+_, _-_, _*_, _≤_, _<_}
 use native.Mathlib.Nat.{zero-add, add-zero}
 use native.Mathlib.Omega.{arith}
 use lib.Dec.{eqb}
-use lib.ListN.{length}
+use lib.ListN.{length, take, length-map}
+use lib.Seq.{take-at, drop-at, take-all}
 use Rattle.files.specs.Basics.Tables.{table}
 use Rattle.files.specs.Basics.Tests.{one, at-most}
 use Rattle.files.specs.Decode.{to-node, to-edge, decode-graph, node-rec, edge-rec, graph-recs, graph-bytes}
-use Rattle.files.specs.Decode.Graphs.{is-node, is-edge, few, decoded-size, decoded-node}
-use Rattle.files.specs.Decode.Written.{skip-rec}
+use Rattle.files.specs.Decode.Graphs.{is-node, is-edge, few, decoded-size, decoded-edges, decoded-node}
+use Rattle.files.specs.Decode.Written.{skip-rec, length-write, graph-bytes-is}
 use Rattle.files.specs.Basics.Says.{says-eq, says-sure}
 use Rattle.files.specs.Decode.AnyFile.{none-applies, whole-file}
 use Rattle.files.specs.Record.{record-from, record-at, count, six, write, part}
@@ -117,6 +118,30 @@ module _ (L : Limits) (l : List ℕ) (accepted : refusal L graph l ≡ none) whe
   pub bytes-decode : graph-bytes (decode-graph l) ≡ l
   unfolding graph-bytes
   bytes-decode = ap write recs-same ∙ write-recs (count l) l (whole-file L graph l accepted)
+
+  -- the nodes' bytes come first, the edges' after them
+  abbrev node-part : List ℕ
+  node-part = write (map node-rec ((decode-graph l) .nodes))
+
+  abbrev edge-part : List ℕ
+  edge-part = write (map edge-rec ((decode-graph l) .edges))
+
+  both-parts : l ≡ node-part ++ edge-part
+  both-parts = sym bytes-decode ∙ graph-bytes-is (decode-graph l)
+
+  node-part-length : length node-part ≡ 6 * nodes-of l
+  node-part-length = omega (arith, length-write (map node-rec ((decode-graph l) .nodes)), length-map ((decode-graph l) .nodes) node-rec, decoded-size L l accepted)
+
+  pub nodes-written : take (6 * nodes-of l) l ≡ write (map node-rec ((decode-graph l) .nodes))
+  nodes-written = ap (take (6 * nodes-of l)) both-parts ∙ take-at node-part edge-part (6 * nodes-of l) node-part-length
+
+  pub edges-written : part l (nodes-of l) (count l - nodes-of l) ≡ write (map edge-rec ((decode-graph l) .edges))
+  edges-written =
+      let n : length edge-part ≤ 6 * (count l - nodes-of l) =
+      omega (arith, length-write (map edge-rec ((decode-graph l) .edges)), length-map ((decode-graph l) .edges) edge-rec, decoded-edges L l accepted) in
+      ap (λ (m : List ℕ). part m (nodes-of l) (count l - nodes-of l)) both-parts
+      ∙ ap (take (6 * (count l - nodes-of l))) (drop-at node-part edge-part (6 * nodes-of l) node-part-length)
+      ∙ take-all (6 * (count l - nodes-of l)) edge-part n
 
   -- the six bytes of node g are those of record g
   pub shown-node : (g : ℕ) → g < size (decode-graph l) → part l g 1 ≡ six (node-rec (node (decode-graph l) g))

@@ -67,6 +67,10 @@ module _ (G : Graph) where
   unfolding graph-bytes
   count-bytes = count-write (graph-recs G) ∙ length-recs
 
+  pub graph-length : length (graph-bytes G) ≡ 6 * (size G + length (G .edges))
+  unfolding graph-bytes
+  graph-length = length-write (graph-recs G) ∙ ap (λ (n : ℕ). 6 * n) length-recs
+
   pub at-node : (i : ℕ) → i < size G → record-at (graph-bytes G) i ≡ node-rec (node G i)
   unfolding graph-bytes
   at-node i h =

@@ -1,18 +1,22 @@
 -- How a call goes through its refusals, step by step, as the code does: a file that checking refuses is the outcome, a file that it accepts passes on to the next check;
 -- a result that does not fit is refused; and the work buffer is left by 13, cleared otherwise.
-use mathlib.Core.Path.{_≡_, refl, sym, ap, subst, _∙_}
+use mathlib.Core.Path.{_≡_, refl, sym, ap, ap₂, subst, _∙_}
 use mathlib.Core.Bool.{Bool, true, false, cond}
-use mathlib.Core.List.{List, [], _∷_}
+use mathlib.Core.List.{List, [], _∷_, _++_}
 use mathlib.Core.Option.{Option, none, some}
 use Prim.Native.Nat.{ℕ, suc, _+_, _≤_, _<_}
 use native.Mathlib.Omega.{arith}
-use lib.Dec.{eqb, ltb}
-use lib.ListN.{length, replicate}
+use lib.Dec.{T, eqb, ltb}
+use lib.ListN.{length, drop, replicate}
 use borrow.Author.Tests.{lt-ltb, le-ltb, ne-eqb}
+use Rattle.files.specs.Basics.Tests.{T-eq}
 use Rattle.files.specs.Checking.{checked, checked-by}
 use Rattle.files.specs.Checking.Laws.{checked-is}
-use Rattle.files.specs.Outcome.{Said, Outcome, refuses, says, Answer, Answers, Does, answer, refused-answer, Check, numbered, file-checks, whole-check, out-check, first-refusal, unless, answered, refusal-at, out-after, work-after}
-use Rattle.files.specs.Outcome.Laws.{file-first, file-or, refusal-leaves-output}
+use Rattle.files.specs.Decode.{graph-bytes}
+use Rattle.files.specs.Graph.{Graph, size}
+use Rattle.files.specs.Outcome.{Said, Outcome, refuses, says, Answer, Answers, Does, answer, refused-answer, verdict-answer, Check, numbered, file-checks, whole-check, scan-check, out-check}
+use Rattle.files.specs.Outcome.{first-refusal, unless, answered, refusal-at, out-after, work-after, too-large, TooLarge, graph-said}
+use Rattle.files.specs.Outcome.Laws.{file-first, file-or, refusal-leaves-output, says-too-large}
 use Rattle.files.specs.Refusal.{Kind, findings, refusal}
 use Rattle.files.specs.Refusal.Laws.{eight}
 use Rattle.files.specs.declared.check.Checked.{Checked}
@@ -47,6 +51,13 @@ pub whole-passes : (n : ℕ) (b : Bool) (cs : List Check) (s : Said) → b ≡ f
 whole-passes n true cs s e = let z : _≡_ {A = ℕ} 0 1 = cc in absurd (omega arith)
 whole-passes n false cs s e = refl
 
+-- a number of one file, at the record that a scan finds
+pub scan-refuses : (n f : ℕ) (m : Option ℕ) (i : ℕ) (cs : List Check) (s : Said) → m ≡ some i → answered (scan-check n f m cs) s ≡ refuses (refusal-at n f i)
+scan-refuses n f m i cs s e = ap (λ (x : Option ℕ). answered (scan-check n f x cs) s) e
+
+pub scan-passes : (n f : ℕ) (m : Option ℕ) (cs : List Check) (s : Said) → m ≡ none → answered (scan-check n f m cs) s ≡ answered cs s
+scan-passes n f m cs s e = ap (λ (x : Option ℕ). answered (scan-check n f x cs) s) e
+
 -- a refusal is answered, and the output is as it was
 pub answers-refused : (o : Outcome) (r : Refusal) (out : List ℕ) → o ≡ refuses r → Answers o out out (refused-answer r)
 answers-refused o r out e = record {
@@ -67,6 +78,39 @@ out-passes n s h = whole-passes 12 (ltb n (length (s .written))) [] s (le-ltb n 
 -- what does not fit is refused
 pub out-refuses : (n : ℕ) (s : Said) → n < length (s .written) → answered (out-check n s) s ≡ refuses (refusal-at 12 0 0)
 out-refuses n s h = whole-refuses 12 (ltb n (length (s .written))) [] s (lt-ltb n (length (s .written)) h)
+
+-- ---- a graph as the result: 11, 12, or written
+
+module _ (L : Limits) (G : Graph) (more out : List ℕ) where
+  abbrev graph-made : Said
+  graph-made = graph-said G more
+
+  abbrev fitting : List Check
+  fitting = out-check (length out) graph-made
+
+  abbrev sized : Outcome
+  sized = answered (whole-check 11 (too-large L G) fitting) graph-made
+
+  pub answers-large : (r : Refusal) → TooLarge L G → r ≡ refusal-at 11 0 0 → Answers sized out out (refused-answer r)
+  answers-large r h e =
+      answers-refused sized r out (whole-refuses 11 (too-large L G) fitting graph-made (T-eq (too-large L G) (says-too-large L G .hear h)) ∙ ap refuses (sym e))
+
+  module _ (small : TooLarge L G → ⊥) where
+    after-eleven : sized ≡ answered fitting graph-made
+    after-eleven = whole-passes 11 (too-large L G) fitting graph-made (off (too-large L G) (λ t. small (says-too-large L G .say t)))
+      where
+        off : (b : Bool) → (T b → ⊥) → b ≡ false
+        off true f = absurd (f tt)
+        off false f = refl
+
+    pub answers-short : (r : Refusal) → length out < length (graph-bytes G) → r ≡ refusal-at 12 0 0 → Answers sized out out (refused-answer r)
+    answers-short r h e = answers-refused sized r out (after-eleven ∙ out-refuses (length out) graph-made h ∙ ap refuses (sym e))
+
+    pub answers-written : (out′ : List ℕ) (n m : ℕ) → length (graph-bytes G) ≤ length out → out′ ≡ graph-bytes G ++ drop (length (graph-bytes G)) out → n ≡ size G → m ≡ length (G .edges)
+        → Answers sized out out′ (verdict-answer 1 (n ∷ m ∷ more))
+    answers-written out′ n m h e a b =
+        let o : sized ≡ says graph-made = after-eleven ∙ out-passes (length out) graph-made h in
+        record { answer-is = ap₂ (λ (j k : ℕ). verdict-answer 1 (j ∷ k ∷ more)) a b ∙ sym (ap answer o); out-is = e ∙ sym (ap (λ (y : Outcome). out-after y out) o) }
 
 -- ---- a file, as checking answers
 

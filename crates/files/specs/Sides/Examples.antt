@@ -3,7 +3,7 @@ use mathlib.Core.Path.{_≡_, refl}
 use mathlib.Core.Bool.{false}
 use mathlib.Core.Option.{none}
 use Rattle.files.specs.Course.{one-one, call-file, returning-file}
-use Rattle.files.specs.Sides.{first-foreign, unprovided}
+use Rattle.files.specs.Sides.{first-foreign, lacks, unprovided}
 
 pub call-of : first-foreign one-one call-file ≡ none
 unfolding first-foreign
@@ -14,5 +14,5 @@ unfolding first-foreign
 returning-of = refl
 
 pub one-one-provided : unprovided one-one 1 ≡ false
-unfolding unprovided
+unfolding unprovided lacks
 one-one-provided = refl

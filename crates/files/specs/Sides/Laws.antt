@@ -11,7 +11,7 @@ use lib.Dec.{T, T-not, not-T}
 use Rattle.files.specs.Basics.First.{Finds, scan-finds}
 use Rattle.files.specs.Basics.Lists.{span, span-i}
 use Rattle.files.specs.Basics.Says.{Says, says-eq, says-lt, says-not, says-and, says-or}
-use Rattle.files.specs.Basics.Tests.{any, any-e, any-i, and-l, and-r, and-i, decide}
+use Rattle.files.specs.Basics.Tests.{any-e, any-i, and-l, and-r, and-i, decide}
 use Rattle.files.specs.Decode.{decode-graph}
 use Rattle.files.specs.Decode.Graphs.{decoded-size, decoded-node, is-node, is-edge, edge-e, few}
 use Rattle.files.specs.Graph.{Node, Edge, size, node}
@@ -19,7 +19,7 @@ use Rattle.files.specs.Interface.{Interface, provides, requires-method, 
 use Rattle.files.specs.Interface.Laws.{in-set-small}
 use Rattle.files.specs.Record.{record-at, count}
 use Rattle.files.specs.Refusal.{graph, refusal, nodes-of}
-use Rattle.files.specs.Sides.{foreign, Foreign, first-foreign, ForeignAt, shares, Shares, unprovided, Unprovided}
+use Rattle.files.specs.Sides.{foreign, Foreign, first-foreign, ForeignAt, shares, Shares, lacks, unprovided, Unprovided}
 use Rattle.files.specs.declared.record.Limits.{Limits}
 
 says-itself : (b : Bool) → Says b (T b)
@@ -45,8 +45,9 @@ says-shares I J = record {
       any-i (λ (m : ℕ). provides I m && provides J m) (span 1 8) (s .0) (span-i 8 1 (s .0) (b .0) (omega (arith, b .1))) (and-i (provides I (s .0)) (provides J (s .0)) (s .1) (s .2));
 }
 
-says-unmet : (I : Interface) → Says (any (λ (k : ℕ). requires-method I k && not (provides I k)) (span 1 8)) ((k : ℕ) × T (requires-method I k) × (T (provides I k) → ⊥))
-says-unmet I = record {
+says-lacks : (I : Interface) → Says (lacks I) ((k : ℕ) × T (requires-method I k) × (T (provides I k) → ⊥))
+unfolding lacks
+says-lacks I = record {
   say = λ t.
       let a = any-e (λ (k : ℕ). requires-method I k && not (provides I k)) (span 1 8) t in
       (a .0, and-l (requires-method I (a .0)) _ (a .2), T-not (provides I (a .0)) (and-r (requires-method I (a .0)) _ (a .2)));
@@ -58,7 +59,7 @@ says-unmet I = record {
 
 pub says-unprovided : (I : Interface) (m : ℕ) → Says (unprovided I m) (Unprovided I m)
 unfolding unprovided
-says-unprovided I m = says-or (says-not (says-itself (provides I m))) (says-unmet I)
+says-unprovided I m = says-or (says-not (says-itself (provides I m))) (says-lacks I)
 
 -- a graph file that is accepted and has no foreign record holds a graph of the interface
 pub none-foreign : (L : Limits) (I : Interface) (l : List ℕ) → refusal L graph l ≡ none → ((i : ℕ) → ForeignAt I l i → ⊥) → Of I (decode-graph l)

@@ -1,16 +1,15 @@
 -- Laws of the largest simulation once it stands in a lent buffer: what a bit says, what a row of bits says, and the lines written from the rows, one more at a time.
 use mathlib.Core.Path.{_≡_, sym, ap, ap₂, _∙_}
 use mathlib.Core.Bool.{Bool}
-use mathlib.Core.List.{List, [], _++_, append-assoc, append-nil}
-use Prim.Native.Nat.{ℕ, zero, suc, _+_, _*_, _<_}
-use native.Mathlib.Nat.{add-zero}
+use mathlib.Core.List.{List, [], _++_}
+use Prim.Native.Nat.{ℕ, suc, _+_, _*_, _<_}
 use native.Mathlib.Omega.{arith}
 use lib.ListN.{length, drop}
 use Rattle.files.specs.Basics.Binary.{value}
-use Rattle.files.specs.Basics.Lists.{each, span, length-each}
+use Rattle.files.specs.Basics.Lists.{each, span, each-more, length-each}
 use Rattle.files.specs.Basics.Tables.{table, length-span}
 use Rattle.files.specs.Cells.{has-bit, put-at}
-use Rattle.files.specs.Cells.Laws.{put-at-is}
+use Rattle.files.specs.Cells.Laws.{put-at-is, put-front}
 use Rattle.files.specs.Graph.{Graph, size}
 use Rattle.files.specs.Line.{relation-line}
 use Rattle.files.specs.Line.Laws.{line-size}
@@ -28,12 +27,6 @@ line-same : (u v : ℕ → Bool) → ((h : ℕ) → h < 256 → u h ≡ v h) →
 line-same u v e = table-same (λ k. value (table u (8 * k) 8)) (λ k. value (table v (8 * k) 8)) 0 32 (λ k a b. ap value (table-same u v (8 * k) 8 (λ i x y. e i (omega arith))))
 
 -- ---- lines, one after the other
-
-each-more : (f : ℕ → List ℕ) (a n : ℕ) → each f (span a (suc n)) ≡ each f (span a n) ++ f (a + n)
-each-more f a zero = append-nil (f a) ∙ ap f (sym (add-zero a))
-each-more f a (suc n) =
-    let e : suc a + n ≡ a + suc n = omega arith in
-    ap (λ (ys : List ℕ). f a ++ ys) (each-more f (suc a) n ∙ ap (λ (i : ℕ). each f (span (suc a) n) ++ f i) e) ∙ sym (append-assoc (f a) (each f (span (suc a) n)) (f (a + suc n)))
 
 module _ (G H : Graph) where
   pub settled-e : (w : List ℕ) → Settled G H w → (g h : ℕ) → g < 256 → h < 256 → rel w g h ≡ related G H g h
@@ -57,14 +50,12 @@ module _ (G H : Graph) where
   -- one line more
   pub lines-more : (w out : List ℕ) (n : ℕ) → Settled G H w → n < 256 → put-at (put-at out 0 (lines-of n)) (32 * n) (relation-line (has-bit w (32 * n))) ≡ put-at out 0 (lines-of (suc n))
   lines-more w out n z h =
-      let m : n ≡ 0 + n = omega arith in
-      ap₂ (λ (k : ℕ) (l : List ℕ). put-at (put-at out 0 (lines-of n)) k l) (sym (lines-length n)) (settled-line w z n h ∙ ap (λ (g : ℕ). relation-line (related G H g)) m)
-      ∙ put-next out (lines-of n) (relation-line (related G H (0 + n)))
-      ∙ ap (put-at out 0) (sym (each-more (λ (g : ℕ). relation-line (related G H g)) 0 n))
+      ap₂ (λ (k : ℕ) (l : List ℕ). put-at (put-at out 0 (lines-of n)) k l) (sym (lines-length n)) (settled-line w z n h)
+      ∙ put-next out (lines-of n) (relation-line (related G H n))
+      ∙ ap (put-at out 0) (sym (each-more (λ (g : ℕ). relation-line (related G H g)) n))
 
   -- all lines are the relation's bytes
   pub lines-all : (out : List ℕ) (n : ℕ) → n ≡ size G → put-at out 0 (lines-of n) ≡ relation-bytes G H ++ drop (length (relation-bytes G H)) out
   lines-all out n e =
       let b : lines-of n ≡ relation-bytes G H = ap lines-of e ∙ sym (relation-lines G H) in
-      let z : 0 + length (relation-bytes G H) ≡ length (relation-bytes G H) = omega arith in
-      ap (put-at out 0) b ∙ put-at-is out 0 (relation-bytes G H) ∙ ap (λ (k : ℕ). relation-bytes G H ++ drop k out) z
+      ap (put-at out 0) b ∙ put-front out (relation-bytes G H)

@@ -5,14 +5,14 @@ use mathlib.Core.List.{List, [], _∷_, _++_, append-assoc, append-nil, List·Me
 use Prim.Native.Nat.{ℕ, zero, suc, _+_, _*_, _-_, _≤_, _<_}
 use native.Mathlib.Omega.{arith}
 use lib.Dec.{T, eqb}
-use lib.ListN.{length, getD, take, drop, length-append}
-use lib.Seq.{drop-cons, drop-append-le, drop-append-add, drop-drop, take-append-seam, drop-length}
+use lib.ListN.{length, getD, drop, length-append}
+use lib.Seq.{drop-cons, drop-append-le, drop-length}
 use borrow.Author.Tests.{ne-eqb}
 use Rattle.files.specs.Basics.Lists.{each-append, each, index-e}
 use Rattle.files.specs.Basics.Queue.{Once, room, fresh, walk, breadth-first}
 use Rattle.files.specs.Basics.Tests.{any, grid, grid-i, length-grid}
 use Rattle.files.specs.Cells.{put-at, has-bit}
-use Rattle.files.specs.Cells.Laws.{put-at-is}
+use Rattle.files.specs.Cells.Laws.{put-at-is, put-front, put-after}
 use Rattle.files.specs.Graph.{Graph, size, Flow}
 use Rattle.files.specs.Property.{Row, Property}
 use Rattle.judging.specs.Levels.{satisfies}
@@ -109,15 +109,7 @@ module _ (G : Graph) (P : List Row) where
 
 -- a run stored after a run
 pub put-next : (l xs ys : List ℕ) → put-at (put-at l 0 xs) (length xs) ys ≡ put-at l 0 (xs ++ ys)
-put-next l xs ys =
-    let z : 0 + length xs ≡ length xs = omega arith in
-    let m : List ℕ = xs ++ drop (length xs) l in
-    let first : put-at l 0 xs ≡ m = put-at-is l 0 xs ∙ ap (λ (k : ℕ). xs ++ drop k l) z in
-    let sum : 0 + length (xs ++ ys) ≡ length xs + length ys = omega (arith, length-append xs ys) in
-    ap (λ (a : List ℕ). put-at a (length xs) ys) first
-    ∙ put-at-is m (length xs) ys
-    ∙ ap₂ (λ (a b : List ℕ). a ++ ys ++ b) (take-append-seam xs (drop (length xs) l)) (drop-append-add xs (drop (length xs) l) (length ys) ∙ drop-drop (length ys) (length xs) l)
-    ∙ sym (put-at-is l 0 (xs ++ ys) ∙ ap (λ (k : ℕ). (xs ++ ys) ++ drop k l) sum)
+put-next l xs ys = let z : length xs ≡ 0 + length xs = omega arith in ap (λ (k : ℕ). put-at (put-at l 0 xs) k ys) z ∙ put-after l 0 xs ys (omega arith)
 
 module _ (G : Graph) (P : List Row) (w : List ℕ) where
   -- the bytes of the first n pairs
@@ -146,5 +138,4 @@ module _ (G : Graph) (P : List Row) (w : List ℕ) where
   pub bytes-all : (out : List ℕ) (n : ℕ) → listed w n ≡ pairs G P → put-at out 0 (bytes-of n) ≡ sheet-bytes G P ++ drop (length (sheet-bytes G P)) out
   bytes-all out n e =
       let b : bytes-of n ≡ sheet-bytes G P = ap (each (λ (x : ℕ × ℕ). fault-bytes (fault G P x))) e ∙ sym (sheet-bytes-are G P) in
-      let z : 0 + length (sheet-bytes G P) ≡ length (sheet-bytes G P) = omega arith in
-      ap (put-at out 0) b ∙ put-at-is out 0 (sheet-bytes G P) ∙ ap (λ (k : ℕ). sheet-bytes G P ++ drop k out) z
+      ap (put-at out 0) b ∙ put-front out (sheet-bytes G P)

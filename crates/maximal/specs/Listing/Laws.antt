@@ -2,14 +2,13 @@
 use mathlib.Core.Path.{_≡_, refl, sym, ap, ap₂, subst, _∙_}
 use mathlib.Core.Logic.{_⊎_, inl, inr}
 use mathlib.Core.Bool.{Bool, true, false, cond}
-use mathlib.Core.List.{List, [], _∷_, _++_, map, append-nil}
+use mathlib.Core.List.{List, [], _∷_, _++_, map}
 use Prim.Native.Nat.{ℕ, zero, suc, _+_, _*_, _/_, _≤_, _<_}
 use native.Mathlib.Decide.{ℕ-discrete}
-use native.Mathlib.Nat.{add-zero}
 use native.Mathlib.Omega.{arith}
 use lib.Dec.{T, ltb, ltb→lt, lt→ltb}
 use lib.ListN.{length, getD, length-append, length-map}
-use Rattle.files.specs.Basics.Lists.{put, keep, each, each-append, span, length-each}
+use Rattle.files.specs.Basics.Lists.{put, keep, each, each-append, each-map, span, span-more, each-more, length-each}
 use Rattle.files.specs.Basics.Tables.{tally, tally-le, length-span}
 use Rattle.files.specs.Basics.Tests.{one, T-eq}
 use Rattle.files.specs.Decode.{graph-bytes, node-rec, edge-rec}
@@ -28,22 +27,11 @@ use Rattle.maximal.specs.Model.Listed.{made-node, made-edge, model-nodes
 
 -- ---- lists over a span
 
-span-more : (a n : ℕ) → span a (suc n) ≡ span a n ++ (a + n) ∷ []
-span-more a zero = ap (λ (i : ℕ). i ∷ []) (sym (add-zero a))
-span-more a (suc n) = let e : suc a + n ≡ a + suc n = omega arith in ap (λ (xs : List ℕ). a ∷ xs) (span-more (suc a) n ∙ ap (λ (i : ℕ). span (suc a) n ++ i ∷ []) e)
-
-each-more : (f : ℕ → List ℕ) (n : ℕ) → each f (span 0 (suc n)) ≡ each f (span 0 n) ++ f n
-each-more f n = let e : 0 + n ≡ n = omega arith in ap (each f) (span-more 0 n ∙ ap (λ (i : ℕ). span 0 n ++ i ∷ []) e) ∙ each-append f (span 0 n) (n ∷ []) ∙ ap (λ (ys : List ℕ). each f (span 0 n) ++ ys) (append-nil (f n))
-
 each-same : {B : Type 0} (f g : ℕ → List B) (a n : ℕ) → ((i : ℕ) → a ≤ i → i < a + n → f i ≡ g i) → each f (span a n) ≡ each g (span a n)
 each-same f g a zero h = refl
 each-same f g a (suc n) h = ap₂ _++_ (h a (omega arith) (omega arith)) (each-same f g (suc a) n (λ i x y. h i (omega arith) (omega arith)))
 
 module _ {A B : Type 0} where
-  each-map : (f : A → List B) (g : ℕ → A) (xs : List ℕ) → each f (map g xs) ≡ each (λ (x : ℕ). f (g x)) xs
-  each-map f g [] = refl
-  each-map f g (x ∷ xs) = ap (λ (ys : List B). f (g x) ++ ys) (each-map f g xs)
-
   each-each : (f : A → List B) (g : ℕ → List A) (xs : List ℕ) → each f (each g xs) ≡ each (λ (x : ℕ). each f (g x)) xs
   each-each f g [] = refl
   each-each f g (x ∷ xs) = each-append f (g x) (each g xs) ∙ ap (λ (ys : List B). each f (g x) ++ ys) (each-each f g xs)
@@ -176,14 +164,10 @@ module _ (I : Interface) (P : List Row) (wf : Property P) (c : ℕ) (w : List �
   pub edge-bytes-are : write (map edge-rec ((model I P) .edges)) ≡ edges-bytes w c c
   edge-bytes-are =
       ap (λ (es : List Edge). write (map edge-rec es)) edges-are
-      ∙ each-maps (each (λ (i : ℕ). each (λ (l : ℕ). map (made-edge I P i l) (keep (leads w i l) (span 0 c))) (span 0 9)) (span 0 c))
+      ∙ each-map six edge-rec (each (λ (i : ℕ). each (λ (l : ℕ). map (made-edge I P i l) (keep (leads w i l) (span 0 c))) (span 0 9)) (span 0 c))
       ∙ each-each (λ (e : Edge). six (edge-rec e)) (λ (i : ℕ). each (λ (l : ℕ). map (made-edge I P i l) (keep (leads w i l) (span 0 c))) (span 0 9)) (span 0 c)
       ∙ each-same _ _ 0 c (λ i a b. each-each (λ (e : Edge). six (edge-rec e)) (λ (l : ℕ). map (made-edge I P i l) (keep (leads w i l) (span 0 c))) (span 0 9)
       ∙ each-same _ _ 0 9 (λ l d e. each-map (λ (e : Edge). six (edge-rec e)) (made-edge I P i l) (keep (leads w i l) (span 0 c))))
-    where
-      each-maps : (es : List Edge) → each six (map edge-rec es) ≡ each (λ (e : Edge). six (edge-rec e)) es
-      each-maps [] = refl
-      each-maps (e ∷ es) = ap (λ (ys : List ℕ). six (edge-rec e) ++ ys) (each-maps es)
 
   node-is : (i : ℕ) → i < c → six (node-rec (made-node I P (in-order I P w i))) ≡ node-bytes w i
   node-is i h =

@@ -1,19 +1,17 @@
--- Modelling as the code comes to it: the work buffer's length, then the files; a model that is too large, one that does not fit, and one that is written.
-use mathlib.Core.Path.{_≡_, refl, sym, ap, ap₂, subst, _∙_}
+-- Modelling as the code comes to it: the work buffer's length, then the files.
+use mathlib.Core.Path.{_≡_, refl, subst}
 use mathlib.Core.Bool.{Bool, true, false}
-use mathlib.Core.List.{List, [], _∷_, _++_}
+use mathlib.Core.List.{List, []}
 use Prim.Native.Nat.{ℕ, _≤_, _<_}
-use lib.Dec.{T, ltb}
-use lib.ListN.{length, drop, replicate}
+use lib.Dec.{ltb}
+use lib.ListN.{length, replicate}
 use borrow.Author.Tests.{lt-ltb, le-ltb}
-use Rattle.files.specs.Basics.Tests.{T-eq}
 use Rattle.files.specs.Checking.{checked}
-use Rattle.files.specs.Decode.{decode-interface, decode-property, graph-bytes}
-use Rattle.files.specs.Graph.{Graph, size}
+use Rattle.files.specs.Decode.{decode-interface, decode-property}
+use Rattle.files.specs.Graph.{Graph}
 use Rattle.files.specs.Limits.{desk}
-use Rattle.files.specs.Outcome.{Said, Outcome, says, refuses, Answer, Answers, Does, answer, out-after, verdict-answer, refused-answer, Check, whole-check, out-check, file-checks, first-refusal, short, too-large, TooLarge, graph-said, answered, refusal-at}
-use Rattle.files.specs.Outcome.Laws.{says-too-large}
-use Rattle.files.specs.Outcome.Steps.{whole-refuses, whole-passes, answers-refused, answers-same, out-passes, out-refuses, answers-file-refused, answers-file-passed, Low, file-low, out-low, does-left, does-cleared}
+use Rattle.files.specs.Outcome.{Said, Outcome, refuses, Answer, Answers, Does, refused-answer, Check, whole-check, out-check, file-checks, first-refusal, short, too-large, graph-said, refusal-at}
+use Rattle.files.specs.Outcome.Steps.{whole-refuses, whole-passes, answers-same, answers-file-refused, answers-file-passed, Low, file-low, out-low, does-left, does-cleared}
 use Rattle.files.specs.Refusal.{property, interface}
 use Rattle.files.specs.declared.check.Checked.{Checked}
 use Rattle.files.specs.declared.check.Checked.the-variants.{Accepted, Refused}
@@ -29,7 +27,7 @@ module _ (L : Limits) (i p : List ℕ) where
   abbrev said : Said
   said = graph-said G []
 
-  -- ---- 11, 12 and the model
+  -- ---- the files, as checking answers
 
   module _ (out : List ℕ) where
     abbrev sized : Outcome
@@ -37,32 +35,6 @@ module _ (L : Limits) (i p : List ℕ) where
 
     abbrev fitting : List Check
     fitting = out-check (length out) said
-
-    pub answers-large : (r : Refusal) → TooLarge L G → r ≡ refusal-at 11 0 0 → Answers sized out out (refused-answer r)
-    answers-large r h e =
-        subst (λ (x : Refusal). Answers sized out out (refused-answer x)) (sym e)
-        (answers-refused sized (refusal-at 11 0 0) out (whole-refuses 11 (too-large L G) fitting said (T-eq (too-large L G) (says-too-large L G .hear h))))
-
-    module _ (small : TooLarge L G → ⊥) where
-      onward : sized ≡ answered fitting said
-      onward = whole-passes 11 (too-large L G) fitting said (off (too-large L G) (λ t. small (says-too-large L G .say t)))
-        where
-          off : (b : Bool) → (T b → ⊥) → b ≡ false
-          off true f = absurd (f tt)
-          off false f = refl
-
-      pub answers-short : (r : Refusal) → length out < length (graph-bytes G) → r ≡ refusal-at 12 0 0 → Answers sized out out (refused-answer r)
-      answers-short r h e =
-          subst (λ (x : Refusal). Answers sized out out (refused-answer x)) (sym e)
-          (answers-refused sized (refusal-at 12 0 0) out (onward ∙ out-refuses (length out) said h))
-
-      pub answers-written : (out′ : List ℕ) (n m : ℕ) → length (graph-bytes G) ≤ length out → out′ ≡ graph-bytes G ++ drop (length (graph-bytes G)) out → n ≡ size G → m ≡ length (G .edges)
-          → Answers sized out out′ (verdict-answer 1 (n ∷ m ∷ []))
-      answers-written out′ n m h e a b =
-          let o : sized ≡ says said = onward ∙ out-passes (length out) said h in
-          record { answer-is = ap₂ (λ (j k : ℕ). verdict-answer 1 (j ∷ k ∷ [])) a b ∙ sym (ap answer o); out-is = e ∙ sym (ap (λ (y : Outcome). out-after y out) o) }
-
-    -- ---- the files, as checking answers
 
     abbrev after-files : List Check
     after-files = whole-check 11 (too-large L G) fitting

@@ -1,7 +1,7 @@
 -- Simulation is kept by joining, two flow graphs joined are a flow graph, and what two files hold within the limits, joined, a file can hold.
 use mathlib.Core.Path.{_≡_, refl, sym, ap, subst, subst₂, _∙_}
 use mathlib.Core.Logic.{_⊎_, inl, inr}
-use mathlib.Core.List.{map, List·Memᴰ, List·Memᴰ·append-cases, Memᴰ·append-left, Memᴰ·append-right, Memᴰ·map, Memᴰ·of-map}
+use mathlib.Core.List.{map, _++_, List·Memᴰ, List·Memᴰ·append-cases, Memᴰ·append-left, Memᴰ·append-right, Memᴰ·map, Memᴰ·of-map}
 use Prim.Native.Nat.{ℕ, suc, _+_, _-_, _≤_, _<_}
 use native.Mathlib.Decide.{decLt}
 use native.Mathlib.Omega.{arith}
@@ -18,6 +18,10 @@ use Rattle.judging.specs.Simulation.{Simulates}
 use Rattle.runs.specs.Join.{join, moved}
 use lib.ListN.{length, getD, length-append, length-map, List·getD-append}
 use lib.Seq.{getD-append-add}
+
+pub join-is : (K G : Graph) → join K G ≡ record { nodes = K .nodes ++ G .nodes; edges = K .edges ++ map (moved (size K)) (G .edges) }
+unfolding join
+join-is K G = refl
 
 -- a node of the joined graph, from either side
 pub join-first : (K G : Graph) (i : ℕ) → i < size K → node (join K G) i ≡ node K i
@@ -206,7 +210,7 @@ module _ (K G : Graph) where
   join-edge-second j h =
       getD-append-add (K .edges) (map (moved (size K)) (G .edges)) j no-edge ∙ getD-map (moved (size K)) (G .edges) j no-edge no-edge h
 
-  join-edges : length ((join K G) .edges) ≡ length (K .edges) + length (G .edges)
+  pub join-edges : length ((join K G) .edges) ≡ length (K .edges) + length (G .edges)
   unfolding join
   join-edges = length-append (K .edges) (map (moved (size K)) (G .edges)) ∙ ap (λ (n : ℕ). length (K .edges) + n) (length-map (G .edges) (moved (size K)))
 

@@ -1,4 +1,5 @@
-use Rattle.maximal.proofs.BuildLaws.{interface-file}
+use Rattle.files.specs.Access.Laws.{accepted-as}
+use Rattle.files.specs.Refusal.{interface}
 use Rattle.maximal.specs.Modelling.{modelled-answer}
 use Rattle.maximal.specs.Modelling.Steps.{interface-refused, interface-passed}
 use borrow.Author.Needs.{needs}
@@ -23,7 +24,11 @@ enum-told c = search needs
 
 -- src/build.rt:106:37
 model-property-requires : tie.Need-model-property-requires
-model-property-requires c κs = let k = c .before .before .before .before .before .before .before .before .before in let x = c .before .before .enum-told .given in (interface-file (k .args .limits) (k .args .interface .now) (c .before .before .before .before .check-interface .result) (x .0 .0) (x .0 .1 .0) (c .before .before .before .before .check-interface .ensures) (x .1), k .pre)
+model-property-requires c κs =
+    let k = c .before .before .before .before .before .before .before .before .before in
+    let x = c .before .before .enum-told .given in
+    let h = c .before .before .before .before .check-interface in
+    (accepted-as (k .args .limits) interface (k .args .interface .now) 1 (h .result) (x .0 .0) (x .0 .1 .0) (h .ensures) (x .1), k .pre)
 
 -- src/build.rt:94:1
 returns : tie.Need-returns

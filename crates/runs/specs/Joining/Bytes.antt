@@ -1,0 +1,146 @@
+-- The joined graph in bytes, part by part, as the code stores them: the first graph's nodes, the second's, the first's edges, the second's moved.
+use mathlib.Core.Path.{_≡_, refl, sym, ap, ap₂, _∙_}
+use mathlib.Core.List.{List, [], _∷_, _++_, map, append-assoc, map-append}
+use Prim.Native.Nat.{ℕ, suc, _+_, _*_, _-_, _≤_, _<_, suc-le-suc}
+use native.Mathlib.Nat.{zero-add, add-zero, zero-lt-suc}
+use native.Mathlib.Omega.{arith}
+use lib.ListN.{length, getD, take, length-append, length-map}
+use lib.Seq.{length-take-le}
+use Rattle.files.specs.Access.{GraphFile, edge-held}
+use Rattle.files.specs.Basics.Lists.{each, each-append, each-map, span}
+use Rattle.files.specs.Cells.{put-at}
+use Rattle.files.specs.Decode.{decode-graph, node-rec, edge-rec, graph-bytes}
+use Rattle.files.specs.Decode.Canonical.{nodes-written, edges-written}
+use Rattle.files.specs.Decode.Graphs.{few, decoded-size, decoded-edges, decoded-flow}
+use Rattle.files.specs.Decode.Written.{graph-bytes-is, length-write}
+use Rattle.files.specs.Graph.{Graph, Edge, Flow, size, no-edge}
+use Rattle.files.specs.Record.{count, part, six, write, edge-record}
+use Rattle.files.specs.Refusal.{nodes-of}
+use Rattle.files.specs.declared.graph.GraphEdge.{GraphEdge}
+use Rattle.judging.specs.Refinement.{Both}
+use Rattle.judging.specs.Refinement.Files.{first-size, second-size, first-edges, second-edges}
+use Rattle.judging.specs.Refinement.Lost.{from-in, to-in}
+use Rattle.judging.specs.Sheets.Walk.{put-next}
+use Rattle.judging.specs.declared.sizes.Sizes.{Sizes}
+use Rattle.runs.specs.Join.{join, moved}
+use Rattle.runs.specs.Join.Laws.{join-is}
+use Rattle.runs.specs.Joining.{moved-bytes}
+
+-- ---- one edge
+
+-- an edge of an accepted graph, moved, has its ends in a byte
+module _ (g : List ℕ) (x : GraphFile g) (n n₂ e₂ : ℕ) (nodes-are : n₂ ≡ nodes-of g) (edges-are : e₂ ≡ count g - nodes-of g) (fits : n + n₂ ≤ 256) (j : ℕ) (h : j < e₂) (u : GraphEdge)
+    (held : u ≡ edge-held (getD ((decode-graph g) .edges) j no-edge)) where
+  inside : j < length ((decode-graph g) .edges)
+  inside = omega (arith, h, edges-are, decoded-edges (x .limits) g (x .accepted))
+
+  flow : Flow (decode-graph g)
+  flow = decoded-flow (x .limits) g (x .accepted)
+
+  pub from-fits : n + u .from < 256
+  from-fits = omega (arith, ap (λ (v : GraphEdge). v .from) held, from-in (decode-graph g) flow j inside, decoded-size (x .limits) g (x .accepted), nodes-are, fits)
+
+  pub to-fits : n + u .to < 256
+  to-fits = omega (arith, ap (λ (v : GraphEdge). v .to) held, to-in (decode-graph g) flow j inside, decoded-size (x .limits) g (x .accepted), nodes-are, fits)
+
+  pub moved-is : six (edge-record (n + u .from) (u .label) (n + u .to)) ≡ moved-bytes n (decode-graph g) j
+  moved-is = ap (λ (v : GraphEdge). six (edge-record (n + v .from) (v .label) (n + v .to))) held
+
+-- ---- all parts
+
+-- each element of a list is each of its places
+each-place : {A B : Type 0} (f : A → List B) (d : A) (xs : List A) (a : ℕ) (g : ℕ → List B) → ((i : ℕ) → i < length xs → g (a + i) ≡ f (getD xs i d))
+    → each g (span a (length xs)) ≡ each f xs
+each-place f d [] a g h = refl
+each-place f d (x ∷ xs) a g h =
+    ap₂ _++_ (ap g (sym (add-zero a)) ∙ h 0 (zero-lt-suc (length xs)))
+    (each-place f d xs (suc a) g (λ i k. let e : suc a + i ≡ a + suc i = omega arith in ap g e ∙ h (suc i) (suc-le-suc k)))
+
+moved-all : (n : ℕ) (G : Graph) → each (moved-bytes n G) (span 0 (length (G .edges))) ≡ write (map edge-rec (map (moved n) (G .edges)))
+moved-all n G =
+    each-place (λ (e : Edge). six (edge-rec (moved n e))) no-edge (G .edges) 0 (moved-bytes n G) (λ i h. ap (moved-bytes n G) (zero-add i))
+    ∙ sym (each-map six edge-rec (map (moved n) (G .edges)) ∙ each-map (λ (e : Edge). six (edge-rec e)) (moved n) (G .edges))
+
+join-parts : (K G : Graph)
+    → graph-bytes (join K G)
+    ≡ write (map node-rec (K .nodes)) ++ write (map node-rec (G .nodes)) ++ write (map edge-rec (K .edges)) ++ write (map edge-rec (map (moved (size K)) (G .edges)))
+join-parts K G =
+    let es = map (moved (size K)) (G .edges) in
+    ap graph-bytes (join-is K G)
+    ∙ graph-bytes-is (record { nodes = K .nodes ++ G .nodes; edges = K .edges ++ es })
+    ∙ ap₂ _++_ (ap write (map-append node-rec (K .nodes) (G .nodes)) ∙ each-append six (map node-rec (K .nodes)) (map node-rec (G .nodes)))
+    (ap write (map-append edge-rec (K .edges) es) ∙ each-append six (map edge-rec (K .edges)) (map edge-rec es))
+    ∙ sym (append-assoc (write (map node-rec (K .nodes)) ++ write (map node-rec (G .nodes))) (write (map edge-rec (K .edges))) (write (map edge-rec es)))
+
+-- four runs stored one after another are one run
+four-runs : (out a b c d : List ℕ) (p q r : ℕ) → p ≡ length a → q ≡ p + length b → r ≡ q + length c
+    → put-at (put-at (put-at (put-at out 0 a) p b) q c) r d ≡ put-at out 0 (a ++ b ++ c ++ d)
+four-runs out a b c d p q r ep eq er =
+    let two : q ≡ length (a ++ b) = omega (arith, ep, eq, length-append a b) in
+    let three : r ≡ length (a ++ b ++ c) = omega (arith, er, two, length-append (a ++ b) c) in
+    ap (λ (l : List ℕ). put-at (put-at l q c) r d) (ap (λ (k : ℕ). put-at (put-at out 0 a) k b) ep ∙ put-next out a b)
+    ∙ ap (λ (l : List ℕ). put-at l r d) (ap (λ (k : ℕ). put-at (put-at out 0 (a ++ b)) k c) two ∙ put-next out (a ++ b) c)
+    ∙ ap (λ (k : ℕ). put-at (put-at out 0 (a ++ b ++ c)) k d) three
+    ∙ put-next out (a ++ b ++ c) d
+
+module _ (s : Sizes) (f g : List ℕ) (both : Both s f g) where
+  abbrev K : Graph
+  K = decode-graph f
+
+  abbrev G : Graph
+  G = decode-graph g
+
+  -- the parts stand in their files
+  pub first-room : 6 * (s .nodes + s .edges) ≤ length f
+  first-room = omega (arith, both .first-nodes-are, both .first-edges-are, few (both .first-file .limits) f (both .first-file .accepted))
+
+  pub first-cut : length (take (6 * s .nodes) f) ≡ 6 * s .nodes
+  first-cut = length-take-le (6 * s .nodes) f (omega (arith, first-room))
+
+  pub second-cut : length (take (6 * s .nodes2) g) ≡ 6 * s .nodes2
+  second-cut = length-take-le (6 * s .nodes2) g (omega (arith, both .second-nodes-are, few (both .second-file .limits) g (both .second-file .accepted)))
+
+  abbrev all-moved : List ℕ
+  all-moved = each (moved-bytes (s .nodes) G) (span 0 (s .edges2))
+
+  nodes-first : take (6 * s .nodes) f ≡ write (map node-rec (K .nodes))
+  nodes-first = ap (λ (n : ℕ). take (6 * n) f) (both .first-nodes-are) ∙ nodes-written (both .first-file .limits) f (both .first-file .accepted)
+
+  nodes-second : take (6 * s .nodes2) g ≡ write (map node-rec (G .nodes))
+  nodes-second = ap (λ (n : ℕ). take (6 * n) g) (both .second-nodes-are) ∙ nodes-written (both .second-file .limits) g (both .second-file .accepted)
+
+  edges-first : part f (s .nodes) (s .edges) ≡ write (map edge-rec (K .edges))
+  edges-first = ap₂ (part f) (both .first-nodes-are) (both .first-edges-are) ∙ edges-written (both .first-file .limits) f (both .first-file .accepted)
+
+  edges-second : all-moved ≡ write (map edge-rec (map (moved (size K)) (G .edges)))
+  edges-second = ap₂ (λ (n m : ℕ). each (moved-bytes n G) (span 0 m)) (sym (first-size s f g both)) (sym (second-edges s f g both)) ∙ moved-all (size K) G
+
+  abbrev node-run : Graph → List ℕ
+  node-run H = write (map node-rec (H .nodes))
+
+  abbrev edge-run : List Edge → List ℕ
+  edge-run es = write (map edge-rec es)
+
+  node-run-length : (H : Graph) → length (node-run H) ≡ 6 * size H
+  node-run-length H = omega (arith, length-write (map node-rec (H .nodes)), length-map (H .nodes) node-rec)
+
+  edge-run-length : (es : List Edge) → length (edge-run es) ≡ 6 * length es
+  edge-run-length es = omega (arith, length-write (map edge-rec es), length-map es edge-rec)
+
+  -- the four parts, stored one after another, are the joined graph
+  pub join-stored : (out o₁ o₂ o₃ o₄ c : List ℕ) → o₁ ≡ put-at out 0 (take (6 * s .nodes) f) → o₂ ≡ put-at o₁ (6 * s .nodes) (take (6 * s .nodes2) g)
+      → o₃ ≡ put-at o₂ (6 * s .nodes + 6 * s .nodes2) c → c ≡ part f (s .nodes) (s .edges) → o₄ ≡ put-at o₃ (6 * (s .nodes + s .nodes2 + s .edges)) all-moved
+      → o₄ ≡ put-at out 0 (graph-bytes (join K G))
+  join-stored out o₁ o₂ o₃ o₄ c e₁ e₂ e₃ e e₄ =
+      let d : List ℕ = edge-run (map (moved (size K)) (G .edges)) in
+      let p : ℕ = 6 * s .nodes in
+      let q : ℕ = 6 * s .nodes + 6 * s .nodes2 in
+      let r : ℕ = 6 * (s .nodes + s .nodes2 + s .edges) in
+      let one : o₁ ≡ put-at out 0 (node-run K) = e₁ ∙ ap (put-at out 0) nodes-first in
+      let two : o₂ ≡ put-at (put-at out 0 (node-run K)) p (node-run G) = e₂ ∙ ap₂ (λ (l m : List ℕ). put-at l p m) one nodes-second in
+      let three : o₃ ≡ put-at (put-at (put-at out 0 (node-run K)) p (node-run G)) q (edge-run (K .edges)) = e₃ ∙ ap₂ (λ (l m : List ℕ). put-at l q m) two (e ∙ edges-first) in
+      e₄
+      ∙ ap₂ (λ (l m : List ℕ). put-at l r m) three edges-second
+      ∙ four-runs out (node-run K) (node-run G) (edge-run (K .edges)) d p q r
+      (omega (arith, node-run-length K, first-size s f g both)) (omega (arith, node-run-length G, second-size s f g both)) (omega (arith, edge-run-length (K .edges), first-edges s f g both))
+      ∙ ap (put-at out 0) (sym (join-parts K G))

@@ -1,0 +1,188 @@
+-- Joining as the code comes to it: through each file and through 9; then a joined graph that is too large, one that does not fit, and one that is written.
+use mathlib.Core.Path.{_≡_, sym, ap, ap₂, subst, _∙_}
+use mathlib.Core.Bool.{Bool, true, false, _||_}
+use mathlib.Core.List.{List, [], _∷_}
+use Prim.Native.Nat.{ℕ, _+_, _*_, _≤_, _<_}
+use native.Mathlib.Omega.{arith}
+use lib.Bits.{bitOr}
+use lib.Dec.{T, ltb, lt→ltb}
+use lib.ListN.{length}
+use Rattle.files.specs.Basics.Tests.{or-l, at-most}
+use Rattle.files.specs.Cells.{put-at}
+use Rattle.files.specs.Cells.Laws.{put-front}
+use Rattle.files.specs.Checking.{checked}
+use Rattle.files.specs.Decode.{decode-graph, decode-interface, graph-bytes}
+use Rattle.files.specs.Decode.Graphs.{few}
+use Rattle.files.specs.Decode.Written.{graph-length}
+use Rattle.files.specs.Graph.{Graph, size}
+use Rattle.files.specs.Interface.{Interface}
+use Rattle.files.specs.Limits.{desk}
+use Rattle.files.specs.Outcome.{Said, Outcome, refuses, Answer, Answers, refused-answer, verdict-answer, Check, whole-check, scan-check, answered, refusal-at, too-large, TooLarge}
+use Rattle.files.specs.Outcome.Laws.{says-too-large}
+use Rattle.files.specs.Outcome.Steps.{whole-refuses, whole-passes, scan-refuses, scan-passes, answers-refused, answers-same, answers-file-refused, answers-file-passed, answers-large, answers-short}
+use Rattle.files.specs.Outcome.Steps.{answers-written}
+use Rattle.files.specs.Record.{count}
+use Rattle.files.specs.Refusal.{graph, interface}
+use Rattle.files.specs.Sides.{first-foreign, first-foreign-record, shares}
+use Rattle.files.specs.Sides.Reads.{record-found, none-found}
+use Rattle.files.specs.declared.check.Checked.{Checked}
+use Rattle.files.specs.declared.check.Checked.the-variants.{Accepted, Refused}
+use Rattle.files.specs.declared.record.Limits.{Limits}
+use Rattle.files.specs.declared.refusal.Refusal.{Refusal}
+use Rattle.judging.specs.Refinement.{Both}
+use Rattle.judging.specs.Refinement.Files.{first-size, second-size, first-edges, second-edges}
+use Rattle.judging.specs.declared.sizes.Sizes.{Sizes}
+use Rattle.runs.specs.Join.{join}
+use Rattle.runs.specs.Join.Laws.{join-size, join-edges}
+use Rattle.runs.specs.Joining.{joined, join-said, from-size, from-sides, from-graph2, from-interface2, from-graph1}
+
+module _ (L : Limits) (i1 g1 i2 g2 out : List ℕ) where
+  abbrev I : Interface
+  I = decode-interface i1
+
+  abbrev J : Interface
+  J = decode-interface i2
+
+  abbrev said : Said
+  said = join-said L i1 g1 i2 g2 (length out)
+
+  abbrev on-size : List Check
+  on-size = from-size L i1 g1 i2 g2 (length out)
+
+  abbrev on-sides : List Check
+  on-sides = from-sides L i1 g1 i2 g2 (length out)
+
+  abbrev on-graph2 : List Check
+  on-graph2 = from-graph2 L i1 g1 i2 g2 (length out)
+
+  abbrev on-interface2 : List Check
+  on-interface2 = from-interface2 L i1 g1 i2 g2 (length out)
+
+  abbrev on-graph1 : List Check
+  on-graph1 = from-graph1 L i1 g1 i2 g2 (length out)
+
+  -- ---- the files, as checking answers
+
+  module _ (x : Checked) where
+    pub interface1-refused : x ≡ checked L interface i1 1 → (r : Refusal) → x ≡ Refused r → Answers (joined L i1 g1 i2 g2 (length out)) out out (refused-answer r)
+    unfolding joined
+    interface1-refused is r d = answers-file-refused L 1 interface i1 on-graph1 said out x is r d
+
+    pub interface1-passed : x ≡ checked L interface i1 1 → (n c : ℕ) (out′ : List ℕ) (a : Answer) → x ≡ Accepted n c → Answers (answered on-graph1 said) out out′ a
+        → Answers (joined L i1 g1 i2 g2 (length out)) out out′ a
+    unfolding joined
+    interface1-passed is n c out′ a d = answers-file-passed L 1 interface i1 on-graph1 said out x is n c out′ a d
+
+    pub graph1-refused : x ≡ checked L graph g1 2 → (r : Refusal) → x ≡ Refused r → Answers (answered on-graph1 said) out out (refused-answer r)
+    graph1-refused is r d = answers-file-refused L 2 graph g1 on-interface2 said out x is r d
+
+    pub graph1-passed : x ≡ checked L graph g1 2 → (n c : ℕ) (out′ : List ℕ) (a : Answer) → x ≡ Accepted n c
+        → Answers (answered on-interface2 said) out out′ a → Answers (answered on-graph1 said) out out′ a
+    graph1-passed is n c out′ a d = answers-file-passed L 2 graph g1 on-interface2 said out x is n c out′ a d
+
+    pub interface2-refused : x ≡ checked L interface i2 3 → (r : Refusal) → x ≡ Refused r → Answers (answered on-interface2 said) out out (refused-answer r)
+    interface2-refused is r d = answers-file-refused L 3 interface i2 on-graph2 said out x is r d
+
+    pub interface2-passed : x ≡ checked L interface i2 3 → (n c : ℕ) (out′ : List ℕ) (a : Answer) → x ≡ Accepted n c
+        → Answers (answered on-graph2 said) out out′ a → Answers (answered on-interface2 said) out out′ a
+    interface2-passed is n c out′ a d = answers-file-passed L 3 interface i2 on-graph2 said out x is n c out′ a d
+
+    pub graph2-refused : x ≡ checked L graph g2 4 → (r : Refusal) → x ≡ Refused r → Answers (answered on-graph2 said) out out (refused-answer r)
+    graph2-refused is r d = answers-file-refused L 4 graph g2 on-sides said out x is r d
+
+    pub graph2-passed : x ≡ checked L graph g2 4 → (n c : ℕ) (out′ : List ℕ) (a : Answer) → x ≡ Accepted n c
+        → Answers (answered on-sides said) out out′ a → Answers (answered on-graph2 said) out out′ a
+    graph2-passed is n c out′ a d = answers-file-passed L 4 graph g2 on-sides said out x is n c out′ a d
+
+  module _ (s : Sizes) (both : Both s g1 g2) where
+    -- ---- 9, in argument order, then a shared method
+
+    abbrev nine : Outcome
+    nine = answered on-sides said
+
+    abbrev on-shared : List Check
+    on-shared = whole-check 9 (shares I J) on-size
+
+    abbrev on-second : List Check
+    on-second = scan-check 9 4 (first-foreign J g2) on-shared
+
+    first-records : s .nodes + s .edges ≡ count g1
+    first-records = omega (arith, both .first-nodes-are, both .first-edges-are, few (both .first-file .limits) g1 (both .first-file .accepted))
+
+    second-records : s .nodes2 + s .edges2 ≡ count g2
+    second-records = omega (arith, both .second-nodes-are, both .second-edges-are, few (both .second-file .limits) g2 (both .second-file .accepted))
+
+    module _ (i : ℕ) (first : i ≡ first-foreign-record I g1) where
+      pub first-foreign-refused : i < s .nodes + s .edges → (r : Refusal) → r ≡ refusal-at 9 2 i → Answers nine out out (refused-answer r)
+      first-foreign-refused h r e =
+          answers-refused nine r out (scan-refuses 9 2 (first-foreign I g1) i on-second said (record-found I g1 i first (omega (arith, h, first-records))) ∙ ap refuses (sym e))
+
+      module _ (past : s .nodes + s .edges ≤ i) (j : ℕ) (second : j ≡ first-foreign-record J g2) where
+        first-passes : nine ≡ answered on-second said
+        first-passes = scan-passes 9 2 (first-foreign I g1) on-second said (none-found I g1 i first (omega (arith, past, first-records)))
+
+        pub second-foreign-refused : j < s .nodes2 + s .edges2 → (r : Refusal) → r ≡ refusal-at 9 4 j → Answers nine out out (refused-answer r)
+        second-foreign-refused h r e =
+            answers-refused nine r out
+            (first-passes ∙ scan-refuses 9 4 (first-foreign J g2) j on-shared said (record-found J g2 j second (omega (arith, h, second-records))) ∙ ap refuses (sym e))
+
+        module _ (past2 : s .nodes2 + s .edges2 ≤ j) (b : Bool) (is : b ≡ shares I J) where
+          second-passes : nine ≡ answered on-shared said
+          second-passes = first-passes ∙ scan-passes 9 4 (first-foreign J g2) on-shared said (none-found J g2 j second (omega (arith, past2, second-records)))
+
+          pub shared-refused : b ≡ true → (r : Refusal) → r ≡ refusal-at 9 0 0 → Answers nine out out (refused-answer r)
+          shared-refused t r e = answers-refused nine r out (second-passes ∙ whole-refuses 9 (shares I J) on-size said (sym is ∙ t) ∙ ap refuses (sym e))
+
+          pub sides-passed : b ≡ false → (out′ : List ℕ) (a : Answer) → Answers (answered on-size said) out out′ a → Answers nine out out′ a
+          sides-passed t out′ a = answers-same (answered on-size said) nine out out′ a (second-passes ∙ whole-passes 9 (shares I J) on-size said (sym is ∙ t))
+
+    -- ---- 11, 12 and the joined graph
+
+    abbrev whole-join : Graph
+    whole-join = join (decode-graph g1) (decode-graph g2)
+
+    nodes-joined : s .nodes + s .nodes2 ≡ size whole-join
+    nodes-joined = omega (arith, join-size (decode-graph g1) (decode-graph g2), first-size s g1 g2 both, second-size s g1 g2 both)
+
+    edges-joined : s .edges + s .edges2 ≡ length (whole-join .edges)
+    edges-joined = omega (arith, join-edges (decode-graph g1) (decode-graph g2), first-edges s g1 g2 both, second-edges s g1 g2 both)
+
+    bytes-joined : length (graph-bytes whole-join) ≡ 6 * (s .nodes + s .nodes2 + (s .edges + s .edges2))
+    bytes-joined = omega (arith, graph-length whole-join, nodes-joined, edges-joined)
+
+    abbrev passes-limits : Bool
+    passes-limits = ltb (L .nodes) (s .nodes + s .nodes2) || ltb (L .edges) (s .edges + s .edges2)
+
+    limits-are : passes-limits ≡ too-large L whole-join
+    limits-are = ap₂ (λ (n e : ℕ). ltb (L .nodes) n || ltb (L .edges) e) nodes-joined edges-joined
+
+    abbrev both-bytes : List ℕ
+    both-bytes = bitOr (I .provided) (J .provided) ∷ bitOr (I .required) (J .required) ∷ []
+
+    pub large-refused : passes-limits ≡ true → (r : Refusal) → r ≡ refusal-at 11 0 0 → Answers (answered on-size said) out out (refused-answer r)
+    large-refused t r e = answers-large L whole-join both-bytes out r (says-too-large L whole-join .say (subst T (sym t ∙ limits-are) tt)) e
+
+    module _ (within : passes-limits ≡ false) where
+      pub nodes-few : s .nodes + s .nodes2 ≤ L .nodes
+      nodes-few = at-most (s .nodes + s .nodes2) (L .nodes) (λ h. subst T within (or-l (ltb (L .nodes) (s .nodes + s .nodes2)) _ (lt→ltb (L .nodes) (s .nodes + s .nodes2) h)))
+
+      small : TooLarge L whole-join → ⊥
+      small h = subst T (sym limits-are ∙ within) (says-too-large L whole-join .hear h)
+
+      pub short-refused : length out < 6 * (s .nodes + s .nodes2 + (s .edges + s .edges2)) → (r : Refusal) → r ≡ refusal-at 12 0 0 → Answers (answered on-size said) out out (refused-answer r)
+      short-refused h r e = answers-short L whole-join both-bytes out small r (omega (arith, h, bytes-joined)) e
+
+      pub join-written : 6 * (s .nodes + s .nodes2 + (s .edges + s .edges2)) ≤ length out → (out′ : List ℕ) → out′ ≡ put-at out 0 (graph-bytes whole-join) → (p p₂ q q₂ : ℕ)
+          → p ≡ I .provided → p₂ ≡ J .provided → q ≡ I .required → q₂ ≡ J .required
+          → Answers (answered on-size said) out out′ (verdict-answer 1 ((s .nodes + s .nodes2) ∷ (s .edges + s .edges2) ∷ bitOr p p₂ ∷ bitOr q q₂ ∷ []))
+      join-written h out′ e p p₂ q q₂ a b c d =
+          subst (λ (l : List ℕ). Answers (answered on-size said) out out′ (verdict-answer 1 ((s .nodes + s .nodes2) ∷ (s .edges + s .edges2) ∷ l)))
+          (ap₂ (λ (x y : ℕ). x ∷ y ∷ []) (ap₂ bitOr (sym a) (sym b)) (ap₂ bitOr (sym c) (sym d)))
+          (answers-written L whole-join both-bytes out small out′ (s .nodes + s .nodes2) (s .edges + s .edges2) (omega (arith, h, bytes-joined)) (e ∙ put-front out (graph-bytes whole-join))
+          nodes-joined edges-joined)
+
+-- ---- the limits of the desk
+
+pub answers-desk : (L : Limits) (i1 g1 i2 g2 out out′ : List ℕ) (a : Answer) → L ≡ desk → Answers (joined L i1 g1 i2 g2 (length out)) out out′ a
+    → Answers (joined desk i1 g1 i2 g2 (length out)) out out′ a
+answers-desk L i1 g1 i2 g2 out out′ a e = subst (λ (M : Limits). Answers (joined M i1 g1 i2 g2 (length out)) out out′ a) e

@@ -1,0 +1,127 @@
+-- Showing as the code comes to it: where a number stands, through each check.
+use mathlib.Core.Path.{_≡_, refl, sym, ap, ap₂, subst, _∙_}
+use mathlib.Core.Bool.{Bool, true, false, cond}
+use mathlib.Core.List.{List, []}
+use mathlib.Core.Option.{none}
+use Prim.Native.Nat.{ℕ, _+_, _*_, _-_, _/_, _≤_, _<_}
+use native.Mathlib.Omega.{arith}
+use lib.Dec.{leb, ltb}
+use lib.ListN.{length, take, drop}
+use borrow.Author.Tests.{lt-ltb, le-ltb, le-leb, lt-leb}
+use Rattle.files.specs.Checking.{checked}
+use Rattle.files.specs.Checking.Laws.{accepted-counts}
+use Rattle.files.specs.Decode.{decode-graph}
+use Rattle.files.specs.Decode.Graphs.{few, decoded-size}
+use Rattle.files.specs.Graph.{size}
+use Rattle.files.specs.Outcome.{Said, Outcome, says, refuses, refusal-at, Check, whole-check, file-checks, answered, answer, refused-answer, verdict-answer, written-of}
+use Rattle.files.specs.Outcome.Steps.{file-refuses, file-passes, whole-refuses, whole-passes}
+use Rattle.files.specs.Record.{count, part}
+use Rattle.files.specs.Refusal.{graph, nodes-of, refusal}
+use Rattle.files.specs.declared.check.Checked.{Checked}
+use Rattle.files.specs.declared.check.Checked.the-variants.{Accepted, Refused}
+use Rattle.files.specs.declared.record.Limits.{Limits}
+use Rattle.files.specs.declared.refusal.Refusal.{Refusal}
+use Rattle.runs.specs.Showing.{show-size, show-part, show-said, shown, from-second, Stands}
+use Rattle.judging.specs.Judge.{GraphWithin}
+use Rattle.runs.specs.declared.showing.Place.{Place}
+use Rattle.runs.specs.declared.showing.Place.the-variants as place
+
+-- a record before the last stands in its file
+record-in : (l : List ℕ) (i : ℕ) → i < count l → 6 * i + 6 ≤ length l
+record-in l i h = omega arith
+
+module _ (L : Limits) (g1 g2 : List ℕ) (number : ℕ) (within : GraphWithin L g1) where
+  abbrev said : Said
+  said = show-said L g1 g2 number
+
+  abbrev seven : List Check
+  seven = whole-check 7 (leb (show-size L g1 g2 number) number) []
+
+  first-size : size (decode-graph g1) ≡ nodes-of g1
+  first-size = decoded-size L g1 within
+
+  module _ (x : Checked) (is : x ≡ checked L graph g2 2) where
+    pub second-refused : (r : Refusal) → x ≡ Refused r → Stands (from-second L g1 g2 number) g1 g2 (place.Refused r)
+    second-refused r d = file-refuses L 2 graph g2 seven said r (sym is ∙ d)
+
+    module _ (n m c : ℕ) (first : n ≡ nodes-of g1) (accepted : x ≡ Accepted m c) where
+      counts : GraphWithin L g2 × (m ≡ nodes-of g2) × (c ≡ count g2)
+      counts = accepted-counts L graph g2 2 m c (sym is ∙ accepted)
+
+      second-size : size (decode-graph g2) ≡ m
+      second-size = decoded-size L g2 (counts .0) ∙ sym (counts .1)
+
+      onward : from-second L g1 g2 number ≡ answered seven said
+      onward = file-passes L 2 graph g2 seven said m c (sym is ∙ accepted)
+
+      below : number < n + m → from-second L g1 g2 number ≡ says said
+      below h = onward ∙ whole-passes 7 (leb (show-size L g1 g2 number) number) [] said (lt-leb (show-size L g1 g2 number) number (omega (arith, first-size, second-size, first)))
+
+      -- in the first file
+      pub stands-first : number < n → Stands (from-second L g1 g2 number) g1 g2 (place.First number)
+      stands-first h = (
+        record-in g1 number (omega (arith, first, few L g1 within)),
+        below (omega arith) ∙ ap (λ (b : Bool). says (record { verdict = 1; values = []; written = cond b (part g1 number 1) (part g2 (number - size (decode-graph g1)) 1) }))
+            (lt-ltb number (size (decode-graph g1)) (omega (arith, first-size, first))),
+      )
+
+      -- in the second, counted on from the first's nodes
+      pub stands-second : n ≤ number → number - n < m → Stands (from-second L g1 g2 number) g1 g2 (place.Second (number - n))
+      stands-second h k = (
+        record-in g2 (number - n) (omega (arith, counts .1, few L g2 (counts .0))),
+        below (omega arith)
+            ∙ ap (λ (b : Bool). says (record { verdict = 1; values = []; written = cond b (part g1 number 1) (part g2 (number - size (decode-graph g1)) 1) }))
+            (le-ltb number (size (decode-graph g1)) (omega (arith, first-size, first)))
+            ∙ ap (λ (i : ℕ). says (record { verdict = 1; values = []; written = part g2 (number - i) 1 })) (first-size ∙ sym first),
+      )
+
+      -- in neither
+      pub stands-nowhere : n ≤ number → m ≤ number - n → (r : Refusal) → r ≡ refusal-at 7 0 0 → Stands (from-second L g1 g2 number) g1 g2 (place.Refused r)
+      stands-nowhere h k r e =
+          onward ∙ whole-refuses 7 (leb (show-size L g1 g2 number) number) [] said (le-leb (show-size L g1 g2 number) number (omega (arith, first-size, second-size, first))) ∙ ap refuses (sym e)
+
+-- ---- the first graph
+
+module _ (L : Limits) (g1 g2 : List ℕ) (number : ℕ) (x : Checked) (is : x ≡ checked L graph g1 1) where
+  abbrev second-on : List Check
+  second-on = file-checks L 2 graph g2 (whole-check 7 (leb (show-size L g1 g2 number) number) [])
+
+  pub first-refused : (r : Refusal) → x ≡ Refused r → Stands (shown L g1 g2 number) g1 g2 (place.Refused r)
+  unfolding shown
+  first-refused r d = file-refuses L 1 graph g1 second-on (show-said L g1 g2 number) r (sym is ∙ d)
+
+  pub first-counts : (n c : ℕ) → x ≡ Accepted n c → GraphWithin L g1 × (n ≡ nodes-of g1)
+  first-counts n c d = let a = accepted-counts L graph g1 1 n c (sym is ∙ d) in (a .0, a .1)
+
+  pub first-passed : (n c : ℕ) (p : Place) → x ≡ Accepted n c → Stands (from-second L g1 g2 number) g1 g2 p → Stands (shown L g1 g2 number) g1 g2 p
+  unfolding shown
+  first-passed n c p d = go p
+    where
+      e : shown L g1 g2 number ≡ from-second L g1 g2 number
+      e = file-passes L 1 graph g1 second-on (show-said L g1 g2 number) n c (sym is ∙ d)
+
+      go : (p : Place) → Stands (from-second L g1 g2 number) g1 g2 p → Stands (shown L g1 g2 number) g1 g2 p
+      go (place.First i) s = (s .0, e ∙ s .1)
+      go (place.Second i) s = (s .0, e ∙ s .1)
+      go (place.Refused r) s = e ∙ s
+
+-- ---- from a place to the part and the answer
+
+-- a record stands in its file, and is the part and the answer
+abbrev pub FromRecord : Outcome → List ℕ → ℕ → Type 0
+FromRecord o l i = (6 * i + 6 ≤ length l) × (take (6 * i + 6 - 6 * i) (drop (6 * i) l) ≡ written-of o) × (verdict-answer 1 [] ≡ answer o)
+
+from-record : (o : Outcome) (l : List ℕ) (i : ℕ) → 6 * i + 6 ≤ length l → o ≡ says (record { verdict = 1; values = []; written = part l i 1 }) → FromRecord o l i
+from-record o l i h d =
+    let e : 6 * i + 6 - 6 * i ≡ 6 = omega arith in
+    (h, ap (λ (n : ℕ). take n (drop (6 * i) l)) e ∙ sym (ap written-of d), sym (ap answer d))
+
+module _ (o : Outcome) (g1 g2 : List ℕ) (p : Place) (stands : Stands o g1 g2 p) where
+  pub found-first : (i : ℕ) → p ≡ place.First i → FromRecord o g1 i
+  found-first i e = let s = subst (Stands o g1 g2) e stands in from-record o g1 i (s .0) (s .1)
+
+  pub found-second : (i : ℕ) → p ≡ place.Second i → FromRecord o g2 i
+  found-second i e = let s = subst (Stands o g1 g2) e stands in from-record o g2 i (s .0) (s .1)
+
+  pub found-nowhere : (r : Refusal) → p ≡ place.Refused r → ([] ≡ written-of o) × (refused-answer r ≡ answer o)
+  found-nowhere r e = let d = subst (Stands o g1 g2) e stands in (sym (ap written-of d), sym (ap answer d))

@@ -1,0 +1,235 @@
+// Joining two sides: all refusals in the published order, then the joined graph's bytes. States to the layer above that the answer and the output are those of
+// the definition `joined`, for any limits within the strides of node numbers.
+ghost use mathlib.Core.Path.{_≡_};
+ghost use Prim.Native.Nat.{_+_, _-_, _*_, _≤_, _<_};
+ghost use lib.ListN.{length};
+ghost use Rattle.files.specs.Access.{GraphFile, InterfaceFile};
+ghost use Rattle.files.specs.Basics.Lists.{each, span};
+ghost use Rattle.files.specs.Cells.{put-at};
+ghost use Rattle.files.specs.Decode.{decode-graph, graph-bytes};
+ghost use Rattle.files.specs.Outcome.{Answers, answered};
+ghost use Rattle.files.specs.Record.{count};
+ghost use Rattle.files.specs.Refusal.{nodes-of};
+ghost use Rattle.judging.specs.Judge.{GraphWithin, Strides};
+ghost use Rattle.judging.specs.Refinement.{Both};
+ghost use Rattle.runs.specs.Join.{join};
+ghost use Rattle.runs.specs.Joining.{joined, joined-answer, join-said, from-graph1, from-interface2, from-graph2, from-sides, from-size, moved-bytes};
+use crate::answers::Joined;
+use files::cells::copy_at;
+use files::check::Checked;
+use files::check::check_graph;
+use files::check::check_interface;
+use files::encode::put_record;
+use files::graph::EdgeAt;
+use files::graph::edge_at;
+use files::interface::provided_methods;
+use files::interface::required_methods;
+use files::record::Limits;
+use files::record::Record;
+use files::refusal::Refusal;
+use files::sides::first_foreign;
+use files::sides::shares;
+use judging::sizes::Sizes;
+
+// Writes edge j of the second graph, with its nodes counted on from the first's, as record `at`.
+fn write_moved(graph2: &[u8], s: Sizes, out: &mut [u8], at: usize, j: usize)
+    requires { ⌜ (GraphFile (now graph2)) × ((s .nodes2 ≡ nodes-of (now graph2)) × ((s .edges2 ≡ count (now graph2) - nodes-of (now graph2)) × ((s .nodes + s .nodes2 ≤ 256) × ((j < s .edges2) × (6 * at + 6 ≤ length (now out)))))) ⌝ }
+    ensures { λ _. ⌜ now (out .exit) ≡ put-at (now (out .entry)) (6 * at) (moved-bytes (s .nodes) (decode-graph (now (graph2 .entry))) j) ⌝ }
+{
+    let EdgeAt::Is(e) = edge_at(graph2, s.nodes2, j, 4) else {
+        return;
+    };
+    let from = (s.nodes + e.from) as u8;
+    let to = (s.nodes + e.to) as u8;
+    put_record(out, at, Record::edge(from, e.label, to));
+}
+
+// Writes the second graph's edges from record `first` on.
+fn write_all_moved(graph2: &[u8], s: Sizes, out: &mut [u8], first: usize)
+    requires { ⌜ (GraphFile (now graph2)) × ((s .nodes2 ≡ nodes-of (now graph2)) × ((s .edges2 ≡ count (now graph2) - nodes-of (now graph2)) × ((s .nodes + s .nodes2 ≤ 256) × (6 * (first + s .edges2) ≤ length (now out))))) ⌝ }
+    ensures { λ _. ⌜ now (out .exit) ≡ put-at (now (out .entry)) (6 * first) (each (moved-bytes (s .nodes) (decode-graph (now (graph2 .entry)))) (span 0 (s .edges2))) ⌝ }
+{
+    let mut j = 0;
+    while j < s.edges2 {
+        write_moved(graph2, s, out, first + j, j);
+        j += 1;
+    }
+}
+
+// Writes the joined graph: the first graph's nodes, the second's, the first's edges, the second's moved.
+fn write_join(graph1: &[u8], graph2: &[u8], s: Sizes, out: &mut [u8])
+    requires { ⌜ (Both s (now graph1) (now graph2)) × ((s .nodes + s .nodes2 ≤ 256) × (6 * (s .nodes + s .nodes2 + s .edges + s .edges2) ≤ length (now out))) ⌝ }
+    ensures { λ _. ⌜ now (out .exit) ≡ put-at (now (out .entry)) 0 (graph-bytes (join (decode-graph (now (graph1 .entry))) (decode-graph (now (graph2 .entry))))) ⌝ }
+{
+    let cut1 = Record::LEN * s.nodes;
+    let cut2 = Record::LEN * s.nodes2;
+    let end1 = Record::LEN * (s.nodes + s.edges);
+    copy_at(out, 0, &graph1[..cut1]);
+    copy_at(out, cut1, &graph2[..cut2]);
+    copy_at(out, cut1 + cut2, &graph1[cut1..end1]);
+    write_all_moved(graph2, s, out, s.nodes + s.nodes2 + s.edges);
+}
+
+// 11 and 12, then the joined graph and its answer.
+fn join_sizes(
+    interface1: &[u8],
+    graph1: &[u8],
+    interface2: &[u8],
+    graph2: &[u8],
+    out: &mut [u8],
+    limits: Limits,
+    s: Sizes,
+) -> Joined
+    requires { ⌜ (InterfaceFile (now interface1)) × ((InterfaceFile (now interface2)) × ((Both s (now graph1) (now graph2)) × (Strides limits))) ⌝ }
+    ensures { λ r. ⌜ Answers (answered (from-size limits (now (interface1 .entry)) (now (graph1 .entry)) (now (interface2 .entry)) (now (graph2 .entry)) (length (now (out .entry)))) (join-said limits (now (interface1 .entry)) (now (graph1 .entry)) (now (interface2 .entry)) (now (graph2 .entry)) (length (now (out .entry))))) (now (out .entry)) (now (out .exit)) (joined-answer r) ⌝ }
+{
+    let nodes = s.nodes + s.nodes2;
+    let edges = s.edges + s.edges2;
+    if (limits.nodes < nodes) | (limits.edges < edges) {
+        return Joined::Refused(Refusal::whole(11));
+    }
+    if out.len() < Record::LEN * (nodes + edges) {
+        return Joined::Refused(Refusal::whole(12));
+    }
+    write_join(graph1, graph2, s, out);
+    Joined::Written {
+        nodes: nodes,
+        edges: edges,
+        provided: provided_methods(interface1) | provided_methods(interface2),
+        required: required_methods(interface1) | required_methods(interface2),
+    }
+}
+
+// 9: a graph that is not of its interface, in argument order, then a shared method; then the rest.
+fn join_sides(
+    interface1: &[u8],
+    graph1: &[u8],
+    interface2: &[u8],
+    graph2: &[u8],
+    out: &mut [u8],
+    limits: Limits,
+    s: Sizes,
+) -> Joined
+    requires { ⌜ (InterfaceFile (now interface1)) × ((InterfaceFile (now interface2)) × ((Both s (now graph1) (now graph2)) × (Strides limits))) ⌝ }
+    ensures { λ r. ⌜ Answers (answered (from-sides limits (now (interface1 .entry)) (now (graph1 .entry)) (now (interface2 .entry)) (now (graph2 .entry)) (length (now (out .entry)))) (join-said limits (now (interface1 .entry)) (now (graph1 .entry)) (now (interface2 .entry)) (now (graph2 .entry)) (length (now (out .entry))))) (now (out .entry)) (now (out .exit)) (joined-answer r) ⌝ }
+{
+    let first = first_foreign(graph1, interface1);
+    if first < s.nodes + s.edges {
+        return Joined::Refused(Refusal::at(9, 2, first));
+    }
+    let second = first_foreign(graph2, interface2);
+    if second < s.nodes2 + s.edges2 {
+        return Joined::Refused(Refusal::at(9, 4, second));
+    }
+    if shares(interface1, interface2) {
+        return Joined::Refused(Refusal::whole(9));
+    }
+    join_sizes(interface1, graph1, interface2, graph2, out, limits, s)
+}
+
+// The second graph's refusals, then the rest, where the first graph has so many nodes and records.
+fn join_graph2(
+    interface1: &[u8],
+    graph1: &[u8],
+    interface2: &[u8],
+    graph2: &[u8],
+    out: &mut [u8],
+    limits: Limits,
+    nodes: usize,
+    records: usize,
+) -> Joined
+    requires { ⌜ (InterfaceFile (now interface1)) × ((GraphWithin limits (now graph1)) × ((nodes ≡ nodes-of (now graph1)) × ((records ≡ count (now graph1)) × ((InterfaceFile (now interface2)) × (Strides limits))))) ⌝ }
+    ensures { λ r. ⌜ Answers (answered (from-graph2 limits (now (interface1 .entry)) (now (graph1 .entry)) (now (interface2 .entry)) (now (graph2 .entry)) (length (now (out .entry)))) (join-said limits (now (interface1 .entry)) (now (graph1 .entry)) (now (interface2 .entry)) (now (graph2 .entry)) (length (now (out .entry))))) (now (out .entry)) (now (out .exit)) (joined-answer r) ⌝ }
+{
+    match check_graph(graph2, 4, limits) {
+        Checked::Refused(refusal) => Joined::Refused(refusal),
+        Checked::Accepted {
+            nodes: nodes2,
+            records: records2,
+        } => {
+            let s = Sizes {
+                nodes: nodes,
+                edges: records - nodes,
+                nodes2: nodes2,
+                edges2: records2 - nodes2,
+            };
+            join_sides(interface1, graph1, interface2, graph2, out, limits, s)
+        }
+    }
+}
+
+// The second interface's refusals, then the rest.
+fn join_interface2(
+    interface1: &[u8],
+    graph1: &[u8],
+    interface2: &[u8],
+    graph2: &[u8],
+    out: &mut [u8],
+    limits: Limits,
+    nodes: usize,
+    records: usize,
+) -> Joined
+    requires { ⌜ (InterfaceFile (now interface1)) × ((GraphWithin limits (now graph1)) × ((nodes ≡ nodes-of (now graph1)) × ((records ≡ count (now graph1)) × (Strides limits)))) ⌝ }
+    ensures { λ r. ⌜ Answers (answered (from-interface2 limits (now (interface1 .entry)) (now (graph1 .entry)) (now (interface2 .entry)) (now (graph2 .entry)) (length (now (out .entry)))) (join-said limits (now (interface1 .entry)) (now (graph1 .entry)) (now (interface2 .entry)) (now (graph2 .entry)) (length (now (out .entry))))) (now (out .entry)) (now (out .exit)) (joined-answer r) ⌝ }
+{
+    match check_interface(interface2, 3, limits) {
+        Checked::Refused(refusal) => Joined::Refused(refusal),
+        Checked::Accepted { .. } => join_graph2(
+            interface1,
+            graph1,
+            interface2,
+            graph2,
+            out,
+            limits,
+            nodes,
+            records,
+        ),
+    }
+}
+
+// The first graph's refusals, then the rest.
+fn join_graph1(
+    interface1: &[u8],
+    graph1: &[u8],
+    interface2: &[u8],
+    graph2: &[u8],
+    out: &mut [u8],
+    limits: Limits,
+) -> Joined
+    requires { ⌜ (InterfaceFile (now interface1)) × (Strides limits) ⌝ }
+    ensures { λ r. ⌜ Answers (answered (from-graph1 limits (now (interface1 .entry)) (now (graph1 .entry)) (now (interface2 .entry)) (now (graph2 .entry)) (length (now (out .entry)))) (join-said limits (now (interface1 .entry)) (now (graph1 .entry)) (now (interface2 .entry)) (now (graph2 .entry)) (length (now (out .entry))))) (now (out .entry)) (now (out .exit)) (joined-answer r) ⌝ }
+{
+    match check_graph(graph1, 2, limits) {
+        Checked::Refused(refusal) => Joined::Refused(refusal),
+        Checked::Accepted { nodes, records } => join_interface2(
+            interface1,
+            graph1,
+            interface2,
+            graph2,
+            out,
+            limits,
+            nodes,
+            records,
+        ),
+    }
+}
+
+// Joins within limits that leave node numbers in a byte.
+pub fn join_within(
+    interface1: &[u8],
+    graph1: &[u8],
+    interface2: &[u8],
+    graph2: &[u8],
+    out: &mut [u8],
+    limits: Limits,
+) -> Joined
+    requires { ⌜ Strides limits ⌝ }
+    ensures { λ r. ⌜ Answers (joined limits (now (interface1 .entry)) (now (graph1 .entry)) (now (interface2 .entry)) (now (graph2 .entry)) (length (now (out .entry)))) (now (out .entry)) (now (out .exit)) (joined-answer r) ⌝ }
+{
+    match check_interface(interface1, 1, limits) {
+        Checked::Refused(refusal) => Joined::Refused(refusal),
+        Checked::Accepted { .. } => {
+            join_graph1(interface1, graph1, interface2, graph2, out, limits)
+        }
+    }
+}
