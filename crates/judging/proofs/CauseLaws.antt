@@ -18,7 +18,7 @@ use Rattle.files.specs.Basics.First.{first-or}
 use Rattle.files.specs.Basics.Lists.{index-e}
 use Rattle.files.specs.Basics.Tests.{and-l, and-r}
 use Rattle.files.specs.Cells.{cell, put-cell}
-use Rattle.files.specs.Cells.Laws.{cell-same, cell-other, cell-apart}
+use Rattle.files.specs.Cells.Laws.{cells-on, cell-apart}
 use Rattle.files.specs.Decode.{decode-graph, decode-property, Filed}
 use Rattle.files.specs.Decode.Graphs.{decoded-filed}
 use Rattle.files.specs.Graph.{Graph, size, node, no-edge}
@@ -91,15 +91,7 @@ module _ (s : Shape) (g p : List ℕ) (ready : Ready s g p) where
 
   module _ (w w′ : List ℕ) (v first : ℕ) (put : w′ ≡ put-cell w 33792 2 v first) where
     pub firsts-on : 41664 ≤ length w → v ≤ 256 → first ≡ first-edge G v → Firsts w v → Firsts w′ (v + 1)
-    firsts-on room few e f u h = ap (λ (l : List ℕ). cell l 33792 2 u) put ∙ go (eq-or-lt-of-le (omega arith))
-      where
-        go : (u ≡ v) ⊎ (u < v) → cell (put-cell w 33792 2 v first) 33792 2 u ≡ first-edge G u
-        go (inl q) =
-            ap (cell (put-cell w 33792 2 v first) 33792 2) q
-            ∙ cell-same w 33792 2 v first (omega arith) (omega (arith, e, few-first v))
-            ∙ e
-            ∙ ap (first-edge G) (sym q)
-        go (inr l) = cell-other w 33792 2 v u first (λ q. omega arith) ∙ f u l
+    firsts-on room few e = cells-on (first-edge G) w w′ 33792 2 v first put (omega arith) (omega (arith, e, few-first v)) e
 
     pub ranked-kept : Ranked G P w → Ranked G P w′
     ranked-kept f = ranked-i G P w′ (λ a r ha hr.

@@ -5,12 +5,12 @@ use mathlib.Core.Bool.{Bool, true, false, not, cond}
 use mathlib.Core.List.{List}
 use mathlib.Core.Option.{Option, none, some}
 use Prim.Native.Nat.{ℕ, _+_, _*_, _-_, _/_, _%_, _≤_, _<_}
-use native.Mathlib.Decide.{ℕ-discrete, decLt}
+use native.Mathlib.Decide.{decLt}
 use native.Mathlib.Numerals.{add-one}
 use native.Mathlib.Omega.{arith}
 use lib.Dec.{eqb}
 use lib.ListN.{length, getD, replicate, getD-replicate, List·getD-eq-default}
-use borrow.Author.Tests.{eq-eqb, ne-eqb}
+use borrow.Author.Tests.{ne-eqb}
 use Rattle.files.specs.Basics.Lists.{index-e}
 use Rattle.files.specs.Graph.{Graph, size, no-edge}
 use Rattle.files.specs.Property.{Row, always, never, returns, not-returns, in-method, not-in-method, both, either, box, row}
@@ -25,7 +25,7 @@ use Rattle.files.specs.declared.property.RowAt.{RowAt}
 use Rattle.files.specs.declared.property.RowAt.the-variants.{Is as RowIs}
 use Rattle.judging.specs.declared.shape.Shape.{Shape}
 use Rattle.judging.specs.Chains.{Chained, Outside, linked, into, uses, named, named-or, is-row, operand-of, Index}
-use Rattle.judging.specs.Chains.Laws.{chained-none, chained-kept, linked-is, linked-outside, chain-more, chain-skip}
+use Rattle.judging.specs.Chains.Laws.{chained-none, chained-kept, linked-is, linked-outside, test-turned, chain-more, chain-on, chain-skip}
 use Rattle.judging.specs.Ranking.{Ready}
 use Rattle.judging.specs.Ranking.Files.{size-is, edges-is, rows-is}
 use Rattle.judging.proofs.HeldLaws.{held-row}
@@ -67,13 +67,6 @@ zero-byte w e q = go (decLt q (length w))
     go (yes h) = ap (λ (l : List ℕ). getD l q 0) e ∙ getD-replicate {A = ℕ} (length w) q 0 0 h
     go (no h) = List·getD-eq-default w 0 (omega arith)
 
-same-test : (m n : ℕ) → eqb m n ≡ eqb n m
-same-test m n = go (ℕ-discrete m n)
-  where
-    go : Dec (m ≡ n) → eqb m n ≡ eqb n m
-    go (yes e) = eq-eqb m n e ∙ sym (eq-eqb n m (sym e))
-    go (no f) = ne-eqb m n f ∙ sym (ne-eqb n m (λ e. f (sym e)))
-
 -- ---- edges
 
 module _ (g : List ℕ) (file : GraphFile g) (nodes edges : ℕ) (nodes-are : nodes ≡ nodes-of g) (edges-are : edges ≡ count g - nodes-of g) where
@@ -100,26 +93,11 @@ module _ (g : List ℕ) (file : GraphFile g) (nodes edges : ℕ) (nodes-are : no
     pub may-link : (heads + 2 * key + 2 ≤ length w) × ((nexts + 2 * e + 2 ≤ length w) × (e < 65535))
     may-link = (omega (arith, key-below), (omega arith, omega arith))
 
-    edge-linked : Chained w heads nexts (into G) (size G) e → Chained (linked w heads nexts key e) heads nexts (into G) (size G) (e + 1)
-    edge-linked c =
-        subst (Chained (linked w heads nexts key e) heads nexts (into G) (size G)) (sym (add-one e))
-        (chain-more w heads nexts (into G) (size G) e key
-        (omega (arith, key-below, node-count))
-        (omega (arith, node-count))
-        (omega arith)
-        (omega arith)
-        (λ k l. same-test (to-of e) k ∙ ap (eqb k) (sym is))
-        c)
-
-    edge-outside : Outside heads (nexts + 2 * edges) w (linked w heads nexts key e)
-    edge-outside = linked-outside w heads nexts key e heads (nexts + 2 * edges) (omega arith) (omega (arith, key-below)) (omega arith) (omega arith)
-
     -- one edge more
     pub edge-on : (w₀ w′ : List ℕ) → Chained w heads nexts (into G) (size G) e → Outside heads (nexts + 2 * edges) w₀ w → w′ ≡ linked w heads nexts key e
         → Chained w′ heads nexts (into G) (size G) (e + 1) × Outside heads (nexts + 2 * edges) w₀ w′
-    edge-on w₀ w′ c o d =
-        subst (λ (v : List ℕ). Chained v heads nexts (into G) (size G) (e + 1) × Outside heads (nexts + 2 * edges) w₀ v) (sym d)
-        (edge-linked c, λ q x. edge-outside q x ∙ o q x)
+    edge-on w₀ w′ =
+        chain-on to-of w₀ w w′ heads nexts (size G) e key heads (nexts + 2 * edges) is (omega (arith, key-below, node-count)) (omega arith) (omega (arith, node-count)) (omega arith) room (omega arith)
 
 module _ (s : Shape) (g p : List ℕ) (ready : Ready s g p) where
   -- ---- places
@@ -141,7 +119,7 @@ module _ (s : Shape) (g p : List ℕ) (ready : Ready s g p) where
       where
         only : (o : Option ℕ) → key ≡ named-or o (s .rows) → (k : ℕ) → is-row o k ≡ eqb k key
         only none e k = absurd (omega arith)
-        only (some q) e k = same-test q k ∙ ap (eqb k) (sym e)
+        only (some q) e k = test-turned q k ∙ ap (eqb k) (sym e)
 
     place-outside : key < s .rows → Outside 41472 41664 w (linked w 41472 41536 key j)
     place-outside l =

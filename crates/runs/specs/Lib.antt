@@ -4,6 +4,7 @@ pub mod Summary
 pub mod Answer
 pub mod Joining
 pub mod Showing
+pub mod Prepared
 pub mod Watching
 pub mod Composing
 pub mod Verdict

@@ -11,6 +11,8 @@ use files::record::Limits;
 
 pub mod answers;
 pub mod joining;
+pub mod prepare;
+pub mod regions;
 pub mod showing;
 
 // The graph of two sides joined, to `out`; its nodes and edges counted, and the united interface's two bytes.

@@ -4,7 +4,7 @@ use mathlib.Core.Logic.{_⊎_, inl, inr}
 use mathlib.Core.Bool.{Bool, true, false, _&&_}
 use mathlib.Core.List.{List, _++_, append-assoc}
 use Prim.Native.Nat.{ℕ, zero, suc, _+_, _*_, _-_, _/_, _%_, _^_, _≤_, _<_}
-use native.Mathlib.Nat.{mul-suc, mul-le-mul-left, pow-suc, mod-eq-of-lt, one-mul, zero-add}
+use native.Mathlib.Nat.{eq-or-lt-of-le, mul-suc, mul-le-mul-left, pow-suc, mod-eq-of-lt, one-mul, zero-add}
 use native.Mathlib.Numerals.{add-one}
 use native.Mathlib.Decide.{ℕ-discrete, decLt}
 use native.Mathlib.Omega.{arith}
@@ -84,6 +84,15 @@ cell-other l base w i j v f = cell-apart l base w i v base w j (go (decLt i j))
     go : Dec (i < j) → (base + w * j + w ≤ base + w * i) ⊎ (base + w * i + w ≤ base + w * j)
     go (yes h) = inr (omega (arith, mul-suc w i, mul-le-mul-left w h))
     go (no h) = let k : suc j ≤ i = omega arith in inl (omega (arith, mul-suc w j, mul-le-mul-left w k))
+
+-- one cell more of a region whose cells below i hold f
+pub cells-on : (f : ℕ → ℕ) (l l′ : List ℕ) (base w i v : ℕ) → l′ ≡ put-cell l base w i v → base + w * i + w ≤ length l → v < 256 ^ w → v ≡ f i
+    → ((j : ℕ) → j < i → cell l base w j ≡ f j) → (j : ℕ) → j < i + 1 → cell l′ base w j ≡ f j
+cells-on f l l′ base w i v put fits small e held j h = ap (λ (m : List ℕ). cell m base w j) put ∙ go (eq-or-lt-of-le (omega arith))
+  where
+    go : (j ≡ i) ⊎ (j < i) → cell (put-cell l base w i v) base w j ≡ f j
+    go (inl q) = ap (cell (put-cell l base w i v) base w) q ∙ cell-same l base w i v fits small ∙ e ∙ ap f (sym q)
+    go (inr k) = cell-other l base w i j v (λ q. omega arith) ∙ held j k
 
 -- ---- bits
 

@@ -6,10 +6,11 @@ use mathlib.Core.List.{List}
 use Prim.Native.Nat.{ℕ, zero, suc, _+_, _*_, _^_, _≤_, _<_}
 use native.Mathlib.Nat.{eq-or-lt-of-le, le-of-suc-le-suc, not-suc-le-zero}
 use native.Mathlib.Decide.{ℕ-discrete, decLt}
+use native.Mathlib.Numerals.{add-one}
 use native.Mathlib.Omega.{arith}
 use lib.Dec.{T, eqb, eqb→eq, eqb-refl}
 use lib.ListN.{length, getD}
-use Rattle.files.specs.Basics.Tests.{eq-eqb}
+use Rattle.files.specs.Basics.Tests.{same-test, eq-eqb}
 use Rattle.files.specs.Cells.{cell, put-cell}
 use Rattle.files.specs.Cells.Laws.{length-put-cell, byte-outside, cell-same, cell-apart, cell-other, cell-agree, cell-two}
 use Rattle.judging.specs.Chains.{last-where, Chained, linked, Outside}
@@ -157,6 +158,25 @@ module _ (w : List ℕ) (heads nexts : ℕ) (p : ℕ → ℕ → Bool) (keys m :
             let b : held < 65536 = omega (arith, was, last-le (p key) m) in
             ap (cell (linked w heads nexts key m) nexts 2) e ∙ next-here b ∙ was ∙ ap (λ (n : ℕ). last-where (p n) m) (sym d) ∙ ap (last-where (p k)) (sym e)
         next k j hk t (inr l) = next-there j l ∙ c .nexts-are k j hk l t
+
+-- a test of two numbers, turned round
+pub test-turned : (m n : ℕ) → eqb m n ≡ eqb n m
+test-turned m n = same-test (eqb m n) (eqb n m) (λ t. eq-eqb n m (sym (eqb→eq m n t))) (λ t. eq-eqb m n (sym (eqb→eq n m t)))
+
+-- item m more, where item j is of key f j, and nothing before a or from b on is touched
+pub chain-on : (f : ℕ → ℕ) (w₀ w w′ : List ℕ) (heads nexts keys m key a b : ℕ) → key ≡ f m → key < keys → a ≤ heads → heads + 2 * keys ≤ nexts → nexts + 2 * m + 2 ≤ b → b ≤ length w
+    → m < 65535 → Chained w heads nexts (λ k j. eqb (f j) k) keys m → Outside a b w₀ w → w′ ≡ linked w heads nexts key m
+    → Chained w′ heads nexts (λ k j. eqb (f j) k) keys (m + 1) × Outside a b w₀ w′
+chain-on f w₀ w w′ heads nexts keys m key a b is inside low apart high fits few c o d =
+    subst (λ (v : List ℕ). Chained v heads nexts (λ k j. eqb (f j) k) keys (m + 1) × Outside a b w₀ v) (sym d) (more, kept)
+  where
+    more : Chained (linked w heads nexts key m) heads nexts (λ k j. eqb (f j) k) keys (m + 1)
+    more =
+        subst (Chained (linked w heads nexts key m) heads nexts (λ k j. eqb (f j) k) keys) (sym (add-one m))
+        (chain-more w heads nexts (λ k j. eqb (f j) k) keys m key inside apart (omega arith) few (λ k l. test-turned (f m) k ∙ ap (eqb k) (sym is)) c)
+
+    kept : Outside a b w₀ (linked w heads nexts key m)
+    kept q x = linked-outside w heads nexts key m a b low (omega arith) (omega arith) high q x ∙ o q x
 
 -- ---- a walk
 

@@ -1,0 +1,54 @@
+-- What watching puts into its lent buffer before it follows runs: the monitor's step as a table, the first edge of each node, and the edges by label.
+use mathlib.Core.Path.{_≡_}
+use mathlib.Core.Bool.{Bool}
+use mathlib.Core.List.{List}
+use Prim.Native.Nat.{ℕ, _+_, _*_, _-_, _≤_, _<_}
+use lib.Dec.{eqb}
+use lib.ListN.{length, getD, drop}
+use Rattle.files.specs.Access.{GraphFile, RulesFile, first-edge}
+use Rattle.files.specs.Cells.{cell}
+use Rattle.files.specs.Decode.{decode-graph, decode-rules}
+use Rattle.files.specs.Graph.{Graph, size, no-edge}
+use Rattle.files.specs.Record.{count}
+use Rattle.files.specs.Refusal.{nodes-of}
+use Rattle.files.specs.Rules.{Monitor, Rule, by-rule, watch}
+use Rattle.judging.specs.Chains.{Chained}
+use Rattle.runs.specs.declared.regions.Regions.{Regions}
+pub mod Files
+
+-- the published length of the work buffer
+abbrev pub watch-room : ℕ
+watch-room = 46949
+
+-- s holds the counts of an accepted graph, which is to be watched by accepted rules
+pub record Ready (s : Regions) (g r : List ℕ) : Type 0 where
+  pub graph-file : GraphFile g
+  pub rules-file : RulesFile r
+  pub nodes-are : s .nodes ≡ nodes-of g
+  pub edges-are : s .edges ≡ count g - nodes-of g
+  pub few-nodes : s .nodes ≤ 256
+  pub few-edges : s .edges ≤ 4096
+
+-- where the steps of an event stand, one for each state
+abbrev pub slot : ℕ → ℕ → ℕ → ℕ
+slot k a b = 512 * (k - 1) + 64 * (a - 1) + 8 * (b - 1)
+
+-- the table holds a step for each state below 8 and each event between methods 1 to 8
+abbrev pub Stepped : Monitor → List ℕ → Type 0
+Stepped mon w = (q k a b : ℕ) → q < 8 → 1 ≤ k → k ≤ 2 → 1 ≤ a → a ≤ 8 → 1 ≤ b → b ≤ 8 → cell w 32768 1 (slot k a b + q) ≡ mon q (record { kind = k; m1 = a; m2 = b })
+
+-- the same, from rule j on
+abbrev pub SteppedFrom : List ℕ → ℕ → List ℕ → Type 0
+SteppedFrom r j w = Stepped (by-rule (drop j (decode-rules r))) w
+
+abbrev pub Firsts : Graph → List ℕ → Type 0
+Firsts G w = (g : ℕ) → g ≤ size G → cell w 33792 2 g ≡ first-edge G g
+
+-- edge e has label l
+abbrev pub labelled : Graph → ℕ → ℕ → Bool
+labelled G l e = eqb ((getD (G .edges) e no-edge) .label) l
+
+pub record Tables (G : Graph) (mon : Monitor) (w : List ℕ) : Type 0 where
+  pub steps : Stepped mon w
+  pub firsts : Firsts G w
+  pub by-label : Chained w 34306 34324 (labelled G) 9 (length (G .edges))
