@@ -42,6 +42,18 @@ struct tintboulder_answer tintboulder_compare(const uint8_t *first, size_t first
 struct tintboulder_answer tintboulder_model(const uint8_t *interface, size_t interface_length, const uint8_t *property, size_t property_length, uint8_t *out,
                                             size_t out_length, uint8_t *work, size_t work_length);
 
+/* Two sides joined: the nodes of graph2 come after those of graph1, and the interfaces are united. Verdict 1: written; first is the number of the joined graph's
+   nodes, second that of its edges, third and fourth are the united interface's provided and required bytes; the graph file, 6 bytes for each node and edge, is
+   written to out. No work buffer is lent. */
+struct tintboulder_answer tintboulder_join(const uint8_t *interface1, size_t interface1_length, const uint8_t *graph1, size_t graph1_length,
+                                           const uint8_t *interface2, size_t interface2_length, const uint8_t *graph2, size_t graph2_length, uint8_t *out,
+                                           size_t out_length);
+
+/* The record of a joined node, by its number in the joined graph, in the file it came from. Verdict 1: shown; its six bytes are written to out. A number that is not
+   below both node counts together is refused by 7 with file 0 and record 0, and then an output of less than six bytes by 12. No work buffer is lent. */
+struct tintboulder_answer tintboulder_show(const uint8_t *graph1, size_t graph1_length, const uint8_t *graph2, size_t graph2_length, uint64_t number,
+                                           uint8_t *out, size_t out_length);
+
 /* The least length of the work buffer of a call: 1 judge, 2 compare, 3 model; 0 for other numbers. */
 uint64_t tintboulder_work(uint64_t call);
 

@@ -1,5 +1,5 @@
-/* The header against the static library: one accepted and one refused file of each kind; judging, comparing and modelling, with the buffers they
-   are lent. Exits with the number of answers that are wrong. */
+/* The header against the static library: one accepted and one refused file of each kind; judging, comparing, modelling, joining and showing, with the buffers
+   they are lent. Exits with the number of answers that are wrong. */
 #include "../include/tintboulder.h"
 
 #include <string.h>
@@ -92,6 +92,50 @@ static int wrong_modelling(void)
     return wrong_answers(&p1, 103456) + (tintboulder_work(3) != 103456);
 }
 
+/* The answer's numbers, and the result at the start of out, all of which was 7 before. */
+static int gives(struct tintboulder_answer a, uint32_t verdict, uint32_t number, const uint64_t values[4], const uint8_t *out, const uint8_t *result, size_t length)
+{
+    return a.verdict == verdict && a.number == number && a.first == values[0] && a.second == values[1] && a.third == values[2] && a.fourth == values[3]
+        && memcmp(out, result, length) == 0 && filled(out + length, MOST_OUT - length, 7);
+}
+
+/* Method 1, whose entry calls 2; and method 2, whose return node calls 1. */
+static const uint8_t interface1[] = {5, 1, 2, 0, 0, 0};
+static const uint8_t graph1[] = {1, 1, 0, 1, 0, 0, 1, 1, 1, 0, 0, 0, 2, 0, 2, 1, 0, 0};
+static const uint8_t interface2[] = {5, 2, 1, 0, 0, 0};
+static const uint8_t graph2[] = {1, 2, 1, 1, 0, 0, 2, 0, 1, 0, 0, 0};
+static const uint64_t no_values[4] = {0, 0, 0, 0};
+
+/* An output that is a byte too short for their join; the second graph beside an interface that does not provide its method; and the join. */
+static int wrong_joining(void)
+{
+    static const uint8_t joined[] = {1, 1, 0, 1, 0, 0, 1, 1, 1, 0, 0, 0, 1, 2, 1, 1, 0, 0, 2, 0, 2, 1, 0, 0, 2, 2, 1, 2, 0, 0};
+    static const uint64_t counts_and_sets[4] = {3, 2, 3, 3}, foreign[4] = {4, 0, 0, 0};
+    uint8_t out[MOST_OUT];
+    struct tintboulder_answer a;
+    int wrong = 0;
+    memset(out, 7, MOST_OUT);
+    a = tintboulder_join(interface1, sizeof interface1, graph1, sizeof graph1, interface2, sizeof interface2, graph2, sizeof graph2, out, sizeof joined - 1);
+    wrong += !gives(a, 0, 12, no_values, out, joined, 0);
+    a = tintboulder_join(interface1, sizeof interface1, graph1, sizeof graph1, interface1, sizeof interface1, graph2, sizeof graph2, out, MOST_OUT);
+    wrong += !gives(a, 0, 9, foreign, out, joined, 0);
+    a = tintboulder_join(interface1, sizeof interface1, graph1, sizeof graph1, interface2, sizeof interface2, graph2, sizeof graph2, out, sizeof joined + 2);
+    wrong += !gives(a, 1, 0, counts_and_sets, out, joined, sizeof joined);
+    return wrong;
+}
+
+/* The last node of their join is the first of the second graph; there is none after it, which is said before the output is looked at. */
+static int wrong_showing(void)
+{
+    uint8_t out[MOST_OUT];
+    int wrong = 0;
+    memset(out, 7, MOST_OUT);
+    wrong += !gives(tintboulder_show(graph1, sizeof graph1, graph2, sizeof graph2, 3, out, 5), 0, 7, no_values, out, graph2, 0);
+    wrong += !gives(tintboulder_show(graph1, sizeof graph1, graph2, sizeof graph2, 2, out, 5), 0, 12, no_values, out, graph2, 0);
+    wrong += !gives(tintboulder_show(graph1, sizeof graph1, graph2, sizeof graph2, 2, out, 6), 1, 0, no_values, out, graph2, 6);
+    return wrong;
+}
+
 int main(void)
 {
     static const uint8_t graph[] = {1, 1, 0, 1, 0, 0, 2, 0, 0, 0, 0, 0};
@@ -110,6 +154,8 @@ int main(void)
     wrong += wrong_judging();
     wrong += wrong_comparing();
     wrong += wrong_modelling();
+    wrong += wrong_joining();
+    wrong += wrong_showing();
     wrong += tintboulder_work(0) != 0;
     return wrong;
 }

@@ -1,6 +1,7 @@
 // Runs the examples of data/ through the proved code, one after the other as the arguments name them. The first letter of a name tells what its file is: a graph,
 // property, rule or interface file is checked, and its line has `accepted`, nodes and records, or `refused`, number, file and record; `judge`, `compare` and
-// `model` name a call on two files, and its verdict's line is followed by the records or the relation's lines that it wrote.
+// `model` name a call on two files, `join` (by its second letter) one on two sides and `show` one on two graphs and a number, and the verdict's line is
+// followed by the records or the relation's lines that it wrote.
 ghost use mathlib.Core.Path.{_≡_};
 ghost use Prim.Native.Nat.{_+_, _*_, _≤_, _<_};
 ghost use lib.ListN.{length};
@@ -17,6 +18,8 @@ use judging::sizes::Sizes;
 use libc::STDOUT_FILENO;
 use maximal::answers::Modelled;
 use maximal::places::Places;
+use runs::answers::Joined;
+use runs::answers::Shown;
 
 // Room for the longest example: 257 nodes or 4,097 edges with their nodes.
 const LONGEST: usize = 60000;
@@ -260,6 +263,88 @@ fn call(letter: u8, example: &[u8]) {
     );
 }
 
+fn say_joined(answer: Joined, out: &[u8]) {
+    match answer {
+        Joined::Written {
+            nodes,
+            edges,
+            provided,
+            required,
+        } => {
+            say(b": written");
+            say_number(nodes as u64);
+            say_number(edges as u64);
+            say_number(provided as u64);
+            say_number(required as u64);
+            say(b"\n");
+            say_records(out, records_of(nodes, edges, out.len() / Record::LEN));
+        }
+        Joined::Refused(r) => {
+            say_refused(r);
+            say(b"\n");
+        }
+    }
+}
+
+fn join_on(
+    interface1: &[u8],
+    graph1: &[u8],
+    interface2: &[u8],
+    graph2: &[u8],
+    out: &mut [u8],
+    room: usize,
+)
+    requires { ⌜ room ≤ length (now out) ⌝ }
+{
+    let answer = runs::join(interface1, graph1, interface2, graph2, &mut out[..room]);
+    say_joined(answer, &out[..room]);
+}
+
+// Joining. The example starts with the lengths of the first three files and of the output, two bytes each, low byte first; the four files follow.
+fn join_sides(example: &[u8]) {
+    if example.len() < 8 {
+        return;
+    }
+    let first = 8 + two_bytes(example[0], example[1]);
+    let second = first + two_bytes(example[2], example[3]);
+    let third = second + two_bytes(example[4], example[5]);
+    let room = two_bytes(example[6], example[7]);
+    if example.len() < third {
+        return;
+    }
+    let mut out = [0u8; 65536];
+    join_on(
+        &example[8..first],
+        &example[first..second],
+        &example[second..third],
+        &example[third..],
+        &mut out,
+        room,
+    );
+}
+
+// Showing. The example starts with the first graph's length and the number, two bytes each, low byte first; both graphs follow.
+fn show_node(example: &[u8]) {
+    if example.len() < 4 {
+        return;
+    }
+    let split = 4 + two_bytes(example[0], example[1]);
+    let number = two_bytes(example[2], example[3]);
+    if example.len() < split {
+        return;
+    }
+    match runs::show_refusal(&example[4..split], &example[split..], number) {
+        Shown::Part => {
+            say(b": shown\n");
+            say_bytes(runs::show(&example[4..split], &example[split..], number));
+        }
+        Shown::Refused(r) => {
+            say_refused(r);
+            say(b"\n");
+        }
+    }
+}
+
 // The example that argument i names.
 fn one(i: usize) {
     let mut name = io::buffer();
@@ -273,6 +358,14 @@ fn one(i: usize) {
     let n = io::read_full(fd, &mut file);
     libc::close(fd);
     say(&name[..length]);
+    if (name[0] == b'j') & (name[1] == b'o') {
+        join_sides(&file[..n]);
+        return;
+    }
+    if name[0] == b's' {
+        show_node(&file[..n]);
+        return;
+    }
     if (name[0] == b'j') | (name[0] == b'c') | (name[0] == b'm') {
         call(name[0], &file[..n]);
         return;

@@ -3,12 +3,12 @@ use mathlib.Core.Path.{_≡_}
 use mathlib.Core.Bool.{cond}
 use mathlib.Core.List.{List}
 use Prim.Native.Nat.{ℕ}
-use lib.Dec.{eqb}
-use lib.ListN.{getD}
+use lib.Dec.{eqb, ltb}
+use lib.ListN.{length, getD}
 use Rattle.files.specs.declared.check.Checked.{Checked}
 use Rattle.files.specs.declared.check.Checked.the-variants.{Accepted, Refused}
 use Rattle.files.specs.declared.refusal.Refusal.{Refusal}
-use Rattle.files.specs.Outcome.{Outcome, answer, out-after, work-after}
+use Rattle.files.specs.Outcome.{Outcome, refuses, says, refusal-at, answer, out-after, work-after}
 use Rattle.files.specs.Outcome as outcome
 use Rattle.judging.specs.Compare.{compare-room}
 use Rattle.judging.specs.Judge.{judge-room}
@@ -38,6 +38,16 @@ pub record Gives (o : Outcome) (out work out′ work′ : List ℕ) (a : Answer)
   pub numbers-are : a ≡ answer-numbers (answer o)
   pub out-is : out′ ≡ out-after o out
   pub work-is : work′ ≡ work-after o work
+
+-- the same of a call that is lent no work buffer
+pub record GivesOut (o : Outcome) (out out′ : List ℕ) (a : Answer) : Type 0 where
+  pub numbers-are : a ≡ answer-numbers (answer o)
+  pub out-is : out′ ≡ out-after o out
+
+-- a result that goes to an output of so many bytes: 12 where it does not fit, after all refusals of the call itself
+abbrev pub fitting : ℕ → Outcome → Outcome
+fitting out (refuses r) = refuses r
+fitting out (says s) = cond (ltb out (length (s .written))) (refuses (refusal-at 12 0 0)) (says s)
 
 -- the published length of a call's work buffer, by the call's number
 abbrev pub work-lengths : ℕ → ℕ

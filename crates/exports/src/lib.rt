@@ -7,9 +7,13 @@ ghost use lib.ListN.{length};
 ghost use Rattle.judging.specs.Judge.{judged, judged-answer};
 ghost use Rattle.judging.specs.Compare.{compared, compared-answer};
 ghost use Rattle.maximal.specs.Modelling.{modelled, modelled-answer};
-ghost use Rattle.exports.specs.Boundary.{refused-numbers, verdict-numbers, checked-numbers, answer-numbers, Gives, work-lengths};
+ghost use Rattle.runs.specs.Joining.{joined, joined-answer};
+ghost use Rattle.runs.specs.Showing.{shown};
+ghost use Rattle.exports.specs.Boundary.{refused-numbers, verdict-numbers, checked-numbers, answer-numbers, Gives, GivesOut, fitting, work-lengths};
+use files::cells::copy_at;
 use files::check::Checked;
 use files::record::Limits;
+use files::record::Record;
 use files::refusal::Refusal;
 use judging::answers::Compared;
 use judging::answers::Judged;
@@ -17,6 +21,8 @@ use judging::shape::Shape;
 use judging::sizes::Sizes;
 use maximal::answers::Modelled;
 use maximal::places::Places;
+use runs::answers::Joined;
+use runs::answers::Shown;
 
 // Verdict 0 is a refusal: its number, file (first) and record (second). Other verdicts carry their values from first on.
 #[repr(C)]
@@ -191,6 +197,70 @@ pub extern "C" fn tintboulder_model(
     ensures { λ a. ⌜ Gives (modelled desk (now (interface .entry)) (now (property .entry)) (length (now (out .entry))) (length (now (work .entry)))) (now (out .entry)) (now (work .entry)) (now (out .exit)) (now (work .exit)) a ⌝ }
 {
     modelled_answer(maximal::model(interface, property, out, work))
+}
+
+fn joined_answer(j: Joined) -> Answer
+    ensures { λ a. ⌜ a ≡ answer-numbers (joined-answer j) ⌝ }
+{
+    match j {
+        Joined::Written {
+            nodes,
+            edges,
+            provided,
+            required,
+        } => Answer {
+            verdict: 1,
+            number: 0,
+            first: nodes as u64,
+            second: edges as u64,
+            third: provided as u64,
+            fourth: required as u64,
+        },
+        Joined::Refused(r) => refused(r),
+    }
+}
+
+// Joins two sides: verdict 1 written, with nodes, edges, provided and required methods of the whole; its graph file is written to `out`.
+#[no_mangle]
+pub extern "C" fn tintboulder_join(
+    interface1: &[u8],
+    graph1: &[u8],
+    interface2: &[u8],
+    graph2: &[u8],
+    out: &mut [u8],
+) -> Answer
+    ensures { λ a. ⌜ GivesOut (joined desk (now (interface1 .entry)) (now (graph1 .entry)) (now (interface2 .entry)) (now (graph2 .entry)) (length (now (out .entry)))) (now (out .entry)) (now (out .exit)) a ⌝ }
+{
+    joined_answer(runs::join(interface1, graph1, interface2, graph2, out))
+}
+
+// Shows the record of a joined node: verdict 1 shown, its six bytes written to `out`; an output shorter than them is refused by 12, after all else.
+#[no_mangle]
+pub extern "C" fn tintboulder_show<'a>(
+    graph1: &'a [u8],
+    graph2: &'a [u8],
+    number: u64,
+    out: &mut [u8],
+) -> Answer
+    ensures { λ a. ⌜ GivesOut (fitting (length (now (out .entry))) (shown desk (now (graph1 .entry)) (now (graph2 .entry)) number)) (now (out .entry)) (now (out .exit)) a ⌝ }
+{
+    match runs::show_refusal(graph1, graph2, number as usize) {
+        Shown::Refused(r) => refused(r),
+        Shown::Part => {
+            if out.len() < Record::LEN {
+                return refused(Refusal::whole(12));
+            }
+            copy_at(out, 0, runs::show(graph1, graph2, number as usize));
+            Answer {
+                verdict: 1,
+                number: 0,
+                first: 0,
+                second: 0,
+                third: 0,
+                fourth: 0,
+            }
+        }
+    }
 }
 
 // The published length of a call's work buffer: 1 is judge, 2 compare, 3 model; 0 for other numbers.

@@ -1,19 +1,22 @@
 //! What several calls are timed on: graphs of a size, and the files of the case studies.
 
+use compare::Input;
 use generator::generate::{scattered, Random};
 use std::collections::BTreeMap;
 use std::io;
 
-pub type Pair = [Vec<u8>; 2];
-
-/// Pairs of files that are timed together.
-pub struct Input {
+/// Inputs of a call that are timed together.
+pub struct Timed {
     pub name: String,
-    pub pairs: Vec<Pair>,
+    pub inputs: Vec<Input>,
 }
 
-pub fn input(name: &str, first: Vec<u8>, second: Vec<u8>) -> Input {
-    Input { name: name.to_string(), pairs: vec![[first, second]] }
+pub fn timed(name: &str, input: impl Into<Input>) -> Timed {
+    Timed { name: name.to_string(), inputs: vec![input.into()] }
+}
+
+pub fn pair(name: &str, first: Vec<u8>, second: Vec<u8>) -> Timed {
+    timed(name, [first, second])
 }
 
 /// 40 nodes and 80 edges.
@@ -30,21 +33,21 @@ pub fn largest_graph(random: &mut Random) -> Vec<u8> {
 type Named = (String, Vec<u8>);
 
 /// For each case study, every pair of two different files whose names begin with `first` and `second`.
-pub fn cases(first: &str, second: &str) -> io::Result<Vec<Input>> {
+pub fn cases(first: &str, second: &str) -> io::Result<Vec<Timed>> {
     let mut cases: BTreeMap<String, Vec<Named>> = BTreeMap::new();
     for example in course::examples()? {
         if let Some((name, case)) = example.name.trim_end_matches(".bin").split_once("-of-") {
             cases.entry(case.to_string()).or_default().push((name.to_string(), example.bytes));
         }
     }
-    let inputs = cases.into_iter();
-    let inputs = inputs.map(|(name, files)| Input { name, pairs: pairs(&files, first, second) });
-    Ok(inputs.filter(|input| !input.pairs.is_empty()).collect())
+    let rows = cases.into_iter();
+    let rows = rows.map(|(name, files)| Timed { name, inputs: pairs(&files, first, second) });
+    Ok(rows.filter(|row| !row.inputs.is_empty()).collect())
 }
 
-fn pairs(files: &[Named], first: &str, second: &str) -> Vec<Pair> {
+fn pairs(files: &[Named], first: &str, second: &str) -> Vec<Input> {
     let of = |kind| files.iter().filter(move |(name, _)| name.starts_with(kind));
     let all = of(first).flat_map(|one| of(second).map(move |other| (one, other)));
     let different = all.filter(|(one, other)| one.0 != other.0);
-    different.map(|(one, other)| [one.1.clone(), other.1.clone()]).collect()
+    different.map(|(one, other)| [one.1.clone(), other.1.clone()].into()).collect()
 }

@@ -1,28 +1,28 @@
 //! What judging is timed on.
 
-use crate::inputs::{cases, input, largest_graph, typical_graph, Input};
+use crate::inputs::{cases, largest_graph, pair, typical_graph, Timed};
 use generator::extremes::{box_cycle, cycle, dense_cycle, row_cycle};
 use generator::generate::{any_rows, Random};
 use std::io;
 
-pub fn inputs() -> io::Result<Vec<Input>> {
+pub fn inputs() -> io::Result<Vec<Timed>> {
     // A seed with which both random graphs fail, for more than one reason.
     let mut random = Random::new(27);
     let mut inputs = vec![
-        input("P6", P6_GRAPH.concat(), P6_PROPERTY.concat()),
-        input(
+        pair("P6", P6_GRAPH.concat(), P6_PROPERTY.concat()),
+        pair(
             "40 nodes, 80 edges, 10 rows",
             typical_graph(&mut random),
             any_rows(&mut random, 10).concat(),
         ),
-        input(
+        pair(
             "256 nodes, 4,096 edges, 32 rows",
             largest_graph(&mut random),
             any_rows(&mut random, 32).concat(),
         ),
-        input("holds, 31 boxes", largest_graph(&mut random), boxes()),
-        input("chain of 7,937 levels", cycle(true), row_cycle()),
-        input("dense chain of 7,937 levels", dense_cycle(), box_cycle()),
+        pair("holds, 31 boxes", largest_graph(&mut random), boxes()),
+        pair("chain of 7,937 levels", cycle(true), row_cycle()),
+        pair("dense chain of 7,937 levels", dense_cycle(), box_cycle()),
     ];
     inputs.extend(cases("graph", "property")?);
     Ok(inputs)

@@ -1,8 +1,10 @@
 //! Prints the time of each call in both implementations, side by side on the same bytes, and their ratio: `cargo run --release -p bench`.
 
 mod inputs;
+mod join;
 mod judge;
 mod model;
+mod show;
 mod side_by_side;
 mod simulation;
 
@@ -11,7 +13,8 @@ use std::io;
 
 const NOTE: &str = "\
 Median of batches in turn, warm, one thread, the same bytes.
-proved: the output is as long as the result, the work buffer as published; the call clears the whole work buffer, and the time includes that.
+proved: the output is as long as the result, the work buffer as published; the call clears the whole work buffer, and the time includes that. Joining and
+showing have none.
 second: takes its memory from the allocator in every call and clears nothing afterwards.";
 
 fn main() -> io::Result<()> {
@@ -19,10 +22,12 @@ fn main() -> io::Result<()> {
     let judging = (compare::judge::CALL, judge::inputs()?);
     let comparing = (compare::simulation::CALL, simulation::inputs()?);
     let modelling = (compare::model::CALL, model::inputs()?);
-    for (call, inputs) in [judging, comparing, modelling] {
+    let joining = (compare::join::CALL, join::inputs());
+    let showing = (compare::show::CALL, show::inputs());
+    for (call, rows) in [judging, comparing, modelling, joining, showing] {
         print_header(call.name);
-        for input in &inputs {
-            print_line(&call, input);
+        for row in &rows {
+            print_line(&call, row);
         }
     }
     Ok(())

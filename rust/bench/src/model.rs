@@ -1,9 +1,9 @@
 //! What modelling is timed on: the first record of a list is the interface, the rest is the property.
 
-use crate::inputs::{cases, input, Input};
+use crate::inputs::{cases, pair, Timed};
 use std::io;
 
-pub fn inputs() -> io::Result<Vec<Input>> {
+pub fn inputs() -> io::Result<Vec<Timed>> {
     let mut inputs = vec![
         split("P1", P1),
         split("336 states, refused", include_str!("../data/six-rows-336-states.txt")),
@@ -19,9 +19,9 @@ pub fn inputs() -> io::Result<Vec<Input>> {
 
 const P1: &str = "5 1 1 0 0 0  3 7 1 3 0 0  3 9 1 2 0 0  3 2 0 0 0 0  3 5 0 0 0 0";
 
-fn split(name: &str, decimals: &str) -> Input {
+fn split(name: &str, decimals: &str) -> Timed {
     let bytes: Vec<u8> =
         decimals.split_whitespace().map(|field| field.parse().expect("a byte")).collect();
     let (interface, property) = bytes.split_at(6);
-    input(name, interface.to_vec(), property.to_vec())
+    pair(name, interface.to_vec(), property.to_vec())
 }

@@ -1,7 +1,8 @@
 //! The time of a call in both implementations, batch by batch in turn, so that what else the machine does falls on both.
 
-use crate::inputs::{Input, Pair};
-use compare::pairs::Call;
+use crate::inputs::Timed;
+use compare::calls::Call;
+use compare::Input;
 use std::hint::black_box;
 use std::time::{Duration, Instant};
 
@@ -12,42 +13,41 @@ pub fn print_header(call: &str) {
     println!("\n{call:36} {:28} {:>11} {:>11} {:>7}", "answer", "proved", "second", "ratio");
 }
 
-/// Runs all pairs of the input one after the other; the time is that of all of them together.
-pub fn print_line(call: &Call, input: &Input) {
-    let answers: Vec<String> = input.pairs.iter().map(|files| agreed(call, files)).collect();
+/// Runs all inputs of the row one after the other; the time is that of all of them together.
+pub fn print_line(call: &Call, row: &Timed) {
+    let answers: Vec<String> = row.inputs.iter().map(|input| agreed(call, input)).collect();
     let answer = match &answers[..] {
         [answer] => answer.clone(),
         _ => format!("{} pairs of files", answers.len()),
     };
-    let mut work = vec![0; call.proved.work()];
-    let mut out: Vec<Vec<u8>> =
-        input.pairs.iter().map(|files| vec![0; need(call, files)]).collect();
+    let mut work = vec![0; (call.room)()];
+    let mut out: Vec<Vec<u8>> = row.inputs.iter().map(|input| vec![0; need(call, input)]).collect();
     let proved = || {
-        for ([first, second], out) in input.pairs.iter().zip(&mut out) {
-            black_box(call.proved.answer(black_box([first, second]), out, &mut work));
+        for (input, out) in row.inputs.iter().zip(&mut out) {
+            black_box((call.proved)(black_box(input), out, &mut work));
         }
     };
     let second = || {
-        for files in &input.pairs {
-            black_box(call.result(black_box(files)));
+        for input in &row.inputs {
+            black_box(call.result(black_box(input)));
         }
     };
     let [proved, second] = medians(proved, second);
     let ratio = proved / second;
     let (proved, second) = (in_units(proved), in_units(second));
-    println!("{:36} {answer:28} {proved:>11} {second:>11} {ratio:>7.2}", input.name);
+    println!("{:36} {answer:28} {proved:>11} {second:>11} {ratio:>7.2}", row.name);
 }
 
 /// The length of the result.
-fn need(call: &Call, files: &Pair) -> usize {
-    call.result(files).1.len()
+fn need(call: &Call, input: &Input) -> usize {
+    call.result(input).1.len()
 }
 
 /// What both answer. Times of different answers would say nothing.
-fn agreed(call: &Call, files: &Pair) -> String {
-    let (expected, written) = call.result(files);
-    let (mut out, mut work) = (vec![0; written.len()], vec![0; call.proved.work()]);
-    let answer = call.proved.answer([&files[0], &files[1]], &mut out, &mut work);
+fn agreed(call: &Call, input: &Input) -> String {
+    let (expected, written) = call.result(input);
+    let (mut out, mut work) = (vec![0; written.len()], vec![0; (call.room)()]);
+    let answer = (call.proved)(input, &mut out, &mut work);
     assert!((answer, out) == (expected, written), "the implementations differ");
     match answer.verdict {
         0 => format!("refused by {}", answer.number),

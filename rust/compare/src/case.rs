@@ -1,4 +1,4 @@
-//! One case of a call that takes two files and is lent an output and a work buffer, and all that the call may change.
+//! One case of a call that is lent an output and perhaps a work buffer, and all that the call may change.
 
 use generator::generate::Random;
 use tintboulder::Answer;
@@ -7,10 +7,17 @@ use tintboulder::Answer;
 const MARGIN: usize = 64;
 const SHORT_WORK: u32 = 13;
 
-/// Two files, the lengths of both buffers, and the seed of all that stands in them and around them.
+/// The files of a call, and the number of a node where it takes one.
+#[derive(Clone, PartialEq)]
+pub struct Input {
+    pub files: Vec<Vec<u8>>,
+    pub number: usize,
+}
+
+/// What the call is about, the lengths of both buffers, and the seed of all that stands in them and around them.
 #[derive(Clone, PartialEq)]
 pub struct Case {
-    pub files: [Vec<u8>; 2],
+    pub input: Input,
     pub out: usize,
     pub work: usize,
     pub seed: u64,
@@ -29,6 +36,19 @@ pub struct Seen {
     lent: Lent,
 }
 
+impl<const N: usize> From<[Vec<u8>; N]> for Input {
+    fn from(files: [Vec<u8>; N]) -> Input {
+        Input { files: files.into(), number: 0 }
+    }
+}
+
+impl Input {
+    /// The files, as many as the call takes.
+    pub fn files<const N: usize>(&self) -> [&[u8]; N] {
+        std::array::from_fn(|at| self.files[at].as_slice())
+    }
+}
+
 impl Case {
     pub fn lent(&self) -> Lent {
         let mut random = Random::new(self.seed);
@@ -38,7 +58,13 @@ impl Case {
 
     pub fn with_file(&self, at: usize, bytes: &[u8]) -> Case {
         let mut case = self.clone();
-        case.files[at] = bytes.to_vec();
+        case.input.files[at] = bytes.to_vec();
+        case
+    }
+
+    pub fn with_number(&self, number: usize) -> Case {
+        let mut case = self.clone();
+        case.input.number = number;
         case
     }
 }
@@ -87,10 +113,11 @@ impl Seen {
 
 #[cfg(test)]
 mod tests {
-    use super::{inner, Case, Seen, MARGIN, SHORT_WORK};
+    use super::{inner, Case, Input, Seen, MARGIN, SHORT_WORK};
     use tintboulder::Answer;
 
-    const CASE: Case = Case { files: [Vec::new(), Vec::new()], out: 3, work: 5, seed: 1 };
+    const INPUT: Input = Input { files: Vec::new(), number: 0 };
+    const CASE: Case = Case { input: INPUT, out: 3, work: 5, seed: 1 };
 
     fn seen(number: u32, written: &[u8]) -> Seen {
         let answer = Answer { verdict: 2, number, first: 1, second: 0, third: 0, fourth: 0 };

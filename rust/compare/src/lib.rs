@@ -1,20 +1,23 @@
 //! Both implementations of the flow-graph checker on the same bytes: random files and cases, and the first difference as a minimal case.
 
+pub mod calls;
 mod case;
 mod checks;
+pub mod join;
 pub mod judge;
 mod minimal;
 pub mod model;
-pub mod pairs;
 mod report;
+pub mod show;
 pub mod simulation;
 mod tally;
 
+use calls::Call;
+pub use case::Input;
 use generator::generate::{Kind, Random};
-use pairs::Call;
 use tally::Tally;
 
-const CALLS: &[Call] = &[judge::CALL, simulation::CALL, model::CALL];
+const CALLS: &[Call] = &[judge::CALL, simulation::CALL, model::CALL, join::CALL, show::CALL];
 
 /// Prints a line for each call, or ends with the report of a difference.
 pub fn run(seed: u64, count: u64) -> Result<(), String> {
@@ -25,7 +28,7 @@ pub fn run(seed: u64, count: u64) -> Result<(), String> {
         println!("{}", tally.line(&format!("check {kind:?}").to_lowercase()));
     }
     for call in CALLS {
-        println!("{}", pairs::run(&mut random, call, count)?.line(call.name));
+        println!("{}", calls::run(&mut random, call, count)?.line(call.name));
     }
     Ok(())
 }

@@ -1,5 +1,5 @@
 //! Runs both implementations on random files and reports the first difference as a minimal case: `compare SEED COUNT`, COUNT files of each kind and COUNT cases of
-//! each call.
+//! each call, or twice as many where they are cheap.
 
 use std::env;
 use std::process::ExitCode;

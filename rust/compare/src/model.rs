@@ -1,10 +1,21 @@
 //! Modelling in both implementations, and the pairs of files that it is compared on.
 
-use crate::pairs::Call;
+use crate::calls::Call;
 use generator::generate::{self, Kind, Random, Size};
+use second::Limits;
+use tintboulder::MODEL;
 
-pub const CALL: Call =
-    Call { name: "model", proved: tintboulder::MODEL, second: second::model, files };
+pub const CALL: Call = Call {
+    name: "model",
+    room: || MODEL.work(),
+    proved: |input, out, work| MODEL.answer(input.files(), out, work),
+    second: |input, out, work| {
+        let [interface, property] = input.files();
+        second::model(&Limits::DESK, interface, property, out, work, MODEL.work())
+    },
+    input: |random| files(random).into(),
+    cases: 1,
+};
 
 /// One interface in sixteen and one property in eight is damaged; one property in eight is large, where most models pass the limits.
 fn files(random: &mut Random) -> [Vec<u8>; 2] {

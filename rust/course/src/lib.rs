@@ -1,19 +1,21 @@
-//! The examples of crates/course: one for each refusal 1 to 8 and each limit, the files of the case studies, and calls on two files.
+//! The examples of crates/course: one for each refusal 1 to 8 and each limit, the files of the case studies, and calls.
 
 mod calls;
 mod cases;
 mod compared;
 mod examples;
+mod joined;
 mod judged;
 pub mod listing;
 mod modelled;
+mod shown;
 
 use second::files::{check_graph, check_interface, check_property, check_rules};
 use second::record::{Limits, RECORD_LEN};
 use std::io;
 use std::path::{Path, PathBuf};
 
-/// A file that the program reads. The first letter of the name tells what it is read as.
+/// A file that the program reads. The start of the name tells what it is read as.
 pub struct Example {
     pub name: String,
     pub bytes: Vec<u8>,
@@ -38,6 +40,11 @@ pub fn examples() -> io::Result<Vec<Example>> {
     all.extend(modelled::of_the_paper());
     all.extend(modelled::of_lent_buffers());
     all.extend(modelled::of_cases(&cases));
+    all.extend(joined::of_the_paper());
+    all.extend(joined::at_the_limits());
+    all.extend(joined::of_lent_buffers());
+    all.extend(joined::of_cases(&cases));
+    all.extend(shown::of_the_paper());
     Ok(all)
 }
 
@@ -57,6 +64,12 @@ pub fn line(example: &Example) -> String {
     }
     if name.starts_with("model-") {
         return modelled::lines(name, &calls::Call::of(bytes));
+    }
+    if name.starts_with("join-") {
+        return joined::lines(name, bytes);
+    }
+    if name.starts_with("show-") {
+        return shown::lines(name, bytes);
     }
     let nodes = match name.as_bytes().first() {
         Some(b'g') => check_graph(bytes, &Limits::DESK).map(|graph| graph.nodes.len()),

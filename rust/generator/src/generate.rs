@@ -5,6 +5,7 @@ pub use crate::graded::graded;
 pub use crate::graphs::{graph, graph_of, scattered, without_an_edge};
 pub use crate::properties::{any_rows, property};
 pub use crate::random::Random;
+pub use crate::sides::{sides, sides_at_the_limits, Sides};
 use second::files;
 use second::record::{kind, Limits, BAD, METHODS};
 use std::collections::BTreeMap;
@@ -60,7 +61,7 @@ pub fn closed_interface(random: &mut Random) -> Vec<u8> {
     interface_of(provided, provided & random.byte())
 }
 
-fn interface_of(provided: u8, required: u8) -> Vec<u8> {
+pub(crate) fn interface_of(provided: u8, required: u8) -> Vec<u8> {
     vec![kind::INTERFACE, provided, required, 0, 0, 0]
 }
 

@@ -8,3 +8,4 @@ mod graphs;
 mod properties;
 mod random;
 pub mod relations;
+mod sides;

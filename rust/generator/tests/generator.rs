@@ -2,8 +2,8 @@
 
 use generator::generate::{self, Kind, Random, Size};
 use generator::relations;
-use second::files;
 use second::record::Limits;
+use second::{files, join, Outcome};
 
 #[test]
 fn valid_files_are_accepted() {
@@ -68,6 +68,32 @@ fn graphs_are_of_their_interface() {
         assert!(graph.nodes.iter().all(|node| interface.provides(node.method)));
         assert!(graph.edges.iter().all(|edge| edge.label == 0 || interface.requires(edge.label)));
     }
+}
+
+#[test]
+fn sides_are_joined_or_refused_by_9_or_11() {
+    let mut random = Random::new(6);
+    let mut met = [0; 5];
+    for round in 0..2_000 {
+        let files = match round % 4 {
+            0 => generate::sides_at_the_limits(&mut random),
+            _ => generate::sides(&mut random),
+        };
+        let [interface1, graph1, interface2, graph2] = &files;
+        let out = usize::MAX;
+        let case = match join(&Limits::DESK, interface1, graph1, interface2, graph2, out) {
+            Outcome::Said { .. } => 0,
+            Outcome::Refused(refusal) => match (refusal.number, refusal.file) {
+                (9, 0) => 1,
+                (9, 2) => 2,
+                (9, 4) => 3,
+                (11, _) => 4,
+                other => panic!("{other:?} {files:?}"),
+            },
+        };
+        met[case] += 1;
+    }
+    assert!(met.iter().all(|&times| times > 20), "{met:?}");
 }
 
 #[test]

@@ -3,11 +3,15 @@
 mod boundary;
 mod checks;
 mod compare;
+mod join;
 mod judge;
 mod model;
+mod show;
 
 pub use boundary::{Answer, OnTwoFiles, Refusal};
 pub use checks::{check_graph, check_interface, check_property, check_rules, Accepted};
 pub use compare::{compare, Compared, COMPARE};
+pub use join::{join, join_answer, Joined};
 pub use judge::{judge, Judged, JUDGE};
 pub use model::{model, Written, MODEL};
+pub use show::{show, show_answer};
