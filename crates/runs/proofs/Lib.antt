@@ -1,1 +1,3 @@
 pub mod PrepareLaws
+pub mod SearchLaws
+pub mod SummaryLaws

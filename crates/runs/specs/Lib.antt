@@ -4,7 +4,10 @@ pub mod Summary
 pub mod Answer
 pub mod Joining
 pub mod Showing
+pub mod Forward
 pub mod Prepared
+pub mod Worklist
+pub mod Searching
 pub mod Watching
 pub mod Composing
 pub mod Verdict

@@ -12,15 +12,13 @@ use Rattle.files.specs.Refusal.{graph, rules, interface}
 use Rattle.files.specs.Rules.{Monitor, watch}
 use Rattle.files.specs.Sides.{first-foreign, ForeignAt, unprovided, Unprovided}
 use Rattle.files.specs.declared.record.Limits.{Limits}
+use Rattle.runs.specs.Prepared.{watch-room}
 use Rattle.runs.specs.Runs.{Bad, Clean}
 use Rattle.runs.specs.Summary.{clean}
 use Rattle.runs.specs.Summary.Trails.{trail, trail-bytes}
 use Rattle.runs.specs.Summary.Trails.Behind.{TrailShows}
 pub mod Laws
-
--- the published length of the work buffer
-abbrev pub watch-room : ℕ
-watch-room = 32768
+pub mod Steps
 
 -- the verdict on a graph, a monitor and a start method: 1, or 2 with the trail and the number of its records
 pub watch-said : Graph → Monitor → ℕ → Said
@@ -32,11 +30,28 @@ module _ (L : Limits) (i g r : List ℕ) (m out work : ℕ) where
   abbrev pub watch-verdict : Said
   watch-verdict = watch-said (decode-graph g) (watch (decode-rules r)) m
 
+  -- the checks from 12 on, from 9 on, from the start method's 3 on, and from each file on, as the code comes to them
+  abbrev pub from-verdict : List Check
+  from-verdict = out-check out watch-verdict
+
+  abbrev pub from-sides : List Check
+  from-sides = scan-check 9 2 (first-foreign (decode-interface i) g) (whole-check 10 (unprovided (decode-interface i) m) from-verdict)
+
   -- "then the start method's 3; then 9 to 12"
+  abbrev pub from-start : List Check
+  from-start = whole-check 3 (no-start m) from-sides
+
+  abbrev pub from-rules : List Check
+  from-rules = file-checks L 3 rules r from-start
+
+  abbrev pub from-graph : List Check
+  from-graph = file-checks L 2 graph g from-rules
+
+  abbrev pub from-interface : List Check
+  from-interface = file-checks L 1 interface i from-graph
+
   abbrev pub watch-checks : List Check
-  watch-checks =
-      whole-check 13 (short watch-room work) (file-checks L 1 interface i (file-checks L 2 graph g (file-checks L 3 rules r (whole-check 3 (no-start m)
-      (scan-check 9 2 (first-foreign (decode-interface i) g) (whole-check 10 (unprovided (decode-interface i) m) (out-check out watch-verdict)))))))
+  watch-checks = whole-check 13 (short watch-room work) from-interface
 
   abbrev pub watch-lines : Lines
   watch-lines =

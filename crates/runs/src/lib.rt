@@ -1,19 +1,26 @@
-// Joining and showing, and the answers of all calls on joined graphs and runs.
+// Joining, showing and watching: the public calls on joined graphs and on runs.
 ghost use mathlib.Core.Path.{_≡_};
 ghost use Rattle.files.specs.Limits.{desk};
-ghost use Rattle.files.specs.Outcome.{Answers, answer, written-of};
+ghost use Rattle.files.specs.Outcome.{Answers, Does, answer, written-of};
 ghost use lib.ListN.{length};
+ghost use Rattle.runs.specs.Answer.{watched-answer};
 ghost use Rattle.runs.specs.Joining.{joined, joined-answer};
 ghost use Rattle.runs.specs.Showing.{shown, shown-answer};
+ghost use Rattle.runs.specs.Watching.{watched};
 use answers::Joined;
 use answers::Shown;
+use answers::Verdict;
 use files::record::Limits;
 
 pub mod answers;
 pub mod joining;
 pub mod prepare;
 pub mod regions;
+pub mod search;
 pub mod showing;
+pub mod summaries;
+pub mod trail;
+pub mod watching;
 
 // The graph of two sides joined, to `out`; its nodes and edges counted, and the united interface's two bytes.
 pub fn join(
@@ -40,4 +47,18 @@ pub fn show_refusal(graph1: &[u8], graph2: &[u8], number: usize) -> Shown
     ensures { λ r. ⌜ shown-answer r ≡ answer (shown desk (now (graph1 .entry)) (now (graph2 .entry)) number) ⌝ }
 {
     showing::show_refusal_within(graph1, graph2, number, Limits::desk())
+}
+
+// Whether some run from the start method takes the monitor to state 7; where one does, the trail goes to `out`.
+pub fn watch(
+    interface: &[u8],
+    graph: &[u8],
+    rules: &[u8],
+    start: u8,
+    out: &mut [u8],
+    work: &mut [u8],
+) -> Verdict
+    ensures { λ v. ⌜ Does (watched desk (now (interface .entry)) (now (graph .entry)) (now (rules .entry)) start (length (now (out .entry))) (length (now (work .entry)))) (now (out .entry)) (now (work .entry)) (now (out .exit)) (now (work .exit)) (watched-answer v) ⌝ }
+{
+    watching::watch_within(interface, graph, rules, start, out, work, Limits::desk())
 }

@@ -48,7 +48,7 @@ module _ (G : Graph) (mon : Monitor) where
   pub into-is : (g q : ℕ) (e : Edge) → Runs G g e → mon q (calls (meth G g) (e .label)) ≡ into e q
   into-is g q e x = ap (λ (i : ℕ). mon q (calls (meth G i) (e .label))) (sym (x .leaves))
 
-  callee-e : (e : Edge) (q p : ℕ) (z : Spot) → T (callee G mon e q p z) → (z .of ≡ e .label) × (z .was ≡ into e q) × T ((node G (z .at)) .ret) × (out e (z .at) (z .now) ≡ p)
+  pub callee-e : (e : Edge) (q p : ℕ) (z : Spot) → T (callee G mon e q p z) → (z .of ≡ e .label) × (z .was ≡ into e q) × T ((node G (z .at)) .ret) × (out e (z .at) (z .now) ≡ p)
   unfolding callee
   callee-e e q p z t =
       let b = and-e (eqb (z .of) (e .label)) _ t in

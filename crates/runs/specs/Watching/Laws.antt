@@ -21,12 +21,13 @@ use Rattle.files.specs.Rules.Laws.{watch-small}
 use Rattle.files.specs.Sides.{ForeignAt, Unprovided, first-foreign, unprovided}
 use Rattle.files.specs.Sides.Laws.{foreign-finds, says-unprovided}
 use Rattle.files.specs.declared.record.Limits.{Limits}
+use Rattle.runs.specs.Prepared.{watch-room}
 use Rattle.runs.specs.Runs.{Bad, Clean}
 use Rattle.runs.specs.Summary.{clean}
 use Rattle.runs.specs.Summary.Places.{not-clean-bad, clean-no-bad}
 use Rattle.runs.specs.Summary.Trails.{trail, trail-bytes}
 use Rattle.runs.specs.Summary.Trails.OneRun.{trail-shows}
-use Rattle.runs.specs.Watching.{watch-room, watch-said, watch-verdict, watch-checks, watch-lines, watched, Watches}
+use Rattle.runs.specs.Watching.{watch-said, watch-verdict, watch-checks, watch-lines, watched, Watches}
 use Rattle.files.specs.Interface.{Interface}
 use Rattle.files.specs.Basics.First.{Finds}
 use Rattle.files.specs.Outcome.{published}

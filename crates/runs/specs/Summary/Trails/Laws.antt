@@ -1,13 +1,13 @@
 -- The trail is a way to a bad state wherever there is a bad run, has the fewest records and, of those, the smallest bytes.
-use mathlib.Core.Path.{_≡_, refl, sym, ap, subst, _∙_}
+use mathlib.Core.Path.{_≡_, refl, sym, ap, ap₂, subst, _∙_}
 use mathlib.Core.Logic.{_⊎_, inl, inr, _↔_}
-use mathlib.Core.Bool.{Bool, not, _&&_}
+use mathlib.Core.Bool.{Bool, true, false, not, _&&_}
 use mathlib.Core.List.{List, [], _∷_, _++_, map, List·Memᴰ, List·Memᴰ·head, List·Memᴰ·tail, List·Memᴰ·append-cases, List·Memᴰ·cases-cons, List·Memᴰ·eq-of-singleton, Memᴰ·append-left, Memᴰ·append-right, Memᴰ·map, Memᴰ·of-map}
 use Prim.Native.Nat.{ℕ, suc, _≤_, _<_}
 use native.Mathlib.Omega.{arith}
 use lib.Dec.{T, eqb, eqb→eq, ltb, ltb→lt, lt→ltb, lit<}
 use Rattle.files.specs.Basics.Lexical.{Before}
-use Rattle.files.specs.Basics.Lists.{keep, keep-i, keep-e, each, each-i, each-e, span, span-i, span-e}
+use Rattle.files.specs.Basics.Lists.{put, keep, keep-i, keep-e, each, each-i, each-e, span, span-i, span-e}
 use Rattle.files.specs.Basics.Shortest.{To, there, by, ways, to-ways, short-way, best-to, best-fewest, best-first}
 use Rattle.files.specs.Basics.Tests.{any, any-i, and-i, and-e, eq-eqb}
 use Rattle.files.specs.Graph.{Graph, Edge, size, node, Flow}
@@ -18,7 +18,7 @@ use Rattle.runs.specs.Summary.Exact.{exact}
 use Rattle.runs.specs.Summary.Moves.{passes-e, callee-i, no-ret, entry-e, entry-i, into-is, out}
 use Rattle.runs.specs.Summary.Places.{trail-moves, trail-now, places-i}
 use Rattle.runs.specs.Summary.Spots.{spot, spots-sound, spots-complete}
-use Rattle.runs.specs.Summary.Trails.{Rec, trail-rec-bytes, Where, before, here, end, is-bad, started, internal-rec, entered-rec, passed-rec, recs, leaving, trail}
+use Rattle.runs.specs.Summary.Trails.{Rec, trail-rec-bytes, Where, before, here, end, is-bad, started, internal-rec, entered-rec, passed-rec, recs, leaving, trail, trail-bytes}
 use lib.ListN.{length, getD, length-map}
 
 module _ (G : Graph) (mon : Monitor) (flow : Flow G) (labels-small : (e : Edge) → List·Memᴰ e (G .edges) → e .label < 9)
@@ -89,7 +89,7 @@ module _ (G : Graph) (mon : Monitor) (flow : Flow G) (labels-small : (e : Edge) 
       each-i (recs G mon x) (keep (runs-at x) (G .edges)) e r
       (keep-i (runs-at x) (G .edges) e (y .edge) (and-i (eqb (e .from) (x .at)) _ (eq-eqb (e .from) (x .at) (y .leaves)) (y .no-return))) k
 
-  leaves-i : (x : Place) (r : Rec) → Leaves x r → List·Memᴰ r (leaving G mon m (here x))
+  pub leaves-i : (x : Place) (r : Rec) → Leaves x r → List·Memᴰ r (leaving G mon m (here x))
   unfolding recs
   leaves-i x r (steps-on e y z) =
       edge-leaves x e _ y (Memᴰ·append-left _ (Memᴰ·map (internal-rec G mon x e) (keep-i (λ q. eqb (e .label) 0) (x .now ∷ []) (x .now) (List·Memᴰ·head refl) (eq-eqb (e .label) 0 z))))
@@ -110,7 +110,7 @@ module _ (G : Graph) (mon : Monitor) (flow : Flow G) (labels-small : (e : Edge) 
       let h : a .0 < size G = omega (arith, span-e (size G) 0 (a .0) (b .0)) in
       (a .0, entry-e G mon m (a .0) h (b .1), a .2)
 
-  start-i : (n : ℕ) → EntryOf G m n → List·Memᴰ (started G mon n) (leaving G mon m before)
+  pub start-i : (n : ℕ) → EntryOf G m n → List·Memᴰ (started G mon n) (leaving G mon m before)
   unfolding leaving
   start-i n d =
       Memᴰ·map (started G mon) (keep-i (is-entry-of G mon m) (span 0 (size G)) n (span-i (size G) 0 n (omega arith) (omega (arith, d .is-node))) (entry-i G mon m n d))
@@ -233,3 +233,25 @@ module _ (G : Graph) (mon : Monitor) (flow : Flow G) (labels-small : (e : Edge) 
     trail-first e =
         best-first (leaving G mon m) end trail-rec-bytes is-bad (suc (length (all-places G mon))) before (near .0) near-le (near .2) (λ r s. refl)
         (λ w. List·Memᴰ w points) stays-in (λ x a r s k j. one-end r s) (List·Memᴰ·head refl) rs p e
+
+pub leaving-before : (G : Graph) (mon : Monitor) (m : ℕ) → leaving G mon m before ≡ map (started G mon) (keep (is-entry-of G mon m) (span 0 (size G)))
+unfolding leaving
+leaving-before G mon m = refl
+
+-- a return node lets nothing leave
+pub leaving-return : (G : Graph) (mon : Monitor) (m : ℕ) (x : Place) → T ((node G (x .at)) .ret) → leaving G mon m (here x) ≡ []
+unfolding leaving
+leaving-return G mon m x t = ap (each (recs G mon x)) (none (G .edges))
+  where
+    none : (es : List Edge) → keep (λ (e : Edge). eqb (e .from) (x .at) && not ((node G (x .at)) .ret)) es ≡ []
+    none [] = refl
+    none (e ∷ es) = ap₂ (λ (b : Bool) (ys : List Edge). put b e ys) (out-of (eqb (e .from) (x .at)) ((node G (x .at)) .ret) t) (none es)
+      where
+        out-of : (a b : Bool) → T b → (a && not b) ≡ false
+        out-of true true u = refl
+        out-of false true u = refl
+        out-of a false u = absurd u
+
+pub trail-bytes-is : (G : Graph) (mon : Monitor) (m : ℕ) → trail-bytes G mon m ≡ each trail-rec-bytes (trail G mon m)
+unfolding trail-bytes
+trail-bytes-is G mon m = refl

@@ -1,0 +1,415 @@
+-- For the code that finds summaries: a union built state by state, states added, edges run, a summary that grows, a point taken, the start, and the summaries by value.
+use mathlib.Core.Path.{_≡_, refl, sym, ap, ap₂, subst, _∙_}
+use mathlib.Core.Logic.{inr}
+use mathlib.Core.Bool.{Bool, true, false, not, cond}
+use mathlib.Core.List.{List, [], List·Memᴰ}
+use Prim.Native.Nat.{ℕ, suc, _+_, _*_, _/_, _%_, _^_, _≤_, _<_}
+use native.Mathlib.Nat.{le-trans}
+use native.Mathlib.Decide.{ℕ-discrete}
+use native.Mathlib.Numerals.{add-one}
+use native.Mathlib.Omega.{arith}
+use lib.Bits.{bitOr, or-lt}
+use lib.Dec.{T, T-not, eqb, eqb→eq}
+use lib.ListN.{length, getD, set, replicate, length-set, getD-replicate}
+use lib.Seq.{getD-set-same, getD-set-other}
+use borrow.Author.Tests.{ne-eqb}
+use Rattle.files.specs.Access.{node-held, edge-held, first-edge}
+use Rattle.files.specs.Access.Laws.{first-edge-le, leaves-in}
+use Rattle.files.specs.Basics.Tests.{eq-eqb, or-r, not-not}
+use Rattle.files.specs.Cells.{cell, put-cell}
+use Rattle.files.specs.Cells.Laws.{byte-outside}
+use Rattle.files.specs.Decode.{decode-graph, decode-rules}
+use Rattle.files.specs.Graph.{Graph, Edge, size, node, no-edge}
+use Rattle.files.specs.Refusal.{nodes-of}
+use Rattle.files.specs.Rules.{Monitor, watch}
+use Rattle.files.specs.declared.graph.GraphEdge.{GraphEdge}
+use Rattle.files.specs.declared.graph.GraphNode.{GraphNode}
+use Rattle.files.specs.declared.graph.NodeAt.{NodeAt}
+use Rattle.files.specs.declared.graph.NodeAt.the-variants.{Is as NodeIs, Refused as NodeRefused}
+use Rattle.files.specs.declared.refusal.Refusal.{Refusal}
+use Rattle.maximal.specs.Masks.{member}
+use Rattle.maximal.specs.Masks.Laws.{member-or, member-one}
+use Rattle.runs.specs.Prepared.{Ready, slot, Stepped, Tables}
+use Rattle.runs.specs.Prepared.Files.{is-filed, is-flow, size-is, edges-is, size-fits, edges-fit, method-in, labels-small, edge-in, monitor-small}
+use Rattle.runs.specs.Runs.{meth, EntryOf}
+use Rattle.runs.specs.Summary.{Inside, enter}
+use Rattle.runs.specs.Worklist.{union, passed, reach, sums, queue, added, added-tail, Past, after-edge, Queued, Holding, Grew, Covered}
+use Rattle.runs.specs.Worklist.{SpreadBut, Spread, PointDue, EdgesRun, CallsRun, EntriesIn, SummariesIn, TableOf}
+use Rattle.runs.specs.Worklist.Growth.{room-for, added-grew}
+use Rattle.runs.specs.Worklist.Loops.{edges-run, edges-run-e, calls-run-e, holds-nothing, spread-first}
+use Rattle.runs.specs.Worklist.Steps.{edge-happens, run-covers, covered-kept, spread-grew, spread-done, reached-most, taken-due, summed-before, raised-holds, raised-due, summaries-found}
+use Rattle.runs.specs.Worklist.Unions.{union-to, union-yes, union-no, union-is}
+use Rattle.runs.specs.declared.regions.Regions.{Regions}
+
+-- ---- a union, state by state
+
+pub union-with : (f : ℕ → ℕ) (x n y t : ℕ) → y ≡ union-to f x n → t ≡ f n → t < 256 → member x n ≡ true → bitOr y t ≡ union-to f x (n + 1)
+union-with f x n y t s e h m =
+    ap (bitOr y) e ∙ union-yes f x n y s m (subst (λ (k : ℕ). k < 256) e h) ∙ ap (union-to f x) (sym (add-one n))
+
+pub union-without : (f : ℕ → ℕ) (x n y : ℕ) → y ≡ union-to f x n → member x n ≡ false → y ≡ union-to f x (n + 1)
+union-without f x n y s m = union-no f x n y s m ∙ ap (union-to f x) (sym (add-one n))
+
+pub union-all : (f : ℕ → ℕ) (x n y : ℕ) → n ≡ 8 → y ≡ union-to f x n → y ≡ union f x
+union-all f x n y e s = s ∙ ap (union-to f x) e ∙ union-is f x
+
+-- the state to which an event takes q, as a set
+abbrev pub onto : Monitor → ℕ → ℕ → ℕ → ℕ → ℕ
+onto mon k a b q = 2 ^ mon q (record { kind = k; m1 = a; m2 = b })
+
+pub passed-by : (mon : Monitor) (t : ℕ → ℕ → ℕ) (a l x u v y : ℕ) → u ≡ union (onto mon 1 a l) x → v ≡ union (t l) u → y ≡ union (onto mon 2 l a) v → y ≡ passed mon t a l x
+passed-by mon t a l x u v y d e f = f ∙ ap (union (onto mon 2 l a)) (e ∙ ap (union (t l)) d)
+
+-- the step that the table holds
+pub step-held : (mon : Monitor) (w : List ℕ) (at q k a b r : ℕ) → Stepped mon w → q < 8
+    → (1 ≤ k) × ((k ≤ 2) × ((1 ≤ a) × ((a ≤ 8) × ((1 ≤ b) × (b ≤ 8))))) → at ≡ slot k a b → r ≡ cell w 32768 1 (at + q) → r ≡ mon q (record { kind = k; m1 = a; m2 = b })
+step-held mon w at q k a b r s h v e d =
+    d ∙ ap (λ (i : ℕ). cell w 32768 1 (i + q)) e ∙ s q k a b h (v .0) (v .1 .0) (v .1 .1 .0) (v .1 .1 .1 .0) (v .1 .1 .1 .1 .0) (v .1 .1 .1 .1 .1)
+
+-- ---- edges run
+
+is-node : NodeAt → Bool
+is-node (NodeIs v) = true
+is-node (NodeRefused n) = false
+
+-- what the accessor answers is no refusal
+pub node-read : (x : NodeAt) (v : GraphNode) (n : Refusal) → x ≡ NodeIs v → x ≡ NodeRefused n → ⊥
+unfolding is-node
+node-read x v n p q = subst (λ (y : NodeAt). T (is-node y)) (sym p ∙ q) tt
+
+-- edge j is run from entry state p, unless its source returns
+abbrev pub Ran : Graph → Monitor → List ℕ → ℕ → ℕ → Type 0
+Ran G mon w j p = T (not ((node G ((getD (G .edges) j no-edge) .from)) .ret)) → Covered G mon w (getD (G .edges) j no-edge) p
+
+-- the same from every entry state
+abbrev pub RanAll : Graph → Monitor → List ℕ → ℕ → Type 0
+RanAll G mon w j = T (not ((node G ((getD (G .edges) j no-edge) .from)) .ret)) → (p : ℕ) → p < 8 → Covered G mon w (getD (G .edges) j no-edge) p
+
+module _ (s : Regions) (g r : List ℕ) (ready : Ready s g r) where
+  abbrev G : Graph
+  G = decode-graph g
+
+  abbrev mon : Monitor
+  mon = watch (decode-rules r)
+
+  abbrev edge : ℕ → Edge
+  edge j = getD (G .edges) j no-edge
+
+  pub node-in : (v : ℕ) → v < s .nodes → v < size G
+  node-in v h = omega (arith, size-is s g r ready)
+
+  pub node-of : (v : ℕ) → v < size G → v < s .nodes
+  node-of v h = omega (arith, size-is s g r ready)
+
+  pub node-readable : (v : ℕ) → v < size G → v < nodes-of g
+  node-readable v h = omega (arith, size-is s g r ready, ready .nodes-are)
+
+  pub member-edge : (j : ℕ) → j < s .edges → List·Memᴰ (edge j) (G .edges)
+  member-edge j h = edge-in s g r ready j (omega (arith, edges-is s g r ready))
+
+  -- states added to a point
+  module _ (tail : ℕ) (w : List ℕ) (h : Holding G mon tail w) (n p y : ℕ) (hn : n < size G) (hp : p < 8) (small : y < 256) where
+    pub may-add : (n < 256) × ((p < 8) × ((46949 ≤ length w) × ((bitOr (reach w n p) y ≡ reach w n p → ⊥) → tail < 16384)))
+    may-add = (
+      omega (arith, hn, size-fits s g r ready),
+      (hp, (h .room, room-for G mon (size-fits s g r ready) (edges-fit s g r ready) tail w h n p y hn hp small)),
+    )
+
+    did-add : ((q : ℕ) → q < 8 → T (member y q) → Inside G mon (meth G n) p n q) → (t : ℕ) (w′ : List ℕ)
+        → (t ≡ added-tail w tail n p y) × (w′ ≡ added w tail n p y) → Grew G mon tail t w w′ × ((q : ℕ) → T (member y q) → T (member (reach w′ n p) q))
+    did-add f t w′ e =
+        subst (λ (k : ℕ). Grew G mon tail k w w′ × ((q : ℕ) → T (member y q) → T (member (reach w′ n p) q))) (sym (e .0))
+        (subst (λ (v : List ℕ). Grew G mon tail (added-tail w tail n p y) w v × ((q : ℕ) → T (member y q) → T (member (reach v n p) q))) (sym (e .1))
+        (added-grew G mon (size-fits s g r ready) (edges-fit s g r ready) tail w h n p y hn hp small f))
+
+  -- edge j, as it was read
+  module _ (j : ℕ) (hj : j < s .edges) (u : GraphEdge) (is : u ≡ edge-held (edge j)) where
+    from-is : u .from ≡ (edge j) .from
+    from-is = ap (λ (x : GraphEdge). x .from) is
+
+    pub to-is : u .to ≡ (edge j) .to
+    to-is = ap (λ (x : GraphEdge). x .to) is
+
+    pub label-is : u .label ≡ (edge j) .label
+    label-is = ap (λ (x : GraphEdge). x .label) is
+
+    pub from-in : u .from < size G
+    from-in = subst (λ (n : ℕ). n < size G) (sym from-is) ((is-flow s g r ready) .from-node (edge j) (member-edge j hj))
+
+    pub to-in : u .to < size G
+    to-in = subst (λ (n : ℕ). n < size G) (sym to-is) ((is-flow s g r ready) .to-node (edge j) (member-edge j hj))
+
+    pub from-fits : u .from < 256
+    from-fits = omega (arith, from-in, size-fits s g r ready)
+
+    -- with its source
+    module _ (v : GraphNode) (source : v ≡ node-held (node G (u .from))) where
+      method-is : v .method ≡ meth G ((edge j) .from)
+      method-is = ap (λ (x : GraphNode). x .method) source ∙ ap (meth G) from-is
+
+      returns-is : v .returns ≡ (node G ((edge j) .from)) .ret
+      returns-is = ap (λ (x : GraphNode). x .returns) source ∙ ap (λ (n : ℕ). (node G n) .ret) from-is
+
+      pub runs-none : v .returns ≡ true → (w : List ℕ) (p : ℕ) → Ran G mon w j p
+      runs-none e w p t = absurd (T-not ((node G ((edge j) .from)) .ret) t (subst T (sym (sym returns-is ∙ e)) tt))
+
+      pub call-in : (u .label ≡ 0 → ⊥) → (1 ≤ v .method) × ((v .method ≤ 8) × ((1 ≤ u .label) × (u .label ≤ 8)))
+      call-in n =
+          let m = method-in s g r ready (u .from) from-in in
+          let e = ap (λ (x : GraphNode). x .method) source in
+          (omega (arith, m .0, e), (omega (arith, m .1, e), (omega (arith, n), omega (arith, label-is, labels-small s g r ready (edge j) (member-edge j hj)))))
+
+      module _ (w : List ℕ) (p x : ℕ) (at-source : x ≡ reach w (u .from) p) where
+        x-is : x ≡ reach w ((edge j) .from) p
+        x-is = at-source ∙ ap (λ (n : ℕ). reach w n p) from-is
+
+        -- what the code makes of the states is what the edge makes of them
+        pub made-inside : u .label ≡ 0 → x ≡ after-edge G mon (sums w) (edge j) (reach w ((edge j) .from) p)
+        made-inside e = x-is ∙ sym (ap (λ (l : ℕ). cond (eqb l 0) (reach w ((edge j) .from) p) (passed mon (sums w) (meth G ((edge j) .from)) l (reach w ((edge j) .from) p))) (sym label-is ∙ e))
+
+        pub made-over : (y : ℕ) → (u .label ≡ 0 → ⊥) → y ≡ passed mon (sums w) (v .method) (u .label) x → y ≡ after-edge G mon (sums w) (edge j) (reach w ((edge j) .from) p)
+        made-over y n e =
+            e ∙ ap₂ (λ (m l : ℕ). passed mon (sums w) m l x) method-is label-is ∙ ap (passed mon (sums w) (meth G ((edge j) .from)) ((edge j) .label)) x-is
+            ∙ sym (ap (λ (b : Bool). cond b (reach w ((edge j) .from) p) (passed mon (sums w) (meth G ((edge j) .from)) ((edge j) .label) (reach w ((edge j) .from) p)))
+            (ne-eqb ((edge j) .label) 0 (λ z. n (label-is ∙ z))))
+
+      pub ran : v .returns ≡ false → (tail : ℕ) (w : List ℕ) → Holding G mon tail w → (p y : ℕ) → p < 8 → y < 256 → y ≡ after-edge G mon (sums w) (edge j) (reach w ((edge j) .from) p)
+          → (t : ℕ) (w′ : List ℕ) → (t ≡ added-tail w tail (u .to) p y) × (w′ ≡ added w tail (u .to) p y) → Grew G mon tail t w w′ × Ran G mon w′ j p
+      ran e tail w h p y hp small made t w′ d =
+          let a = did-add tail w h (u .to) p y to-in hp small happens t w′ d in (
+            a .0,
+            λ n. run-covers G mon (is-flow s g r ready) (labels-small s g r ready) (monitor-small s g r ready) tail t w w′ (a .0) (edge j) (member-edge j hj) p hp
+                (λ q hq m. subst (λ (i : ℕ). T (member (reach w′ i p) q)) to-is (a .1 q (subst (λ (i : ℕ). T (member i q)) (sym made) m))),
+          )
+        where
+          no-return : T (not ((node G ((edge j) .from)) .ret))
+          no-return = subst (λ (b : Bool). T (not b)) (sym (sym returns-is ∙ e)) tt
+
+          happens : (q : ℕ) → q < 8 → T (member y q) → Inside G mon (meth G (u .to)) p (u .to) q
+          happens q hq m =
+              subst (λ (i : ℕ). Inside G mon (meth G i) p i q) (sym to-is)
+              (edge-happens G mon (is-flow s g r ready) (labels-small s g r ready) (monitor-small s g r ready) tail w h (edge j) (member-edge j hj) no-return p hp q hq
+              (subst (λ (i : ℕ). T (member i q)) made m))
+
+  -- what was run stays so
+  module _ (a b : ℕ) (v w : List ℕ) (grew : Grew G mon a b v w) (j : ℕ) (hj : j < s .edges) where
+    pub ran-kept : (p : ℕ) → p < 8 → Ran G mon v j p → Ran G mon w j p
+    ran-kept p hp f t = covered-kept G mon (is-flow s g r ready) (labels-small s g r ready) (monitor-small s g r ready) a b v w grew (edge j) (member-edge j hj) p hp (f t)
+
+    pub ran-all-kept : RanAll G mon v j → RanAll G mon w j
+    ran-all-kept f t p hp = ran-kept p hp (λ u. f u p hp) t
+
+  pub first-held : (tail : ℕ) (w : List ℕ) → Holding G mon tail w → (n x : ℕ) → n ≤ s .nodes → x ≡ cell w 33792 2 n → x ≡ first-edge G n
+  first-held tail w h n x l e = e ∙ h .tables .firsts n (omega (arith, size-is s g r ready))
+
+  pub edge-in-file : (n j : ℕ) → j < first-edge G n → j < s .edges
+  edge-in-file n j h = omega (arith, first-edge-le G n, edges-is s g r ready)
+
+  pub ran-edges : (w : List ℕ) (n p : ℕ) → ((j : ℕ) → j < first-edge G (n + 1) → first-edge G n ≤ j → Ran G mon w j p) → EdgesRun G mon w n p
+  ran-edges w n p f =
+      edges-run G mon (leaves-in (ready .graph-file .limits) G (is-filed s g r ready)) w n p
+      (λ j a b h t. f j (subst (λ (k : ℕ). j < first-edge G k) (sym (add-one n)) b) a t)
+
+  -- ---- a summary grows
+
+  methods-small : (v : ℕ) → v < size G → meth G v < 9
+  methods-small v h = omega (arith, (method-in s g r ready v h) .1)
+
+  pub method-fits : (n m : ℕ) → n < s .nodes → m ≡ meth G n → m < 9
+  method-fits n m h e = subst (λ (i : ℕ). i < 9) (sym e) (methods-small n (node-in n h))
+
+  -- by the states x at the point of return node n, where it held `old`
+  module _ (n p m : ℕ) (hn : n < s .nodes) (hp : p < 8) (method-of : m ≡ meth G n) (returns : T ((node G n) .ret)) (tail : ℕ) (w : List ℕ)
+      (x old : ℕ) (hx : x < 256) (ho : old < 256) (x-is : x ≡ reach w n p) (old-is : old ≡ sums w m p) where
+    old-sum : old ≡ sums w (meth G n) p
+    old-sum = old-is ∙ ap (λ (i : ℕ). sums w i p) method-of
+
+    new-sum : bitOr old x ≡ bitOr (sums w (meth G n) p) (reach w n p)
+    new-sum = ap₂ bitOr old-sum x-is
+
+    pub sum-same : bitOr old x ≡ old → (k : ℕ) → k ≤ tail → PointDue G mon n p k tail w → Spread G mon k tail w
+    sum-same e k l d =
+        summed-before G mon (is-flow s g r ready) (labels-small s g r ready) (monitor-small s g r ready) (size-fits s g r ready) (edges-fit s g r ready) methods-small k tail w n p
+        (node-in n hn) hp returns d
+        (λ q hq t. subst (λ (i : ℕ). T (member i q)) (sym new-sum ∙ e ∙ old-sum)
+        (subst T (sym (member-or (sums w (meth G n) p) (reach w n p) q)) (or-r (member (sums w (meth G n) p) q) (member (reach w n p) q) t)))
+
+    module _ (w₁ : List ℕ) (put : w₁ ≡ put-cell w 46612 1 (8 * m + p) (bitOr old x)) where
+      small : bitOr (sums w (meth G n) p) (reach w n p) < 256
+      small = subst (λ (i : ℕ). i < 256) new-sum (or-lt 8 old x ho hx)
+
+      put-sum : w₁ ≡ put-cell w 46612 1 (8 * meth G n + p) (bitOr (sums w (meth G n) p) (reach w n p))
+      put-sum = put ∙ ap₂ (λ (i v : ℕ). put-cell w 46612 1 (8 * i + p) v) method-of new-sum
+
+      pub sum-holds : (k : ℕ) × (k ≤ tail) × PointDue G mon n p k tail w → Holding G mon tail w₁
+      sum-holds d =
+          subst (Holding G mon tail) (sym put-sum)
+          (raised-holds G mon (is-flow s g r ready) (labels-small s g r ready) (monitor-small s g r ready) (size-fits s g r ready) (edges-fit s g r ready) methods-small (d .0) tail w n p
+          (node-in n hn) hp returns (d .2) small)
+
+      pub sum-spreads : (t : ℕ) (w′ : List ℕ) → Grew G mon tail t w₁ w′ → CallsRun G mon w′ m
+          → ((k : ℕ) → k ≤ tail → PointDue G mon n p k tail w → Spread G mon k t w′) × ((tail ≤ t) × Past w w′)
+      sum-spreads t w′ grew run = (spreads, (grew .longer, past))
+        where
+          past : Past w w′
+          past q h =
+              grew .rest-kept q (inr (omega arith)) ∙ ap (λ (v : List ℕ). getD v q 0) put
+              ∙ byte-outside w 46612 1 (8 * m + p) (bitOr old x) q (inr (omega (arith, method-fits n m hn method-of)))
+
+          spreads : (k : ℕ) → k ≤ tail → PointDue G mon n p k tail w → Spread G mon k t w′
+          spreads k l d =
+              spread-done G mon (is-flow s g r ready) (labels-small s g r ready) (monitor-small s g r ready) (λ e i. e .label ≡ meth G n) (λ v i. ⊥) k t w′
+              (spread-grew G mon (is-flow s g r ready) (labels-small s g r ready) (monitor-small s g r ready) tail t w₁ w′ grew (λ e i. e .label ≡ meth G n) (λ v i. ⊥) k
+              (subst (SpreadBut G mon (λ e i. e .label ≡ meth G n) (λ v i. ⊥) k tail) (sym put-sum)
+              (raised-due G mon (is-flow s g r ready) (labels-small s g r ready) (monitor-small s g r ready) (size-fits s g r ready) (edges-fit s g r ready) methods-small k tail w n p
+              (node-in n hn) hp returns d small)) l)
+              (λ e c t i hi z. calls-run-e G mon w′ m run e c (z ∙ sym method-of) t i hi) (λ v i hv hi t z. absurd z)
+
+  -- ---- a point is taken
+
+  pub queue-fits : (tail : ℕ) (w : List ℕ) → Holding G mon tail w → tail ≤ 16384
+  queue-fits tail w h = le-trans (h .few) (reached-most G mon (is-flow s g r ready) (labels-small s g r ready) (monitor-small s g r ready) w)
+
+  -- which stands at place `head` of the queue
+  module _ (head tail : ℕ) (w : List ℕ) (spread : Spread G mon head tail w) (some : head < tail) (at : ℕ) (is : at ≡ queue w head) where
+    there : Queued G mon w head
+    there = spread .holding .in-queue head some
+
+    at-is : at ≡ 8 * there .its-node + there .its-state
+    at-is = is ∙ there .is-there
+
+    pub node-there : at / 8 < size G
+    node-there = let e : at / 8 ≡ there .its-node = omega (arith, at-is, there .is-state) in subst (λ (v : ℕ). v < size G) (sym e) (there .is-node)
+
+    pub at-fits : at < 2048
+    at-fits = omega (arith, node-there, size-fits s g r ready)
+
+    state-there : at % 8 < 8
+    state-there = omega arith
+
+    at-point : at ≡ 8 * (at / 8) + at % 8
+    at-point = omega arith
+
+    module _ (w₁ : List ℕ) (put : w₁ ≡ put-cell w 44564 1 at 0) where
+      pub point-due : PointDue G mon (at / 8) (at % 8) (head + 1) tail w₁
+      point-due =
+          subst (λ (i : ℕ). PointDue G mon (at / 8) (at % 8) i tail w₁) (sym (add-one head))
+          (subst (PointDue G mon (at / 8) (at % 8) (suc head) tail) (sym (put ∙ ap (λ (i : ℕ). put-cell w 44564 1 i 0) at-point))
+          (taken-due G mon (is-flow s g r ready) (labels-small s g r ready) (monitor-small s g r ready) (size-fits s g r ready) (edges-fit s g r ready) head tail w spread some (at / 8) (at % 8)
+          node-there state-there (sym is ∙ at-point)))
+
+      past-it : (w′ : List ℕ) → Past w₁ w′ → Past w w′
+      past-it w′ f q h = f q h ∙ ap (λ (v : List ℕ). getD v q 0) put ∙ byte-outside w 44564 1 at 0 q (inr (omega (arith, at-fits)))
+
+      pub point-ends : (t : ℕ) (w′ : List ℕ)
+          → ((k : ℕ) → k ≤ tail → PointDue G mon (at / 8) (at % 8) k tail w₁ → Spread G mon k t w′) × ((tail ≤ t) × Past w₁ w′)
+          → Spread G mon (head + 1) t w′ × ((tail ≤ t) × Past w w′)
+      point-ends t w′ d = (d .0 (head + 1) (omega (arith, some)) point-due, (d .1 .0, past-it w′ (d .1 .1)))
+
+      module _ (v : GraphNode) (v-is : v ≡ node-held (node G (at / 8))) where
+        pub may-end : v .returns ≡ true → (at / 8 < s .nodes) × ((at % 8 < 8) × ((v .method ≡ meth G (at / 8)) × ((T ((node G (at / 8)) .ret))
+            × ((k : ℕ) × (k ≤ tail) × PointDue G mon (at / 8) (at % 8) k tail w₁))))
+        may-end e = (
+          node-of (at / 8) node-there,
+          (
+            state-there,
+            (ap (λ (u : GraphNode). u .method) v-is, (subst T (sym (sym (ap (λ (u : GraphNode). u .returns) v-is) ∙ e)) tt, (head + 1, omega (arith, some), point-due))),
+          ),
+        )
+
+        pub point-runs : v .returns ≡ false → (t : ℕ) (w′ : List ℕ) → Grew G mon tail t w₁ w′ → EdgesRun G mon w′ (at / 8) (at % 8)
+            → Spread G mon (head + 1) t w′ × ((tail ≤ t) × Past w w′)
+        point-runs e t w′ grew run = (
+          spread-done G mon (is-flow s g r ready) (labels-small s g r ready) (monitor-small s g r ready) (λ d i. (d .from ≡ at / 8) × (i ≡ at % 8)) (λ n i. (n ≡ at / 8) × (i ≡ at % 8))
+              (head + 1) t w′
+              (spread-grew G mon (is-flow s g r ready) (labels-small s g r ready) (monitor-small s g r ready) tail t w₁ w′ grew (λ d i. (d .from ≡ at / 8) × (i ≡ at % 8))
+              (λ n i. (n ≡ at / 8) × (i ≡ at % 8)) (head + 1) point-due (omega (arith, some)))
+              (λ d c z i hi y. subst (Covered G mon w′ d) (sym (y .1)) (edges-run-e G mon w′ (at / 8) (at % 8) run d c (y .0) z))
+              (λ n i hn hi z y. absurd (subst T (ap (λ (u : ℕ). (node G u) .ret) (y .0) ∙ sym (ap (λ (u : GraphNode). u .returns) v-is) ∙ e) z)),
+          (grew .longer, past-it w′ (λ q h. grew .rest-kept q (inr (omega arith)))),
+        )
+
+  pub settled : (head tail : ℕ) (w : List ℕ) → Spread G mon head tail w → head ≡ tail → SummariesIn G mon w × Tables G mon w
+  settled head tail w spread e = (
+    summaries-found G mon (is-flow s g r ready) (labels-small s g r ready) (monitor-small s g r ready) tail w (subst (λ (i : ℕ). Spread G mon i tail w) e spread),
+    spread .holding .tables,
+  )
+
+  -- ---- the start
+
+  pub seeds-none : (n : ℕ) (v : GraphNode) → v ≡ node-held (node G n) → not (v .entry) ≡ true → T ((node G n) .entry) → ⊥
+  seeds-none n v v-is e t = T-not ((node G n) .entry) (subst T (sym (sym (ap (λ (u : GraphNode). not (u .entry)) v-is) ∙ e)) tt) t
+
+  -- a method is entered at node n in state p
+  pub seeds : (n : ℕ) (v : GraphNode) → n < s .nodes → v ≡ node-held (node G n) → not (v .entry) ≡ false
+      → (tail : ℕ) (w : List ℕ) → Holding G mon tail w → (p y : ℕ) → p < 8 → y < 256 → y ≡ 2 ^ p → (t : ℕ) (w′ : List ℕ)
+      → (t ≡ added-tail w tail n p y) × (w′ ≡ added w tail n p y) → Grew G mon tail t w w′ × T (member (reach w′ n p) p)
+  seeds n v hn v-is e tail w h p y hp hy y-is t w′ d =
+      let a = did-add tail w h n p y (node-in n hn) hp hy happens t w′ d in
+      (a .0, a .1 p (subst T (sym (in-one p)) (eq-eqb p p refl)))
+    where
+      in-one : (q : ℕ) → member y q ≡ eqb p q
+      in-one q = ap (λ (i : ℕ). member i q) y-is ∙ member-one p q
+
+      entry : EntryOf G (meth G n) n
+      entry = record {
+        is-node = node-in n hn;
+        is-entry = not-not ((node G n) .entry) (subst (λ (b : Bool). T (not b)) (sym (sym (ap (λ (u : GraphNode). not (u .entry)) v-is) ∙ e)) tt);
+        in-method = refl;
+      }
+
+      happens : (q : ℕ) → q < 8 → T (member y q) → Inside G mon (meth G n) p n q
+      happens q hq m = subst (Inside G mon (meth G n) p n) (eqb→eq p q (subst T (in-one q) m)) (enter (meth G n) p n entry)
+
+  module _ (w : List ℕ) (room : 46949 ≤ length w) (tables : Tables G mon w) (zeros : (q : ℕ) → 42516 ≤ q → getD w q 0 ≡ 0) where
+    pub starts : Holding G mon 0 w
+    starts = holds-nothing G mon (is-flow s g r ready) (labels-small s g r ready) (monitor-small s g r ready) (size-fits s g r ready) w zeros tables room
+
+    pub seeded : (t : ℕ) (w′ : List ℕ) → Grew G mon 0 t w w′ → EntriesIn G mon (s .nodes) w′ → Spread G mon 0 t w′
+    seeded t w′ grew entries =
+        spread-first G mon (is-flow s g r ready) (labels-small s g r ready) (monitor-small s g r ready) (size-fits s g r ready) w zeros t w′ grew
+        (λ n p h. entries n p (node-of n h))
+
+-- ---- the summaries by value
+
+-- eight rows of eight, the first i cells filled
+abbrev pub Filled : List ℕ → List (List ℕ) → ℕ → Type 0
+Filled w t i = (length t ≡ 8) × ((m : ℕ) → m < 8 → length (getD t m []) ≡ 8) × ((m p : ℕ) → m < 8 → p < 8 → 8 * m + p < i → getD (getD t m []) p 0 ≡ sums w (suc m) p)
+
+pub filled-none : (w : List ℕ) → Filled w (replicate 8 (replicate 8 0)) 0
+filled-none w = (refl, λ m h. ap (length {A = ℕ}) (getD-replicate {A = List ℕ} 8 m (replicate 8 0) [] h), λ m p hm hp h. absurd (omega arith))
+
+module _ (w : List ℕ) (t : List (List ℕ)) (i x : ℕ) (hi : i < 64) (x-is : x ≡ cell w 46612 1 (i + 8)) (filled : Filled w t i) where
+  abbrev row : List ℕ
+  row = getD t (i / 8) []
+
+  abbrev next : List (List ℕ)
+  next = set t (i / 8) (set row (i % 8) x)
+
+  here : getD next (i / 8) [] ≡ set row (i % 8) x
+  here = getD-set-same t (i / 8) (set row (i % 8) x) [] (omega (arith, filled .0))
+
+  pub filled-more : Filled w next (i + 1)
+  filled-more = (
+    length-set t (i / 8) (set row (i % 8) x) ∙ filled .0,
+    λ m h. long m h (ℕ-discrete m (i / 8)),
+    λ m p hm hp h. held m p hm hp h (ℕ-discrete m (i / 8)) (ℕ-discrete p (i % 8)),
+  )
+    where
+      long : (m : ℕ) → m < 8 → Dec (m ≡ i / 8) → length (getD next m []) ≡ 8
+      long m h (yes e) = subst (λ (n : ℕ). length (getD next n []) ≡ 8) (sym e) (ap (length {A = ℕ}) here ∙ length-set row (i % 8) x ∙ filled .1 (i / 8) (omega arith))
+      long m h (no n) = ap (length {A = ℕ}) (getD-set-other t (i / 8) m (set row (i % 8) x) [] n) ∙ filled .1 m h
+
+      held : (m p : ℕ) → m < 8 → p < 8 → 8 * m + p < i + 1 → Dec (m ≡ i / 8) → Dec (p ≡ i % 8) → getD (getD next m []) p 0 ≡ sums w (suc m) p
+      held m p hm hp h (no n) d = ap (λ (l : List ℕ). getD l p 0) (getD-set-other t (i / 8) m (set row (i % 8) x) [] n) ∙ filled .2 m p hm hp (omega arith)
+      held m p hm hp h (yes e) (no n) =
+          subst (λ (k : ℕ). getD (getD next k []) p 0 ≡ sums w (suc k) p) (sym e)
+          (ap (λ (l : List ℕ). getD l p 0) here ∙ getD-set-other row (i % 8) p x 0 n ∙ filled .2 (i / 8) p (omega arith) hp (omega arith))
+      held m p hm hp h (yes e) (yes d) =
+          let k : i + 8 ≡ 8 * suc m + p = omega arith in
+          subst (λ (k : ℕ). getD (getD next k []) p 0 ≡ sums w (suc m) p) (sym e)
+          (subst (λ (k : ℕ). getD (getD next (i / 8) []) k 0 ≡ sums w (suc m) p) (sym d)
+          (ap (λ (l : List ℕ). getD l (i % 8) 0) here ∙ getD-set-same row (i % 8) x 0 (omega (arith, filled .1 (i / 8) (omega arith))) ∙ x-is ∙ ap (cell w 46612 1) k))
+
+pub filled-all : (w : List ℕ) (t : List (List ℕ)) (i : ℕ) → 64 ≤ i → Filled w t i → TableOf w t
+filled-all w t i h f m p hm hp = f .2 m p hm hp (omega arith)

@@ -1,0 +1,129 @@
+use mathlib.Core.Path.{refl}
+use native.Mathlib.Omega.{arith}
+use Rattle.runs.proofs.SummaryLaws.{method-fits, sum-same, sum-holds, sum-spreads}
+use borrow.Author.Needs.{needs}
+use Rattle.runs.proofs.summaries.end_call.Statement.{statement}
+use Rattle.runs.proofs.summaries.end_call.Tie as tie
+
+-- src/summaries.rt:186:42
+mul-get8 : tie.Need-mul-get8
+mul-get8 c = search needs
+
+-- src/summaries.rt:186:42
+add-get8 : tie.Need-add-get8
+add-get8 c = search needs
+
+-- src/summaries.rt:186:9
+get8-requires : tie.Need-get8-requires
+get8-requires c κs = search needs
+
+-- src/summaries.rt:187:41
+mul-get8-2 : tie.Need-mul-get8-2
+mul-get8-2 c =
+    let k = c .before .before .before .before .before .before in
+    let a = k .args in
+    omega (arith, method-fits (a .s) (a .graph .now) (a .rules .now) (k .pre .0) (a .g) (a .m) (k .pre .1 .0) (k .pre .1 .1 .1 .0))
+
+-- src/summaries.rt:187:41
+add-get8-2 : tie.Need-add-get8-2
+add-get8-2 c =
+    let k = c .before .before .before .before .before .before in
+    let a = k .args in
+    omega (arith, method-fits (a .s) (a .graph .now) (a .rules .now) (k .pre .0) (a .g) (a .m) (k .pre .1 .0) (k .pre .1 .1 .1 .0), k .pre .1 .1 .0)
+
+-- src/summaries.rt:187:9
+get8-requires-2 : tie.Need-get8-requires-2
+get8-requires-2 c κs =
+    let k = c .before .before .before .before .before .before in
+    let a = k .args in
+    omega (arith, method-fits (a .s) (a .graph .now) (a .rules .now) (k .pre .0) (a .g) (a .m) (k .pre .1 .0) (k .pre .1 .1 .1 .0), k .pre .1 .1 .0, k .pre .1 .1 .1 .1 .1 .2 .holding .room)
+
+-- src/summaries.rt:190:9
+same-length : tie.Need-same-length
+same-length c = search needs
+
+-- src/summaries.rt:190:9
+returns : tie.Need-returns
+returns c =
+    let get8 = c .before .before .before .get8 in
+    let get82 = c .before .get82 in
+    let k = c .before .before .before .before .before .before .before .before in
+    let a = k .args in (
+      sum-same (a .s) (a .graph .now) (a .rules .now) (k .pre .0) (a .g) (a .p) (a .m) (k .pre .1 .0) (k .pre .1 .1 .0) (k .pre .1 .1 .1 .0) (k .pre .1 .1 .1 .1 .0) (a .tail) (a .work .now)
+          (get8 .result) (get82 .result) (omega (arith, get8 .ok)) (omega (arith, get82 .ok)) (get8 .ensures) (get82 .ensures) (c .if1 .taken),
+      (omega arith, λ q h. refl),
+    )
+
+-- src/summaries.rt:192:31
+mul-put8 : tie.Need-mul-put8
+mul-put8 c =
+    let k = c .before .before .before .before .before .before .before .before .before in
+    let a = k .args in
+    omega (arith, method-fits (a .s) (a .graph .now) (a .rules .now) (k .pre .0) (a .g) (a .m) (k .pre .1 .0) (k .pre .1 .1 .1 .0))
+
+-- src/summaries.rt:192:31
+add-put8 : tie.Need-add-put8
+add-put8 c =
+    let k = c .before .before .before .before .before .before .before .before .before in
+    let a = k .args in
+    omega (arith, method-fits (a .s) (a .graph .now) (a .rules .now) (k .pre .0) (a .g) (a .m) (k .pre .1 .0) (k .pre .1 .1 .1 .0), k .pre .1 .1 .0)
+
+-- src/summaries.rt:192:5
+put8-requires : tie.Need-put8-requires
+put8-requires c κs =
+    let k = c .before .before .before .before .before .before .before .before .before in
+    let a = k .args in
+    omega (arith, method-fits (a .s) (a .graph .now) (a .rules .now) (k .pre .0) (a .g) (a .m) (k .pre .1 .0) (k .pre .1 .1 .1 .0), k .pre .1 .1 .0, k .pre .1 .1 .1 .1 .1 .2 .holding .room)
+
+-- src/summaries.rt:193:5
+run-calls-requires : tie.Need-run-calls-requires
+run-calls-requires c κs =
+    let get8 = c .before .before .before .before .before .before .before .before .get8 in
+    let get82 = c .before .before .before .before .before .before .get82 in
+    let put8 = c .before .before .before .put8 in
+    let k = c .before .before .before .before .before .before .before .before .before .before .before .before .before in
+    let a = k .args in (
+      k .pre .0,
+      (
+        method-fits (a .s) (a .graph .now) (a .rules .now) (k .pre .0) (a .g) (a .m) (k .pre .1 .0) (k .pre .1 .1 .1 .0),
+        sum-holds (a .s) (a .graph .now) (a .rules .now) (k .pre .0) (a .g)
+            (a .p) (a .m) (k .pre .1 .0) (k .pre .1 .1 .0) (k .pre .1 .1 .1 .0) (k .pre .1 .1 .1 .1 .0) (a .tail) (a .work .now) (get8 .result) (get82 .result) (omega (arith, get8 .ok))
+            (omega (arith, get82 .ok)) (get8 .ensures) (get82 .ensures) (put8 .last .0) (put8 .ensures) (k .pre .1 .1 .1 .1 .1),
+      ),
+    )
+
+-- src/summaries.rt:173:1
+same-length-2 : tie.Need-same-length-2
+same-length-2 c = search needs
+
+-- src/summaries.rt:173:1
+returns-2 : tie.Need-returns-2
+returns-2 c =
+    let get8 = c .before .before .before .before .before .before .before .before .before .before .before .get8 in
+    let get82 = c .before .before .before .before .before .before .before .before .before .get82 in
+    let put8 = c .before .before .before .before .before .before .put8 in
+    let k = c .before .before .before .before .before .before .before .before .before .before .before .before .before .before .before .before in
+    let a = k .args in
+    let x = c .before .before .run-calls in
+    sum-spreads (a .s) (a .graph .now) (a .rules .now) (k .pre .0) (a .g) (a .p) (a .m) (k .pre .1 .0) (k .pre .1 .1 .0) (k .pre .1 .1 .1 .0) (k .pre .1 .1 .1 .1 .0) (a .tail) (a .work .now)
+    (get8 .result) (get82 .result) (omega (arith, get8 .ok)) (omega (arith, get82 .ok)) (get8 .ensures) (get82 .ensures) (put8 .last .0) (put8 .ensures) (x .result) (x .last .1 .1 .1 .0)
+    (x .ensures .0) (x .ensures .1)
+
+pub end-call-spec : {M : Type 1} → statement M
+end-call-spec =
+    tie.close
+    (tie.spec
+    mul-get8
+    add-get8
+    get8-requires
+    mul-get8-2
+    add-get8-2
+    get8-requires-2
+    same-length
+    returns
+    mul-put8
+    add-put8
+    put8-requires
+    run-calls-requires
+    same-length-2
+    returns-2)

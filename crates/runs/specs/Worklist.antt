@@ -1,0 +1,159 @@
+-- Summaries by worklist, in watching's lent buffer. A point is a node and the monitor state in which its method was entered; for each point the states in which it is
+-- reached stand as a set. A point to which states have come waits in a queue; taking it runs its edges, or, at a return node, adds to the summary of its method, and
+-- then every call of that method is run again.
+use mathlib.Core.Path.{_≡_}
+use mathlib.Core.Logic.{_⊎_, _↔_}
+use mathlib.Core.Bool.{Bool, not, cond, _&&_}
+use mathlib.Core.List.{List, [], List·Memᴰ}
+use Prim.Native.Nat.{ℕ, suc, _+_, _*_, _/_, _%_, _^_, _≤_, _<_}
+use lib.Bits.{bitOr}
+use lib.Dec.{T, eqb}
+use lib.ListN.{length, getD}
+use Rattle.files.specs.Basics.Lists.{span}
+use Rattle.files.specs.Basics.Tables.{tally}
+use Rattle.files.specs.Basics.Tests.{any}
+use Rattle.files.specs.Cells.{cell, put-cell}
+use Rattle.files.specs.Graph.{Graph, Edge, size, node}
+use Rattle.files.specs.Rules.{Monitor, calls, returns-to}
+use Rattle.maximal.specs.Masks.{member, mask}
+use Rattle.runs.specs.Prepared.{Tables}
+use Rattle.runs.specs.Runs.{meth}
+use Rattle.runs.specs.Summary.{Inside, Yields}
+pub mod Unions
+pub mod Growth
+pub mod Steps
+pub mod Loops
+
+-- ---- sets of monitor states, as numbers below 256
+
+-- the union of the sets f q, for q in x
+pub union : (ℕ → ℕ) → ℕ → ℕ
+union f x = mask (λ (s : ℕ). any (λ (q : ℕ). member x q && member (f q) s) (span 0 8)) 8
+
+-- the states after a whole call of method l by method a from the states x, by the summaries t
+abbrev pub passed : Monitor → (ℕ → ℕ → ℕ) → ℕ → ℕ → ℕ → ℕ
+passed mon t a l x = union (λ (s : ℕ). 2 ^ mon s (returns-to l a)) (union (t l) (union (λ (q : ℕ). 2 ^ mon q (calls a l)) x))
+
+-- ---- the parts of the buffer
+
+abbrev pub point : ℕ → ℕ → ℕ
+point g p = 8 * g + p
+
+-- the states in which node g is reached, its method entered in state p
+abbrev pub reach : List ℕ → ℕ → ℕ → ℕ
+reach w g p = cell w 42516 1 (point g p)
+
+-- 1 while the point waits
+abbrev pub waits : List ℕ → ℕ → ℕ → ℕ
+waits w g p = cell w 44564 1 (point g p)
+
+-- the states at the return nodes of method m, entered in state p
+abbrev pub sums : List ℕ → ℕ → ℕ → ℕ
+sums w m p = cell w 46612 1 (8 * m + p)
+
+abbrev pub queue : List ℕ → ℕ → ℕ
+queue w i = cell w 0 2 i
+
+-- how many states are reached at all points together
+pub reached : List ℕ → ℕ
+reached w = tally (λ (h : ℕ). member (cell w 42516 1 (h / 8)) (h % 8)) 16384
+
+-- ---- states added to a point
+
+-- the list with the point's states, and with the point in the queue
+abbrev pub grown : List ℕ → ℕ → ℕ → ℕ → List ℕ
+grown w g p y = put-cell w 42516 1 (point g p) (bitOr (reach w g p) y)
+
+abbrev pub queued : List ℕ → ℕ → ℕ → ℕ → List ℕ
+queued w tail g p = put-cell (put-cell w 44564 1 (point g p) 1) 0 2 tail (point g p)
+
+-- nothing new; or new at a point that waits; or new, and the point is put at the queue's end
+pub added : List ℕ → ℕ → ℕ → ℕ → ℕ → List ℕ
+added w tail g p y =
+    cond (eqb (bitOr (reach w g p) y) (reach w g p)) w
+    (cond (eqb (waits w g p) 1) (grown w g p y) (queued (grown w g p y) tail g p))
+
+-- the queue's end after it
+pub added-tail : List ℕ → ℕ → ℕ → ℕ → ℕ → ℕ
+added-tail w tail g p y = cond (eqb (bitOr (reach w g p) y) (reach w g p)) tail (cond (eqb (waits w g p) 1) tail (suc tail))
+
+-- what stands after the summaries is as it was
+abbrev pub Past : List ℕ → List ℕ → Type 0
+Past w w′ = (q : ℕ) → 46684 ≤ q → getD w′ q 0 ≡ getD w q 0
+
+-- the summaries by value: of method m + 1, entered in state p
+abbrev pub TableOf : List ℕ → List (List ℕ) → Type 0
+TableOf w t = (m p : ℕ) → m < 8 → p < 8 → getD (getD t m []) p 0 ≡ sums w (suc m) p
+
+module _ (G : Graph) (mon : Monitor) where
+  -- the states after edge e, from the states x at its source
+  abbrev pub after-edge : (ℕ → ℕ → ℕ) → Edge → ℕ → ℕ
+  after-edge t e x = cond (eqb (e .label) 0) x (passed mon t (meth G (e .from)) (e .label) x)
+
+  -- place i of the queue holds a point
+  pub record Queued (w : List ℕ) (i : ℕ) : Type 0 where
+    pub its-node : ℕ
+    pub its-state : ℕ
+    pub is-node : its-node < size G
+    pub is-state : its-state < 8
+    pub is-there : queue w i ≡ point its-node its-state
+
+  -- all that is reached or summed up happens; the queue holds points, no more than there are states reached
+  pub record Holding (tail : ℕ) (w : List ℕ) : Type 0 where
+    pub room : 46949 ≤ length w
+    pub tables : Tables G mon w
+    pub reach-small : (g p : ℕ) → g < size G → p < 8 → reach w g p < 256
+    pub reach-happens : (g p q : ℕ) → g < size G → p < 8 → q < 8 → T (member (reach w g p) q) → Inside G mon (meth G g) p g q
+    pub sums-happen : (m p q : ℕ) → m < 9 → p < 8 → q < 8 → T (member (sums w m p) q) → Yields G mon m p q
+    pub in-queue : (i : ℕ) → i < tail → Queued w i
+    pub few : tail ≤ reached w
+
+  -- from w, with `tail` places in the queue, on to w′, with `tail′`: states were added to points, and nothing else was done
+  pub record Grew (tail tail′ : ℕ) (w w′ : List ℕ) : Type 0 where
+    pub holding : Holding tail′ w′
+    pub longer : tail ≤ tail′
+    pub reach-kept : (g p q : ℕ) → g < size G → p < 8 → T (member (reach w g p) q) → T (member (reach w′ g p) q)
+    pub new-waits : (g p : ℕ) → g < size G → p < 8 → (reach w′ g p ≡ reach w g p) ⊎ (waits w′ g p ≡ 1)
+    pub waits-kept : (g p : ℕ) → g < size G → p < 8 → waits w g p ≡ 1 → waits w′ g p ≡ 1
+    pub new-queued : (g p : ℕ) → g < size G → p < 8 → waits w′ g p ≡ 1 → (waits w g p ≡ 1) ⊎ ((i : ℕ) × (tail ≤ i) × (i < tail′) × (queue w′ i ≡ point g p))
+    pub queue-kept : (i : ℕ) → i < tail → queue w′ i ≡ queue w i
+    pub rest-kept : (q : ℕ) → ((32768 ≤ q) × (q < 42516)) ⊎ (46612 ≤ q) → getD w′ q 0 ≡ getD w q 0
+
+  -- the source of e waits, or what e makes of its states is at the target
+  pub Covered : List ℕ → Edge → ℕ → Type 0
+  Covered w e p = (waits w (e .from) p ≡ 1) ⊎ ((q : ℕ) → q < 8 → T (member (after-edge (sums w) e (reach w (e .from) p)) q) → T (member (reach w (e .to) p) q))
+
+  -- the states of a return node that does not wait are in the summary of its method
+  pub Summed : List ℕ → ℕ → ℕ → Type 0
+  Summed w g p = (waits w g p ≡ 1) ⊎ ((q : ℕ) → q < 8 → T (member (reach w g p) q) → T (member (sums w (meth G g) p) q))
+
+  -- Between two steps: what waits is in the queue from `head` on, and all else is done, but for the edges and the return nodes that `EdgeDue` and `NodeDue` name.
+  pub record SpreadBut (EdgeDue : Edge → ℕ → Type 0) (NodeDue : ℕ → ℕ → Type 0) (head tail : ℕ) (w : List ℕ) : Type 0 where
+    pub holding : Holding tail w
+    pub waiting : (g p : ℕ) → g < size G → p < 8 → waits w g p ≡ 1 → (i : ℕ) × (head ≤ i) × (i < tail) × (queue w i ≡ point g p)
+    pub edges-done : (e : Edge) → List·Memᴰ e (G .edges) → T (not ((node G (e .from)) .ret)) → (p : ℕ) → p < 8 → EdgeDue e p ⊎ Covered w e p
+    pub returns-done : (g p : ℕ) → g < size G → p < 8 → T ((node G g) .ret) → NodeDue g p ⊎ Summed w g p
+    pub entries-in : (g p : ℕ) → g < size G → p < 8 → T ((node G g) .entry) → T (member (reach w g p) p)
+
+  abbrev pub Spread : ℕ → ℕ → List ℕ → Type 0
+  Spread head tail w = SpreadBut (λ e p. ⊥) (λ g p. ⊥) head tail w
+
+  -- but for what is due of one point, which was taken from the queue
+  abbrev pub PointDue : ℕ → ℕ → ℕ → ℕ → List ℕ → Type 0
+  PointDue g p head tail w = SpreadBut (λ e r. (e .from ≡ g) × (r ≡ p)) (λ h r. (h ≡ g) × (r ≡ p)) head tail w
+
+  -- the edges of node g are run from its states at point (g, p)
+  pub EdgesRun : List ℕ → ℕ → ℕ → Type 0
+  EdgesRun w g p = (e : Edge) → List·Memᴰ e (G .edges) → e .from ≡ g → T (not ((node G (e .from)) .ret)) → Covered w e p
+
+  -- the calls of method m are run
+  pub CallsRun : List ℕ → ℕ → Type 0
+  CallsRun w m = (e : Edge) → List·Memᴰ e (G .edges) → e .label ≡ m → T (not ((node G (e .from)) .ret)) → (p : ℕ) → p < 8 → Covered w e p
+
+  -- each entry is reached in the state in which its method was entered
+  abbrev pub EntriesIn : ℕ → List ℕ → Type 0
+  EntriesIn n w = (g p : ℕ) → g < n → p < 8 → T ((node G g) .entry) → T (member (reach w g p) p)
+
+  -- the summaries are found
+  pub SummariesIn : List ℕ → Type 0
+  SummariesIn w = (m p q : ℕ) → m < 9 → p < 8 → q < 8 → T (member (sums w m p) q) ↔ Yields G mon m p q

@@ -1,0 +1,321 @@
+// Summaries by worklist: for each method and monitor state at its entry, the states in which it can return. `summarize` states that they stand in the lent buffer,
+// and `table_of` hands them on by value.
+ghost use mathlib.Core.Path.{_≡_};
+ghost use mathlib.Core.Bool.{not};
+ghost use Prim.Native.Nat.{ℕ, _+_, _^_, _≤_, _<_};
+ghost use lib.Bits.{bitOr};
+ghost use lib.Dec.{T};
+ghost use lib.ListN.{length, getD};
+ghost use Rattle.files.specs.Decode.{decode-graph, decode-rules};
+ghost use Rattle.files.specs.Graph.{node, no-edge};
+ghost use Rattle.files.specs.Rules.{watch};
+ghost use Rattle.maximal.specs.Masks.{member};
+ghost use Rattle.runs.specs.Prepared.{Ready, Stepped, Tables};
+ghost use Rattle.runs.specs.Runs.{meth};
+ghost use Rattle.runs.specs.Worklist.{union, passed, reach, sums, added, added-tail, Holding, Grew, Covered, PointDue, Spread, EdgesRun, CallsRun, EntriesIn, SummariesIn, Past, TableOf};
+use crate::prepare::slot;
+use crate::regions::Regions;
+use files::cells::get8;
+use files::cells::get16;
+use files::cells::put8;
+use files::cells::put16;
+use files::graph::EdgeAt;
+use files::graph::NodeAt;
+use files::graph::edge_at;
+use files::graph::node_at;
+
+// State q is in the set.
+pub(crate) fn has_state(set: u8, q: usize) -> bool
+    requires { ⌜ q < 8 ⌝ }
+    ensures { λ r. ⌜ r ≡ member set q ⌝ }
+{
+    (set >> q) % 2 == 1
+}
+
+// The set of state q alone.
+pub(crate) fn one_state(q: u8) -> u8
+    requires { ⌜ q < 8 ⌝ }
+    ensures { λ r. ⌜ r ≡ 2 ^ q ⌝ }
+{
+    1 << q
+}
+
+// The states to which an event takes those of a set.
+pub(crate) fn step_set(
+    graph: &[u8],
+    rules: &[u8],
+    s: Regions,
+    work: &[u8],
+    x: u8,
+    event: u8,
+    m1: u8,
+    m2: u8,
+) -> u8
+    requires { ⌜ (Ready s (now graph) (now rules)) × ((Stepped (watch (decode-rules (now rules))) (now work)) × ((46949 ≤ length (now work)) × ((1 ≤ event) × ((event ≤ 2) × ((1 ≤ m1) × ((m1 ≤ 8) × ((1 ≤ m2) × (m2 ≤ 8)))))))) ⌝ }
+    ensures { λ r. ⌜ r ≡ union (λ q. 2 ^ watch (decode-rules (now (rules .entry))) q (record { kind = event; m1 = m1; m2 = m2 })) x ⌝ }
+{
+    let at = slot(event, m1, m2);
+    let mut q = 0;
+    let mut y = 0;
+    while q < 8 {
+        if has_state(x, q) {
+            y = y | one_state(get8(work, Regions::MONITOR, at + q));
+        }
+        q += 1;
+    }
+    y
+}
+
+// The states in which method m, entered in one of the states of a set, is known to return.
+fn sum_set(work: &[u8], m: usize, x: u8) -> u8
+    requires { ⌜ (m < 9) × (46949 ≤ length (now work)) ⌝ }
+    ensures { λ r. ⌜ r ≡ union (sums (now (work .entry)) m) x ⌝ }
+{
+    let mut p = 0;
+    let mut y = 0;
+    while p < 8 {
+        if has_state(x, p) {
+            y = y | get8(work, Regions::SUMS, 8 * m + p);
+        }
+        p += 1;
+    }
+    y
+}
+
+// The states after a whole call of method `label` by method `caller` from the states of a set.
+fn pass(graph: &[u8], rules: &[u8], s: Regions, work: &[u8], caller: u8, label: u8, x: u8) -> u8
+    requires { ⌜ (Ready s (now graph) (now rules)) × ((Stepped (watch (decode-rules (now rules))) (now work)) × ((46949 ≤ length (now work)) × ((1 ≤ caller) × ((caller ≤ 8) × ((1 ≤ label) × (label ≤ 8)))))) ⌝ }
+    ensures { λ r. ⌜ r ≡ passed (watch (decode-rules (now (rules .entry)))) (sums (now (work .entry))) caller label x ⌝ }
+{
+    let entered = step_set(graph, rules, s, work, x, 1, caller, label);
+    let returned = sum_set(work, label as usize, entered);
+    step_set(graph, rules, s, work, returned, 2, label, caller)
+}
+
+// Adds states to the point of node g and entry state p; if any is new, the point waits in the queue. The queue's end after it.
+fn add(work: &mut [u8], tail: usize, g: usize, p: usize, y: u8) -> usize
+    requires { ⌜ (g < 256) × ((p < 8) × ((46949 ≤ length (now work)) × ((bitOr (reach (now work) g p) y ≡ reach (now work) g p → ⊥) → tail < 16384))) ⌝ }
+    ensures { λ t. ⌜ (t ≡ added-tail (now (work .entry)) tail g p y) × (now (work .exit) ≡ added (now (work .entry)) tail g p y) ⌝ }
+{
+    let at = 8 * g + p;
+    let old = get8(work, Regions::REACHED, at);
+    let new = old | y;
+    if new == old {
+        return tail;
+    }
+    put8(work, Regions::REACHED, at, new);
+    if get8(work, Regions::WAITING, at) == 1 {
+        return tail;
+    }
+    put8(work, Regions::WAITING, at, 1);
+    put16(work, Regions::QUEUE, tail, at as u16);
+    tail + 1
+}
+
+// Runs edge j from the states at its source, entered in state p. A return node runs no edge.
+fn run_edge(
+    graph: &[u8],
+    rules: &[u8],
+    s: Regions,
+    work: &mut [u8],
+    tail: usize,
+    j: usize,
+    p: usize,
+) -> usize
+    requires { ⌜ (Ready s (now graph) (now rules)) × ((j < s .edges) × ((p < 8) × (Holding (decode-graph (now graph)) (watch (decode-rules (now rules))) tail (now work)))) ⌝ }
+    ensures { λ t. ⌜ (Grew (decode-graph (now (graph .entry))) (watch (decode-rules (now (rules .entry)))) tail t (now (work .entry)) (now (work .exit))) × (T (not ((node (decode-graph (now (graph .entry))) ((getD ((decode-graph (now (graph .entry))) .edges) j no-edge) .from)) .ret)) → Covered (decode-graph (now (graph .entry))) (watch (decode-rules (now (rules .entry)))) (now (work .exit)) (getD ((decode-graph (now (graph .entry))) .edges) j no-edge) p) ⌝ }
+{
+    let EdgeAt::Is(e) = edge_at(graph, s.nodes, j, 0) else {
+        return tail;
+    };
+    let NodeAt::Is(v) = node_at(graph, e.from, 0) else {
+        return tail;
+    };
+    if v.returns {
+        return tail;
+    }
+    let x = get8(work, Regions::REACHED, 8 * e.from + p);
+    if e.label == 0 {
+        return add(work, tail, e.to, p, x);
+    }
+    let y = pass(graph, rules, s, work, v.method, e.label, x);
+    add(work, tail, e.to, p, y)
+}
+
+// Runs the edges of node g, entered in state p.
+fn run_edges(
+    graph: &[u8],
+    rules: &[u8],
+    s: Regions,
+    work: &mut [u8],
+    tail: usize,
+    g: usize,
+    p: usize,
+) -> usize
+    requires { ⌜ (Ready s (now graph) (now rules)) × ((g < s .nodes) × ((p < 8) × (Holding (decode-graph (now graph)) (watch (decode-rules (now rules))) tail (now work)))) ⌝ }
+    ensures { λ t. ⌜ (Grew (decode-graph (now (graph .entry))) (watch (decode-rules (now (rules .entry)))) tail t (now (work .entry)) (now (work .exit))) × (EdgesRun (decode-graph (now (graph .entry))) (watch (decode-rules (now (rules .entry)))) (now (work .exit)) g p) ⌝ }
+{
+    let mut j = get16(work, Regions::FIRSTS, g) as usize;
+    let last = get16(work, Regions::FIRSTS, g + 1) as usize;
+    let mut end = tail;
+    while j < last {
+        end = run_edge(graph, rules, s, work, end, j, p);
+        j += 1;
+    }
+    end
+}
+
+// Runs edge j for every entry state.
+fn run_call(graph: &[u8], rules: &[u8], s: Regions, work: &mut [u8], tail: usize, j: usize) -> usize
+    requires { ⌜ (Ready s (now graph) (now rules)) × ((j < s .edges) × (Holding (decode-graph (now graph)) (watch (decode-rules (now rules))) tail (now work))) ⌝ }
+    ensures { λ t. ⌜ (Grew (decode-graph (now (graph .entry))) (watch (decode-rules (now (rules .entry)))) tail t (now (work .entry)) (now (work .exit))) × (T (not ((node (decode-graph (now (graph .entry))) ((getD ((decode-graph (now (graph .entry))) .edges) j no-edge) .from)) .ret)) → (p : ℕ) → p < 8 → Covered (decode-graph (now (graph .entry))) (watch (decode-rules (now (rules .entry)))) (now (work .exit)) (getD ((decode-graph (now (graph .entry))) .edges) j no-edge) p) ⌝ }
+{
+    let mut p = 0;
+    let mut end = tail;
+    while p < 8 {
+        end = run_edge(graph, rules, s, work, end, j, p);
+        p += 1;
+    }
+    end
+}
+
+// Runs every call of method m.
+fn run_calls(
+    graph: &[u8],
+    rules: &[u8],
+    s: Regions,
+    work: &mut [u8],
+    tail: usize,
+    m: usize,
+) -> usize
+    requires { ⌜ (Ready s (now graph) (now rules)) × ((m < 9) × (Holding (decode-graph (now graph)) (watch (decode-rules (now rules))) tail (now work))) ⌝ }
+    ensures { λ t. ⌜ (Grew (decode-graph (now (graph .entry))) (watch (decode-rules (now (rules .entry)))) tail t (now (work .entry)) (now (work .exit))) × (CallsRun (decode-graph (now (graph .entry))) (watch (decode-rules (now (rules .entry)))) (now (work .exit)) m) ⌝ }
+{
+    let mut at = get16(work, Regions::LABEL_HEADS, m) as usize;
+    let mut end = tail;
+    while at > 0 {
+        let j = at - 1;
+        end = run_call(graph, rules, s, work, end, j);
+        at = get16(work, Regions::LABEL_NEXTS, j) as usize;
+    }
+    end
+}
+
+// Adds the states at the point of return node g to the summary of its method m; if any is new, runs every call of it.
+fn end_call(
+    graph: &[u8],
+    rules: &[u8],
+    s: Regions,
+    work: &mut [u8],
+    tail: usize,
+    g: usize,
+    p: usize,
+    m: usize,
+) -> usize
+    requires { ⌜ (Ready s (now graph) (now rules)) × ((g < s .nodes) × ((p < 8) × ((m ≡ meth (decode-graph (now graph)) g) × ((T ((node (decode-graph (now graph)) g) .ret)) × ((k : ℕ) × (k ≤ tail) × (PointDue (decode-graph (now graph)) (watch (decode-rules (now rules))) g p k tail (now work))))))) ⌝ }
+    ensures { λ t. ⌜ ((k : ℕ) → k ≤ tail → PointDue (decode-graph (now (graph .entry))) (watch (decode-rules (now (rules .entry)))) g p k tail (now (work .entry)) → Spread (decode-graph (now (graph .entry))) (watch (decode-rules (now (rules .entry)))) k t (now (work .exit))) × ((tail ≤ t) × (Past (now (work .entry)) (now (work .exit)))) ⌝ }
+{
+    let x = get8(work, Regions::REACHED, 8 * g + p);
+    let old = get8(work, Regions::SUMS, 8 * m + p);
+    let new = old | x;
+    if new == old {
+        return tail;
+    }
+    put8(work, Regions::SUMS, 8 * m + p, new);
+    run_calls(graph, rules, s, work, tail, m)
+}
+
+// Takes the point at place `head` of the queue.
+fn take(graph: &[u8], rules: &[u8], s: Regions, work: &mut [u8], head: usize, tail: usize) -> usize
+    requires { ⌜ (Ready s (now graph) (now rules)) × ((head < tail) × (Spread (decode-graph (now graph)) (watch (decode-rules (now rules))) head tail (now work))) ⌝ }
+    ensures { λ t. ⌜ (Spread (decode-graph (now (graph .entry))) (watch (decode-rules (now (rules .entry)))) (head + 1) t (now (work .exit))) × ((tail ≤ t) × (Past (now (work .entry)) (now (work .exit)))) ⌝ }
+{
+    let at = get16(work, Regions::QUEUE, head) as usize;
+    let g = at / 8;
+    let p = at % 8;
+    let NodeAt::Is(v) = node_at(graph, g, 0) else {
+        return tail;
+    };
+    put8(work, Regions::WAITING, at, 0);
+    if v.returns {
+        return end_call(graph, rules, s, work, tail, g, p, v.method as usize);
+    }
+    run_edges(graph, rules, s, work, tail, g, p)
+}
+
+// Where node g is an entry, its method can be entered there in every state.
+fn seed_node(
+    graph: &[u8],
+    rules: &[u8],
+    s: Regions,
+    work: &mut [u8],
+    tail: usize,
+    g: usize,
+) -> usize
+    requires { ⌜ (Ready s (now graph) (now rules)) × ((g < s .nodes) × (Holding (decode-graph (now graph)) (watch (decode-rules (now rules))) tail (now work))) ⌝ }
+    ensures { λ t. ⌜ (Grew (decode-graph (now (graph .entry))) (watch (decode-rules (now (rules .entry)))) tail t (now (work .entry)) (now (work .exit))) × (T ((node (decode-graph (now (graph .entry))) g) .entry) → (p : ℕ) → p < 8 → T (member (reach (now (work .exit)) g p) p)) ⌝ }
+{
+    let NodeAt::Is(v) = node_at(graph, g, 0) else {
+        return tail;
+    };
+    let mut p = 0;
+    let mut end = tail;
+    if !v.entry {
+        return end;
+    }
+    while p < 8 {
+        end = add(work, end, g, p as usize, one_state(p));
+        p += 1;
+    }
+    end
+}
+
+// Enters every method at each of its entries in every state.
+fn seed(graph: &[u8], rules: &[u8], s: Regions, work: &mut [u8]) -> usize
+    requires { ⌜ (Ready s (now graph) (now rules)) × (Holding (decode-graph (now graph)) (watch (decode-rules (now rules))) 0 (now work)) ⌝ }
+    ensures { λ t. ⌜ (Grew (decode-graph (now (graph .entry))) (watch (decode-rules (now (rules .entry)))) 0 t (now (work .entry)) (now (work .exit))) × (EntriesIn (decode-graph (now (graph .entry))) (watch (decode-rules (now (rules .entry)))) (s .nodes) (now (work .exit))) ⌝ }
+{
+    let mut g = 0;
+    let mut end = 0;
+    while g < s.nodes {
+        end = seed_node(graph, rules, s, work, end, g);
+        g += 1;
+    }
+    end
+}
+
+// Takes points until none waits.
+fn settle(graph: &[u8], rules: &[u8], s: Regions, work: &mut [u8], tail: usize)
+    requires { ⌜ (Ready s (now graph) (now rules)) × (Spread (decode-graph (now graph)) (watch (decode-rules (now rules))) 0 tail (now work)) ⌝ }
+    ensures { λ _. ⌜ (SummariesIn (decode-graph (now (graph .entry))) (watch (decode-rules (now (rules .entry)))) (now (work .exit))) × ((Tables (decode-graph (now (graph .entry))) (watch (decode-rules (now (rules .entry)))) (now (work .exit))) × (Past (now (work .entry)) (now (work .exit)))) ⌝ }
+{
+    let mut head = 0;
+    let mut end = tail;
+    while head < end {
+        end = take(graph, rules, s, work, head, end);
+        head += 1;
+    }
+}
+
+// Finds all summaries, in a buffer with the tables and zeros after them.
+pub(crate) fn summarize(graph: &[u8], rules: &[u8], s: Regions, work: &mut [u8])
+    requires { ⌜ (Ready s (now graph) (now rules)) × ((Tables (decode-graph (now graph)) (watch (decode-rules (now rules))) (now work)) × ((46949 ≤ length (now work)) × ((q : ℕ) → 42516 ≤ q → getD (now work) q 0 ≡ 0))) ⌝ }
+    ensures { λ _. ⌜ (SummariesIn (decode-graph (now (graph .entry))) (watch (decode-rules (now (rules .entry)))) (now (work .exit))) × ((Tables (decode-graph (now (graph .entry))) (watch (decode-rules (now (rules .entry)))) (now (work .exit))) × (Past (now (work .entry)) (now (work .exit)))) ⌝ }
+{
+    let tail = seed(graph, rules, s, work);
+    settle(graph, rules, s, work, tail);
+}
+
+// The summaries, method by entry state.
+pub(crate) fn table_of(work: &[u8]) -> [[u8; 8]; 8]
+    requires { ⌜ 46949 ≤ length (now work) ⌝ }
+    ensures { λ t. ⌜ TableOf (now (work .entry)) t ⌝ }
+{
+    let mut t = [[0u8; 8]; 8];
+    let mut i = 0;
+    while i < 64 {
+        t[i / 8][i % 8] = get8(work, Regions::SUMS, i + 8);
+        i += 1;
+    }
+    t
+}
