@@ -3,7 +3,7 @@ use mathlib.Core.Path.{_≡_, ap, ap₂, _∙_}
 use mathlib.Core.List.{List, [], _∷_, _++_, map}
 use Prim.Native.Nat.{ℕ}
 use native.Mathlib.Omega.{arith}
-use lib.ListN.{length, replicate}
+use lib.ListN.{replicate}
 use Rattle.files.specs.Course.{bytes, one-one-file, one-one, one-none-file, p1-file, or-file, false-file, return-file, box-file, entry-file, call-file, call-graph, returning-file, returning-graph, cycle-file, loop-file, return-rule-file, return-monitor, p1-bytes, p2-bytes, operator-files, operator-values}
 use Rattle.files.specs.Decode.{decode-property}
 use Rattle.files.specs.Decode.Examples.{one-one-is, call-is, returning-is, rules-is}

@@ -11,7 +11,7 @@ use native.Mathlib.Decide.{decLt}
 use native.Mathlib.Omega.{arith}
 use lib.Dec.{T}
 use lib.ListN.{length}
-use Rattle.files.specs.Basics.Lexical.{Before, before-irrefl, before-trans, before-total}
+use Rattle.files.specs.Basics.Lexical.{Before, before-trans, before-total}
 use Rattle.files.specs.Basics.Lists.{each}
 use Rattle.files.specs.Basics.Shortest.{To, there, by}
 

@@ -7,11 +7,11 @@ use lib.Dec.{eqb}
 use lib.ListN.{length, getD, drop}
 use Rattle.files.specs.Access.{GraphFile, RulesFile, first-edge}
 use Rattle.files.specs.Cells.{cell}
-use Rattle.files.specs.Decode.{decode-graph, decode-rules}
+use Rattle.files.specs.Decode.{decode-rules}
 use Rattle.files.specs.Graph.{Graph, size, no-edge}
 use Rattle.files.specs.Record.{count}
 use Rattle.files.specs.Refusal.{nodes-of}
-use Rattle.files.specs.Rules.{Monitor, Rule, by-rule, watch}
+use Rattle.files.specs.Rules.{Monitor, by-rule}
 use Rattle.judging.specs.Chains.{Chained}
 use Rattle.runs.specs.declared.regions.Regions.{Regions}
 pub mod Files

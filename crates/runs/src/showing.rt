@@ -1,6 +1,6 @@
 // Showing: the record of a joined node, as six bytes of the file it came from. `show_within` gives the part, empty where it is refused; `show_refusal_within` says why.
 ghost use mathlib.Core.Path.{_≡_};
-ghost use Prim.Native.Nat.{_≤_, _<_};
+ghost use Prim.Native.Nat.{_<_};
 ghost use Rattle.files.specs.Outcome.{answer, written-of};
 ghost use Rattle.files.specs.Refusal.{nodes-of};
 ghost use Rattle.runs.specs.Showing.{shown, shown-answer, from-second, Stands};

@@ -12,7 +12,7 @@ ghost use Rattle.judging.specs.Judge.{GraphWithin, Strides};
 ghost use Rattle.runs.specs.Answer.{watched-answer};
 ghost use Rattle.runs.specs.Prepared.{Ready};
 ghost use Rattle.runs.specs.Searching.{Says};
-ghost use Rattle.runs.specs.Watching.{watched, watch-verdict, from-verdict, from-sides, from-start, from-rules, from-graph, from-interface};
+ghost use Rattle.runs.specs.Watching.{watched, watch-verdict, from-verdict, from-sides, from-rules, from-graph, from-interface};
 use crate::answers::Verdict;
 use crate::prepare::prepare;
 use crate::regions::Regions;

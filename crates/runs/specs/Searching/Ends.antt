@@ -2,16 +2,16 @@
 -- or where no item is left.
 use mathlib.Core.Path.{_≡_, refl, sym, ap, subst, _∙_}
 use mathlib.Core.Logic.{_⊎_, inl, inr}
-use mathlib.Core.Bool.{Bool, true, false, not, cond}
-use mathlib.Core.List.{List, [], _∷_, _++_, List·Memᴰ, List·Memᴰ·not-nil, append-nil}
-use Prim.Native.Nat.{ℕ, zero, suc, _+_, _*_, _/_, _%_, _^_, _≤_, _<_}
+use mathlib.Core.Bool.{false, not}
+use mathlib.Core.List.{List, [], List·Memᴰ, List·Memᴰ·not-nil, append-nil}
+use Prim.Native.Nat.{ℕ, suc, _+_, _*_, _/_, _%_, _^_, _≤_, _<_}
 use native.Mathlib.Nat.{eq-or-lt-of-le, le-of-suc-le-suc}
 use native.Mathlib.Omega.{arith}
-use lib.Dec.{T, T-not, eqb}
+use lib.Dec.{T, eqb}
 use lib.ListN.{length, getD}
 use Rattle.files.specs.Access.{first-edge}
 use Rattle.files.specs.Basics.Lexical.{Before}
-use Rattle.files.specs.Basics.Lists.{each, span}
+use Rattle.files.specs.Basics.Lists.{span}
 use Rattle.files.specs.Basics.Order.{Ascends, span-ascends}
 use Rattle.files.specs.Basics.Shortest.{To, there}
 use Rattle.files.specs.Basics.Tests.{decide}
@@ -21,14 +21,14 @@ use Rattle.files.specs.Decode.{key}
 use Rattle.files.specs.Graph.{Graph, Edge, size, node, Flow}
 use Rattle.files.specs.Rules.{Monitor, Event}
 use Rattle.maximal.specs.Masks.Laws.{member-none}
-use Rattle.runs.specs.Forward.{Searched, Met, Back, at-start, onward, UpTo, turned, fewer-due, next-item, all-met, best-found, turned-path, path-turned}
+use Rattle.runs.specs.Forward.{Met, Back, at-start, onward, UpTo, turned, fewer-due, next-item, all-met, best-found, turned-path, path-turned}
 use Rattle.runs.specs.Prepared.{Tables}
-use Rattle.runs.specs.Runs.{Bad, EntryOf}
+use Rattle.runs.specs.Runs.{Bad}
 use Rattle.runs.specs.Summary.{Place, clean}
 use Rattle.runs.specs.Summary.Places.{not-clean-bad, clean-no-bad}
 use Rattle.runs.specs.Summary.Trails.{Rec, trail-rec-bytes, Where, before, here, end, is-bad, leaving, trail}
-use Rattle.runs.specs.Summary.Trails.Laws.{Leaves, leaves-e, leaves-i, leaving-return, path-iff-bad, trail-to, trail-fewest, trail-first}
-use Rattle.runs.specs.Searching.{item, item-end, seen, entered, places-seen, Sooner, edge-at, outgoing, starts-of, Searching, Here, May, LookedTo, Looked, Turn, Traced, Says}
+use Rattle.runs.specs.Summary.Trails.Laws.{leaves-e, leaves-i, leaving-return, path-iff-bad, trail-to, trail-fewest, trail-first}
+use Rattle.runs.specs.Searching.{item-end, seen, entered, places-seen, Sooner, edge-at, outgoing, starts-of, Searching, Here, May, Looked, Turn, Says}
 use Rattle.runs.specs.Searching.Outgoing.{outgoing-ascends, outgoing-is, outgoing-leaves, leaves-outgoing, starts-ascend, starts-leave}
 use Rattle.runs.specs.Searching.Pushes.{one-record, same-size, places-most, few-by}
 

@@ -1,9 +1,9 @@
 -- A method entered in a state once need not be entered in it again: all its entries are met. And what the summaries, by value, say of a call passed over.
 use mathlib.Core.Path.{_≡_, refl, sym, ap, ap₂, subst, _∙_}
-use mathlib.Core.Logic.{_⊎_, inl, inr, _↔_}
-use mathlib.Core.Bool.{Bool, true, false, not, cond}
-use mathlib.Core.List.{List, [], _∷_, _++_, List·Memᴰ, List·Memᴰ·head, List·Memᴰ·tail, List·Memᴰ·cases-cons, List·Memᴰ·not-nil, Memᴰ·append-left, Memᴰ·append-right}
-use Prim.Native.Nat.{ℕ, zero, suc, _+_, _*_, _-_, _/_, _%_, _^_, _≤_, _<_}
+use mathlib.Core.Logic.{_⊎_, inl, inr}
+use mathlib.Core.Bool.{cond}
+use mathlib.Core.List.{List, [], _∷_, _++_, List·Memᴰ, List·Memᴰ·head, List·Memᴰ·tail, List·Memᴰ·cases-cons, List·Memᴰ·not-nil, Memᴰ·append-right}
+use Prim.Native.Nat.{ℕ, suc, _+_, _*_, _-_, _/_, _^_, _≤_, _<_}
 use native.Mathlib.Decide.{ℕ-discrete}
 use native.Mathlib.Omega.{arith}
 use lib.Dec.{T, eqb, eqb→eq}
@@ -11,21 +11,21 @@ use lib.ListN.{length, getD}
 use Rattle.files.specs.Basics.Lexical.{before-irrefl}
 use Rattle.files.specs.Basics.Order.{Ascends}
 use Rattle.files.specs.Basics.Tables.{tally-same}
-use Rattle.files.specs.Basics.Tests.{any, any-i, any-e, same-test, eq-eqb}
-use Rattle.files.specs.Cells.{cell, has-bit, put-bit}
-use Rattle.files.specs.Cells.Laws.{length-put-bit, bit-same, bit-other, bit-outside, bit-byte, cell-agree}
-use Rattle.files.specs.Graph.{Graph, Edge, size, node, Flow}
+use Rattle.files.specs.Basics.Tests.{any-i, any-e, same-test, eq-eqb}
+use Rattle.files.specs.Cells.{has-bit, put-bit}
+use Rattle.files.specs.Cells.Laws.{length-put-bit, bit-other, bit-outside, bit-byte, cell-agree}
+use Rattle.files.specs.Graph.{Graph, Edge, size, Flow}
 use Rattle.files.specs.Rules.{Monitor, Event, calls, returns-to}
 use Rattle.maximal.specs.Masks.{member}
 use Rattle.maximal.specs.Masks.Laws.{member-one}
-use Rattle.runs.specs.Forward.{Searched, Met, searched-same}
+use Rattle.runs.specs.Forward.{Met, searched-same}
 use Rattle.runs.specs.Prepared.Files.{tables-kept}
 use Rattle.runs.specs.Runs.{meth, EntryOf}
-use Rattle.runs.specs.Summary.{Place, Inside, Yields, callee, spots}
-use Rattle.runs.specs.Summary.Moves.{callee-i, callee-e, into, out}
+use Rattle.runs.specs.Summary.{Inside, callee, spots}
+use Rattle.runs.specs.Summary.Moves.{callee-i, callee-e, out}
 use Rattle.runs.specs.Summary.Spots.{spot, spots-sound, spots-complete, inside-now}
-use Rattle.runs.specs.Summary.Trails.{Rec, trail-rec-bytes, Where, before, here, end, leaving}
-use Rattle.runs.specs.Searching.{item, parent, item-end, seen, entered, places-seen, Sooner, ends-in, Searching, Leaving, May, LookedTo, Looked, Yielding}
+use Rattle.runs.specs.Summary.Trails.{Rec, trail-rec-bytes, Where, before, end, leaving}
+use Rattle.runs.specs.Searching.{item, parent, item-end, seen, entered, places-seen, Sooner, ends-in, Searching, Leaving, May, Looked, Yielding}
 use Rattle.runs.specs.Searching.Looks.{ascends-rest}
 use Rattle.runs.specs.Searching.Pushes.{one-record, same-size, item-same, look-seen, places-most, few-by}
 use Rattle.runs.specs.Worklist.{union}

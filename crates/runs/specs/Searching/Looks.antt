@@ -1,20 +1,18 @@
 -- Looking at records one after another, as the loops of the code do: the start, one list more, and one record.
-use mathlib.Core.Path.{_≡_, refl, sym, ap, subst, _∙_}
-use mathlib.Core.Logic.{_⊎_, inl, inr}
-use mathlib.Core.Bool.{Bool, true, false, not, cond}
+use mathlib.Core.Path.{_≡_, refl, sym, subst, _∙_}
+use mathlib.Core.Bool.{not}
 use mathlib.Core.List.{List, [], _∷_, _++_, List·Memᴰ, append-assoc}
-use Prim.Native.Nat.{ℕ, suc, _+_, _*_, _≤_, _<_}
+use Prim.Native.Nat.{ℕ, _+_, _≤_, _<_}
 use native.Mathlib.Omega.{arith}
-use lib.Dec.{T, eqb}
+use lib.Dec.{T}
 use lib.ListN.{length}
 use Rattle.files.specs.Basics.Order.{Ascends}
-use Rattle.files.specs.Graph.{Graph, Edge, size, node, no-edge, Flow}
+use Rattle.files.specs.Graph.{Graph, Edge, size, Flow}
 use Rattle.files.specs.Rules.{Monitor, Event}
-use Rattle.runs.specs.Runs.{meth, EntryOf, Runs}
 use Rattle.runs.specs.Summary.{Place}
-use Rattle.runs.specs.Summary.Trails.{Rec, Where, before, here, end, leaving}
+use Rattle.runs.specs.Summary.Trails.{Rec, Where, end, leaving}
 use Rattle.runs.specs.Summary.Trails.Laws.{Leaves, steps-on, goes-in, goes-by, leaves-i}
-use Rattle.runs.specs.Searching.{item, item-end, seen, with-item, pushed, pushed-tail, Sooner, Searching, Leaving, Here, May, LookedTo}
+use Rattle.runs.specs.Searching.{item-end, seen, pushed, pushed-tail, Sooner, Searching, Leaving, Here, May, LookedTo}
 use Rattle.runs.specs.Searching.Pushes.{looked, tail-fits, pushed-end, pushed-longer}
 
 pub ascends-rest : (xs ys : List Rec) → Ascends Sooner (xs ++ ys) → Ascends Sooner ys

@@ -1,25 +1,25 @@
 -- The records that leave a place, in the order of their bytes: they ascend, and they are those that the trail's definition lets leave it.
 use mathlib.Core.Path.{_≡_, refl, sym, ap, ap₂, subst, _∙_}
 use mathlib.Core.Logic.{_⊎_, inl, inr}
-use mathlib.Core.Bool.{Bool, true, false, not, cond, _&&_}
-use mathlib.Core.List.{List, [], _∷_, _++_, map, List·Memᴰ, List·Memᴰ·head, List·Memᴰ·tail, List·Memᴰ·not-nil, List·Memᴰ·cases-cons, List·Memᴰ·append-cases, List·Memᴰ·eq-of-singleton, Memᴰ·append-left, Memᴰ·append-right, Memᴰ·map, Memᴰ·of-map, map-append}
+use mathlib.Core.Bool.{Bool, true, false, not, cond}
+use mathlib.Core.List.{List, [], _∷_, _++_, map, List·Memᴰ, List·Memᴰ·head, List·Memᴰ·tail, List·Memᴰ·not-nil, List·Memᴰ·append-cases, List·Memᴰ·eq-of-singleton, Memᴰ·append-left, Memᴰ·append-right, Memᴰ·map, Memᴰ·of-map, map-append}
 use Prim.Native.Nat.{ℕ, zero, suc, _+_, _-_, _≤_, _<_}
 use native.Mathlib.Omega.{arith}
 use lib.Dec.{T, eqb, eqb→eq}
-use lib.ListN.{length, getD}
+use lib.ListN.{length}
 use borrow.Author.Tests.{ne-eqb}
 use Rattle.files.specs.Access.{first-edge}
 use Rattle.files.specs.Basics.Lexical.{Before}
 use Rattle.files.specs.Basics.Lists.{put, keep, keep-i, keep-e, each, each-i, each-e, span, span-i, span-e, index-i, index-e}
 use Rattle.files.specs.Basics.Order.{Ascends, ascends-append, ascends-map, ascends-keep, ascends-each, Less, span-ascends}
-use Rattle.files.specs.Basics.Tests.{any, any-i, any-e, eq-eqb, T-eq}
+use Rattle.files.specs.Basics.Tests.{any-i, any-e, eq-eqb, T-eq}
 use Rattle.files.specs.Decode.{key}
 use Rattle.files.specs.Graph.{Graph, Edge, size, node, no-edge, Flow}
 use Rattle.files.specs.Rules.{Monitor, Event, calls}
 use Rattle.runs.specs.Runs.{meth, EntryOf, Runs}
-use Rattle.runs.specs.Summary.{Place, is-entry-of, callee, spots}
+use Rattle.runs.specs.Summary.{Place, is-entry-of}
 use Rattle.runs.specs.Summary.Moves.{entry-e, entry-i}
-use Rattle.runs.specs.Summary.Trails.{Rec, trail-rec-bytes, Where, before, here, end, started, internal-rec, entered-rec, passed-rec, leaving}
+use Rattle.runs.specs.Summary.Trails.{Rec, before, started, internal-rec, entered-rec, passed-rec, leaving}
 use Rattle.runs.specs.Summary.Trails.Laws.{Leaves, steps-on, goes-in, goes-by, leaving-before}
 use Rattle.runs.specs.Searching.{Sooner, edge-at, edges-from, internal-at, entry-recs, calls-from, entered-at, ends-in, passed-recs, passed-at, internals, entereds, passeds, outgoing, starts-of}
 

@@ -2,27 +2,25 @@
 use mathlib.Core.Path.{_≡_, refl, sym, ap, ap₂, subst, _∙_}
 use mathlib.Core.Logic.{_⊎_, inl, inr}
 use mathlib.Core.Bool.{Bool, true, false, not, cond}
-use mathlib.Core.List.{List, [], _∷_, _++_, List·Memᴰ, List·Memᴰ·head, List·Memᴰ·tail, List·Memᴰ·cases-cons}
-use Prim.Native.Nat.{ℕ, zero, suc, _+_, _*_, _/_, _%_, _≤_, _<_}
+use mathlib.Core.List.{List, _∷_, List·Memᴰ, List·Memᴰ·head, List·Memᴰ·tail, List·Memᴰ·cases-cons}
+use Prim.Native.Nat.{ℕ, suc, _+_, _*_, _/_, _≤_, _<_}
 use native.Mathlib.Nat.{add-zero, eq-or-lt-of-le, le-of-suc-le-suc}
-use native.Mathlib.Decide.{ℕ-discrete, decLt}
+use native.Mathlib.Decide.{ℕ-discrete}
 use native.Mathlib.Numerals.{add-one}
 use native.Mathlib.Omega.{arith}
-use lib.Dec.{T, T-not, not-T, eqb, eqb→eq}
+use lib.Dec.{T, T-not, eqb}
 use lib.ListN.{length, getD}
 use borrow.Author.Tests.{ne-eqb}
 use Rattle.files.specs.Basics.Lexical.{Before, before-irrefl, before-trans}
-use Rattle.files.specs.Basics.Order.{Ascends}
-use Rattle.files.specs.Basics.Tables.{tally, tally-le}
-use Rattle.files.specs.Basics.Tests.{decide, eq-eqb, T-eq}
+use Rattle.files.specs.Basics.Tables.{tally-le}
+use Rattle.files.specs.Basics.Tests.{eq-eqb, T-eq}
 use Rattle.files.specs.Cells.{cell, put-cell, has-bit, put-bit, put-at}
-use Rattle.files.specs.Cells.Laws.{length-put-cell, byte-outside, cell-same, cell-apart, cell-other, cell-agree, length-put-bit, bit-same, bit-other, bit-outside, bit-byte, length-put-at, at-inside, at-outside}
+use Rattle.files.specs.Cells.Laws.{length-put-cell, byte-outside, cell-same, cell-other, cell-agree, length-put-bit, bit-same, bit-other, bit-outside, bit-byte, length-put-at, at-inside, at-outside}
 use Rattle.files.specs.Graph.{Graph, size}
 use Rattle.files.specs.Rules.{Monitor}
 use Rattle.judging.specs.Ranking.Stores.{tally-one, tally-room}
 use Rattle.runs.specs.Forward.{Searched, Met, fewer-due, found-more}
 use Rattle.runs.specs.Prepared.Files.{tables-kept}
-use Rattle.runs.specs.Runs.{EntryOf}
 use Rattle.runs.specs.Summary.{Place}
 use Rattle.runs.specs.Summary.Trails.{Rec, trail-rec-bytes, Where, before, here, end, leaving}
 use Rattle.runs.specs.Searching.{item, parent, item-end, seen, entered, places-seen, with-item, pushed, pushed-tail, Sooner, Searching, Leaving}

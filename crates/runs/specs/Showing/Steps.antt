@@ -1,11 +1,10 @@
 -- Showing as the code comes to it: where a number stands, through each check.
-use mathlib.Core.Path.{_≡_, refl, sym, ap, ap₂, subst, _∙_}
-use mathlib.Core.Bool.{Bool, true, false, cond}
+use mathlib.Core.Path.{_≡_, sym, ap, subst, _∙_}
+use mathlib.Core.Bool.{Bool, cond}
 use mathlib.Core.List.{List, []}
-use mathlib.Core.Option.{none}
-use Prim.Native.Nat.{ℕ, _+_, _*_, _-_, _/_, _≤_, _<_}
+use Prim.Native.Nat.{ℕ, _+_, _*_, _-_, _≤_, _<_}
 use native.Mathlib.Omega.{arith}
-use lib.Dec.{leb, ltb}
+use lib.Dec.{leb}
 use lib.ListN.{length, take, drop}
 use borrow.Author.Tests.{lt-ltb, le-ltb, le-leb, lt-leb}
 use Rattle.files.specs.Checking.{checked}
@@ -16,12 +15,12 @@ use Rattle.files.specs.Graph.{size}
 use Rattle.files.specs.Outcome.{Said, Outcome, says, refuses, refusal-at, Check, whole-check, file-checks, answered, answer, refused-answer, verdict-answer, written-of}
 use Rattle.files.specs.Outcome.Steps.{file-refuses, file-passes, whole-refuses, whole-passes}
 use Rattle.files.specs.Record.{count, part}
-use Rattle.files.specs.Refusal.{graph, nodes-of, refusal}
+use Rattle.files.specs.Refusal.{graph, nodes-of}
 use Rattle.files.specs.declared.check.Checked.{Checked}
 use Rattle.files.specs.declared.check.Checked.the-variants.{Accepted, Refused}
 use Rattle.files.specs.declared.record.Limits.{Limits}
 use Rattle.files.specs.declared.refusal.Refusal.{Refusal}
-use Rattle.runs.specs.Showing.{show-size, show-part, show-said, shown, from-second, Stands}
+use Rattle.runs.specs.Showing.{show-size, show-said, shown, from-second, Stands}
 use Rattle.judging.specs.Judge.{GraphWithin}
 use Rattle.runs.specs.declared.showing.Place.{Place}
 use Rattle.runs.specs.declared.showing.Place.the-variants as place

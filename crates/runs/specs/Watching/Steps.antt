@@ -1,13 +1,13 @@
 -- Watching as the code comes to it: the work buffer's length, the files, the start method's 3, 9 and 10; then a clean verdict, a trail that does not fit, and one that is
 -- written.
 use mathlib.Core.Path.{_≡_, refl, sym, ap, ap₂, subst, _∙_}
-use mathlib.Core.Bool.{Bool, true, false, not, _&&_}
+use mathlib.Core.Bool.{Bool, true, false, not}
 use mathlib.Core.List.{List, [], _∷_, _++_}
 use mathlib.Core.Option.{Option, none, some}
-use Prim.Native.Nat.{ℕ, suc, _+_, _-_, _*_, _≤_, _<_}
+use Prim.Native.Nat.{ℕ, _+_, _-_, _*_, _≤_, _<_}
 use native.Mathlib.Omega.{arith}
 use lib.Dec.{T, ltb}
-use lib.ListN.{length, drop, replicate, length-map}
+use lib.ListN.{length, drop, replicate}
 use borrow.Author.Tests.{lt-ltb, le-ltb, ne-eqb}
 use Rattle.files.specs.Access.{AcceptedAs}
 use Rattle.files.specs.Basics.First.{whole}
@@ -34,9 +34,9 @@ use Rattle.files.specs.declared.refusal.Refusal.{Refusal}
 use Rattle.judging.specs.Judge.{GraphWithin, Strides}
 use Rattle.runs.specs.Prepared.{Ready, watch-room}
 use Rattle.runs.specs.Summary.{clean}
-use Rattle.runs.specs.Summary.Trails.{Rec, trail, trail-rec-bytes, trail-bytes}
+use Rattle.runs.specs.Summary.Trails.{trail, trail-rec-bytes, trail-bytes}
 use Rattle.runs.specs.Summary.Trails.Laws.{trail-bytes-is}
-use Rattle.runs.specs.Watching.{watch-said, watch-verdict, from-verdict, from-sides, from-start, from-rules, from-graph, from-interface, watched}
+use Rattle.runs.specs.Watching.{watch-verdict, from-verdict, from-sides, from-start, from-rules, from-graph, from-interface, watched}
 use Rattle.runs.specs.Watching.Laws.{clean-said, bad-said}
 use Rattle.runs.specs.declared.regions.Regions.{Regions}
 

@@ -1,15 +1,13 @@
 -- The worklist as the code runs it: the edges of a node and the calls of a method one by one, a point taken, and the start in a buffer of zeros.
-use mathlib.Core.Path.{_≡_, refl, sym, ap, subst, _∙_}
+use mathlib.Core.Path.{_≡_, sym, ap, subst, _∙_}
 use mathlib.Core.Logic.{_⊎_, inl, inr, _↔_}
 use mathlib.Core.Bool.{Bool, true, false, not, cond}
 use mathlib.Core.List.{List, [], List·Memᴰ}
-use Prim.Native.Nat.{ℕ, zero, suc, _+_, _*_, _≤_, _<_}
+use Prim.Native.Nat.{ℕ, suc, _+_, _*_, _≤_, _<_}
 use native.Mathlib.Omega.{arith}
-use lib.Bits.{bitOr}
 use lib.Dec.{T, eqb}
 use lib.ListN.{length, getD}
 use Rattle.files.specs.Access.{first-edge}
-use Rattle.files.specs.Access.Laws.{leaves-in}
 use Rattle.files.specs.Basics.Lists.{index-i}
 use Rattle.files.specs.Basics.Tests.{eq-eqb}
 use Rattle.files.specs.Cells.Laws.{cell-one}
@@ -20,7 +18,7 @@ use Rattle.maximal.specs.Masks.Laws.{member-none}
 use Rattle.runs.specs.Prepared.{labelled, Tables}
 use Rattle.runs.specs.Runs.{meth}
 use Rattle.runs.specs.Summary.{Yields}
-use Rattle.runs.specs.Worklist.{passed, point, reach, waits, sums, queue, reached, after-edge, Holding, Grew, Covered, Summed, SpreadBut, Spread, PointDue, EdgesRun, CallsRun, EntriesIn, SummariesIn, TableOf}
+use Rattle.runs.specs.Worklist.{passed, point, reach, waits, sums, queue, reached, Holding, Grew, Covered, Spread, EdgesRun, CallsRun, EntriesIn, SummariesIn, TableOf}
 use Rattle.runs.specs.Worklist.Steps.{covered-kept, summed-kept, summed-i, small-event}
 use Rattle.runs.specs.Worklist.Unions.{passed-e}
 

@@ -1,18 +1,18 @@
 -- The steps of the worklist: what running an edge adds happens and covers the edge; a point is taken from the queue; a summary grows; and where nothing waits the
 -- summaries are found.
 use mathlib.Core.Path.{_≡_, refl, sym, ap, ap₂, subst, _∙_}
-use mathlib.Core.Logic.{_⊎_, inl, inr, _↔_}
-use mathlib.Core.Bool.{Bool, true, false, not, cond, _&&_, _||_}
+use mathlib.Core.Logic.{_⊎_, inl, inr}
+use mathlib.Core.Bool.{Bool, true, false, not, cond}
 use mathlib.Core.List.{List, List·Memᴰ}
 use Prim.Native.Nat.{ℕ, zero, suc, _+_, _*_, _/_, _%_, _≤_, _<_}
 use native.Mathlib.Nat.{eq-or-lt-of-le, le-trans}
-use native.Mathlib.Decide.{ℕ-discrete, decLt}
+use native.Mathlib.Decide.{ℕ-discrete}
 use native.Mathlib.Omega.{arith}
 use lib.Bits.{bitOr}
 use lib.Dec.{T, T-not, eqb, eqb→eq}
-use lib.ListN.{length, getD}
+use lib.ListN.{length}
 use borrow.Author.Tests.{ne-eqb}
-use Rattle.files.specs.Basics.Tests.{eq-eqb, or-l, or-r, or-e}
+use Rattle.files.specs.Basics.Tests.{or-l, or-r, or-e}
 use Rattle.files.specs.Basics.Tables.{tally-le, tally-same}
 use Rattle.files.specs.Cells.{cell, put-cell}
 use Rattle.files.specs.Cells.Laws.{length-put-cell, byte-outside, cell-same, cell-apart, cell-other, cell-agree}
@@ -21,10 +21,10 @@ use Rattle.files.specs.Rules.{Monitor, Event, calls, returns-to}
 use Rattle.maximal.specs.Masks.{member}
 use Rattle.maximal.specs.Masks.Laws.{member-or}
 use Rattle.runs.specs.Prepared.Files.{tables-kept}
-use Rattle.runs.specs.Runs.{meth, EntryOf, Runs}
+use Rattle.runs.specs.Runs.{meth, Runs}
 use Rattle.runs.specs.Summary.{Inside, enter, inner, over, Yields}
 use Rattle.runs.specs.Summary.Spots.{inside-now}
-use Rattle.runs.specs.Worklist.{passed, point, reach, waits, sums, queue, reached, after-edge, Queued, Holding, Grew, Covered, Summed, SpreadBut, Spread, EdgesRun, CallsRun, SummariesIn}
+use Rattle.runs.specs.Worklist.{passed, point, reach, waits, sums, queue, reached, after-edge, Queued, Holding, Grew, Covered, Summed, SpreadBut, Spread, SummariesIn}
 use Rattle.runs.specs.Worklist.Unions.{passed-e, passed-i}
 
 module _ (G : Graph) (mon : Monitor) (flow : Flow G) (labels-small : (e : Edge) → List·Memᴰ e (G .edges) → e .label < 9)

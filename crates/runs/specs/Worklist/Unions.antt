@@ -2,17 +2,17 @@
 use mathlib.Core.Path.{_≡_, refl, sym, ap, subst, _∙_}
 use mathlib.Core.Logic.{_⊎_, inl, inr}
 use mathlib.Core.Bool.{Bool, true, false, or-false, _&&_, _||_}
-use Prim.Native.Nat.{ℕ, zero, suc, _+_, _^_, _≤_, _<_}
+use Prim.Native.Nat.{ℕ, suc, _+_, _^_, _≤_, _<_}
 use native.Mathlib.Nat.{zero-add}
 use native.Mathlib.Decide.{decLt}
 use native.Mathlib.Omega.{arith}
 use lib.Bits.{bitOr, or-lt}
-use lib.Dec.{T, eqb, eqb→eq}
+use lib.Dec.{T, eqb→eq}
 use Rattle.files.specs.Basics.Lists.{span, span-i, span-e}
 use Rattle.files.specs.Basics.Tests.{any, any-i, any-e, and-i, and-e, eq-eqb, same-test, or-e, or-l, or-r}
 use Rattle.files.specs.Rules.{Monitor, calls, returns-to}
 use Rattle.maximal.specs.Masks.{member, mask}
-use Rattle.maximal.specs.Masks.Laws.{member-or, member-one, member-none, member-mask, mask-is, mask-lt}
+use Rattle.maximal.specs.Masks.Laws.{member-or, member-one, member-mask, mask-is, mask-lt}
 use Rattle.runs.specs.Worklist.{union, passed}
 
 -- state s is in f q for some q of x below n
@@ -78,10 +78,6 @@ module _ (f : ℕ → ℕ) (x n y : ℕ) (so-far : y ≡ union-to f x n) where
       (λ s l. before-it s l ∙ sym (at-state s ∙ ap (λ (b : Bool). within-to f x n s || (b && member (f n) s)) t ∙ or-false (within-to f x n s)))
 
 -- ---- what is in a union
-
-pub union-lt : (f : ℕ → ℕ) (x : ℕ) → union f x < 256
-unfolding union
-union-lt f x = mask-lt (within-to f x 8) 8
 
 module _ (f : ℕ → ℕ) (x s : ℕ) (small : s < 8) where
   pub union-e : T (member (union f x) s) → (q : ℕ) × (q < 8) × T (member x q) × T (member (f q) s)
