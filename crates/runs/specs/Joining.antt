@@ -7,7 +7,8 @@ use lib.ListN.{length, getD}
 use Rattle.files.specs.Decode.{decode-graph, decode-interface, edge-rec}
 use Rattle.files.specs.Graph.{Graph, size, no-edge}
 use Rattle.files.specs.Interface.{Interface, Of, united}
-use Rattle.files.specs.Outcome.{Said, Outcome, Answer, refused-answer, Check, whole-check, scan-check, file-checks, out-check, answered, Lines, line, whole-line, file-lines, out-line, too-large, TooLarge, graph-said, verdict-answer}
+use Rattle.files.specs.Outcome.{Said, Outcome, Answer, refused-answer, Check, whole-check, scan-check, file-checks, out-check, answered, Lines, line, whole-line, file-lines, out-line, too-large}
+use Rattle.files.specs.Outcome.{TooLarge, graph-said, verdict-answer}
 use Rattle.files.specs.Record.{six}
 use Rattle.files.specs.Refusal.{graph, interface, refusal}
 use Rattle.files.specs.Sides.{first-foreign, ForeignAt, shares, Shares}

@@ -43,7 +43,8 @@ sooner-in (x ∷ rs) more r t a k n = go (List·Memᴰ·cases-cons k) (λ j. soo
 
 module _ (G : Graph) (mon : Monitor) (m : ℕ) (few-nodes : size G ≤ 256) (few-edges : length (G .edges) ≤ 4096) where
   -- records to places that are met
-  pub looked-seen : (head tail : ℕ) (rs : List Rec) (w : List ℕ) → head < tail → ((r : Rec) → List·Memᴰ r rs → Leaving G mon m head w r × T (seen w (r .to) (r .now))) → Looked G mon m head rs tail tail w w
+  pub looked-seen : (head tail : ℕ) (rs : List Rec) (w : List ℕ) → head < tail → ((r : Rec) → List·Memᴰ r rs → Leaving G mon m head w r × T (seen w (r .to) (r .now)))
+      → Looked G mon m head rs tail tail w w
   looked-seen head tail rs w h f = record {
     ascends-on = λ more a. ascends-rest rs more a;
     searching-on = λ more a s. all rs more a f s;

@@ -24,7 +24,8 @@ module _ (G : Graph) (mon : Monitor) (m : ℕ) where
   looked-start head rs tail w = record { ascends-on = λ more a. a; searching-on = λ more a s. s; ends-kept = λ i l. refl; longer = omega arith }
 
   -- one list more
-  pub looked-join : (head : ℕ) (rs fs rest : List Rec) (a b c : ℕ) (u v w : List ℕ) → LookedTo G mon m head rs (fs ++ rest) a b u v → LookedTo G mon m head fs [] b c v w → LookedTo G mon m head rs rest a c u w
+  pub looked-join : (head : ℕ) (rs fs rest : List Rec) (a b c : ℕ) (u v w : List ℕ) → LookedTo G mon m head rs (fs ++ rest) a b u v → LookedTo G mon m head fs [] b c v w
+      → LookedTo G mon m head rs rest a c u w
   looked-join head rs fs rest a b c u v w x y = record {
     ascends-on = λ more p. ascends-rest fs (rest ++ more) (subst (Ascends Sooner) (append-assoc fs rest more) (x .ascends-on more p));
     searching-on = λ more p s.

@@ -2,7 +2,8 @@
 use mathlib.Core.Path.{_≡_, refl, sym, ap, ap₂, subst, _∙_}
 use mathlib.Core.Logic.{_⊎_, inl, inr}
 use mathlib.Core.Bool.{Bool, true, false, not, cond}
-use mathlib.Core.List.{List, [], _∷_, _++_, map, List·Memᴰ, List·Memᴰ·head, List·Memᴰ·tail, List·Memᴰ·not-nil, List·Memᴰ·append-cases, List·Memᴰ·eq-of-singleton, Memᴰ·append-left, Memᴰ·append-right, Memᴰ·map, Memᴰ·of-map, map-append}
+use mathlib.Core.List.{List, [], _∷_, _++_, map, List·Memᴰ, List·Memᴰ·head, List·Memᴰ·tail, List·Memᴰ·not-nil, List·Memᴰ·append-cases, List·Memᴰ·eq-of-singleton, Memᴰ·append-left}
+use mathlib.Core.List.{Memᴰ·append-right, Memᴰ·map, Memᴰ·of-map, map-append}
 use Prim.Native.Nat.{ℕ, zero, suc, _+_, _-_, _≤_, _<_}
 use native.Mathlib.Omega.{arith}
 use lib.Dec.{T, eqb, eqb→eq}
@@ -54,7 +55,8 @@ module _ (G : Graph) (mon : Monitor) (m : ℕ) where
     abbrev entry-rec : ℕ → ℕ → Rec
     entry-rec l n = record { at = x .at; state = x .now; step = 2; label = l; to = n; now = mon (x .now) (calls (meth G (x .at)) l) }
 
-    entered-e : (l : ℕ) (t : Rec) → List·Memᴰ t (entered-at G mon x l) → T (calls-from G mon (x .at) (first-edge G (x .at)) l) × ((n : ℕ) × (n < size G) × T (is-entry-of G mon l n) × (t ≡ entry-rec l n))
+    entered-e : (l : ℕ) (t : Rec) → List·Memᴰ t (entered-at G mon x l)
+        → T (calls-from G mon (x .at) (first-edge G (x .at)) l) × ((n : ℕ) × (n < size G) × T (is-entry-of G mon l n) × (t ≡ entry-rec l n))
     entered-e l t k = go (calls-from G mon (x .at) (first-edge G (x .at)) l) k
       where
         go : (b : Bool) → List·Memᴰ t (cond b (entry-recs G mon x l (span 0 (size G))) []) → T b × ((n : ℕ) × (n < size G) × T (is-entry-of G mon l n) × (t ≡ entry-rec l n))
@@ -94,7 +96,8 @@ module _ (G : Graph) (mon : Monitor) (m : ℕ) where
       abbrev Own : ℕ → Type 0
       Own j = (j < length (G .edges)) × ((edge-at G mon j) .from ≡ x .at)
 
-      later : (i j : ℕ) → i < j → Own i → Own j → ((edge-at G mon i) .label < (edge-at G mon j) .label) ⊎ (((edge-at G mon i) .label ≡ (edge-at G mon j) .label) × ((edge-at G mon i) .to < (edge-at G mon j) .to))
+      later : (i j : ℕ) → i < j → Own i → Own j
+          → ((edge-at G mon i) .label < (edge-at G mon j) .label) ⊎ (((edge-at G mon i) .label ≡ (edge-at G mon j) .label) × ((edge-at G mon i) .to < (edge-at G mon j) .to))
       later i j h a b = go (ordered i j h (b .0))
         where
           go : Before (key (edge-at G mon i)) (key (edge-at G mon j))
@@ -200,7 +203,8 @@ module _ (G : Graph) (mon : Monitor) (m : ℕ) where
           let b = internal-e (a .0) r (a .2) in
           subst (λ (u : Rec). Sooner u t) (sym (b .1)) (later-step t (List·Memᴰ·append-cases (entereds G mon x 1) o)))
         where
-          later-step : (t : Rec) → List·Memᴰ t (entereds G mon x 1) ⊎ List·Memᴰ t (passeds G mon x (first-edge G (x .at))) → {k : ℕ} → Sooner (record { at = x .at; state = x .now; step = 1; label = 0; to = k; now = x .now }) t
+          later-step : (t : Rec) → List·Memᴰ t (entereds G mon x 1) ⊎ List·Memᴰ t (passeds G mon x (first-edge G (x .at))) → {k : ℕ}
+              → Sooner (record { at = x .at; state = x .now; step = 1; label = 0; to = k; now = x .now }) t
           later-step t (inl n) =
               let a = each-e (entered-at G mon x) (span 1 (9 - 1)) t n in
               let c = entered-e (a .0) t (a .2) .1 in

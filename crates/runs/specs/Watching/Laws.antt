@@ -14,7 +14,8 @@ use Rattle.files.specs.Decode.Graphs.{decoded-filed}
 use Rattle.files.specs.Decode.RuleFiles.{decoded-rules}
 use Rattle.files.specs.Graph.{Graph, Edge, Flow}
 use Rattle.files.specs.Outcome.{Said, refuses, says, refusal-at, NoneOf, FirstOf, Matches, NoStart}
-use Rattle.files.specs.Outcome.Laws.{whole-match, scan-match, files-match, out-match, refused-by, accepted-by, verdict-is, file-accepted, whole-none, says-no-start, whole-none-i, file-none, none-i, none-end}
+use Rattle.files.specs.Outcome.Laws.{whole-match, scan-match, files-match, out-match, refused-by, accepted-by, verdict-is, file-accepted, whole-none, says-no-start, whole-none-i, file-none}
+use Rattle.files.specs.Outcome.Laws.{none-i, none-end}
 use Rattle.files.specs.Refusal.{graph, rules, interface, refusal}
 use Rattle.files.specs.Rules.{Rule, Event, Monitor, watch}
 use Rattle.files.specs.Rules.Laws.{watch-small}

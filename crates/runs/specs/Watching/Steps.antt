@@ -20,8 +20,10 @@ use Rattle.files.specs.Decode.Graphs.{few, decoded-filed, decoded-size, decoded
 use Rattle.files.specs.Limits.{desk}
 use Rattle.files.specs.Graph.{Graph}
 use Rattle.files.specs.Interface.{Interface}
-use Rattle.files.specs.Outcome.{Said, Outcome, refuses, says, Answer, Answers, Does, answer, out-after, refused-answer, verdict-answer, Check, whole-check, scan-check, first-refusal, answered, refusal-at, no-start, short, out-check}
-use Rattle.files.specs.Outcome.Steps.{whole-refuses, whole-passes, scan-refuses, scan-passes, answers-refused, answers-same, answers-file-refused, answers-file-passed, out-passes, out-refuses, Low, file-low, out-low, does-left, does-cleared}
+use Rattle.files.specs.Outcome.{Said, Outcome, refuses, says, Answer, Answers, Does, answer, out-after, refused-answer, verdict-answer, Check, whole-check, scan-check, first-refusal, answered}
+use Rattle.files.specs.Outcome.{refusal-at, no-start, short, out-check}
+use Rattle.files.specs.Outcome.Steps.{whole-refuses, whole-passes, scan-refuses, scan-passes, answers-refused, answers-same, answers-file-refused, answers-file-passed, out-passes, out-refuses}
+use Rattle.files.specs.Outcome.Steps.{Low, file-low, out-low, does-left, does-cleared}
 use Rattle.files.specs.Record.{count}
 use Rattle.files.specs.Refusal.{graph, rules, interface, nodes-of}
 use Rattle.files.specs.Rules.{Monitor, watch}

@@ -256,7 +256,8 @@ module _ (G : Graph) (mon : Monitor) (flow : Flow G) (labels-small : (e : Edge) 
   -- ---- a summary grows
 
   -- by the states at return node g, at a point of which nothing but its summary is due
-  module _ (few-nodes : size G ≤ 256) (few-edges : length (G .edges) ≤ 4096) (methods-small : (g : ℕ) → g < size G → meth G g < 9) (head tail : ℕ) (w : List ℕ) (g p : ℕ) (hg : g < size G) (hp : p < 8) (returns : T ((node G g) .ret))
+  module _ (few-nodes : size G ≤ 256) (few-edges : length (G .edges) ≤ 4096) (methods-small : (g : ℕ) → g < size G → meth G g < 9) (head tail : ℕ) (w : List ℕ) (g p : ℕ) (hg : g < size G)
+      (hp : p < 8) (returns : T ((node G g) .ret))
       (s : SpreadBut G mon (λ e r. (e .from ≡ g) × (r ≡ p)) (λ h r. (h ≡ g) × (r ≡ p)) head tail w) where
     abbrev m : ℕ
     m = meth G g
