@@ -54,7 +54,13 @@ struct tintboulder_answer tintboulder_join(const uint8_t *interface1, size_t int
 struct tintboulder_answer tintboulder_show(const uint8_t *graph1, size_t graph1_length, const uint8_t *graph2, size_t graph2_length, uint64_t number,
                                            uint8_t *out, size_t out_length);
 
-/* The least length of the work buffer of a call: 1 judge, 2 compare, 3 model; 0 for other numbers. */
+/* Does some run from the start method, over calls stacked to any depth, take the monitor of the rules from state 0 to state 7? Verdict 1: clean. Verdict 2: bad; first
+   is the number of records of the trail, which is written to out, 6 bytes each. A start that is not 1 to 8 is refused by 3 with file 0 and record 0.
+   work is as above, of at least tintboulder_work(6) bytes. */
+struct tintboulder_answer tintboulder_watch(const uint8_t *interface, size_t interface_length, const uint8_t *graph, size_t graph_length, const uint8_t *rules,
+                                            size_t rules_length, uint8_t start, uint8_t *out, size_t out_length, uint8_t *work, size_t work_length);
+
+/* The least length of the work buffer of a call: 1 judge, 2 compare, 3 model, 6 watch; 0 for other numbers. */
 uint64_t tintboulder_work(uint64_t call);
 
 #ifdef __cplusplus

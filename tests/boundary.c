@@ -1,5 +1,5 @@
-/* The header against the static library: one accepted and one refused file of each kind; judging, comparing, modelling, joining and showing, with the buffers
-   they are lent. Exits with the number of answers that are wrong. */
+/* The header against the static library: one accepted and one refused file of each kind; judging, comparing, modelling, joining, showing and watching, with
+   the buffers they are lent. Exits with the number of answers that are wrong. */
 #include "../include/tintboulder.h"
 
 #include <string.h>
@@ -136,6 +136,32 @@ static int wrong_showing(void)
     return wrong;
 }
 
+/* Watching with so much output and work of the example P11, from this start method: the answer's numbers, the trail or no change in out, and zeros or no change in
+   work. */
+static int watches(uint8_t start, size_t out_length, size_t work_length, uint32_t verdict, uint32_t number)
+{
+    static const uint8_t interface[] = {5, 1, 1, 0, 0, 0};
+    static const uint8_t graph[] = {1, 1, 0, 1, 0, 0, 1, 1, 1, 0, 0, 0, 1, 1, 1, 1, 0, 0, 2, 0, 1, 1, 0, 0};
+    static const uint8_t rules[] = {4, 0, 2, 1, 1, 7};
+    static const uint8_t trail[] = {0, 0, 0, 0, 0, 0, 0, 0, 3, 1, 1, 7};
+    static const uint64_t records[4] = {sizeof trail / 6, 0, 0, 0};
+    static uint8_t out[MOST_OUT], work[MOST_WORK];
+    struct tintboulder_answer a;
+    memset(out, 7, MOST_OUT);
+    memset(work, 7, MOST_WORK);
+    a = tintboulder_watch(interface, sizeof interface, graph, sizeof graph, rules, sizeof rules, start, out, out_length, work, work_length);
+    return gives(a, verdict, number, verdict == 0 ? no_values : records, out, trail, verdict == 0 ? 0 : sizeof trail)
+        && filled(work, work_length, number == 13 ? 7 : 0) && filled(work + work_length, MOST_WORK - work_length, 7);
+}
+
+/* Bad with its two records, and the refusals by 3 and 10, for the start method, and by 12 and 13. */
+static int wrong_watching(void)
+{
+    size_t room = 46949;
+    return !watches(1, 14, room, 2, 0) + !watches(9, 14, room, 0, 3) + !watches(2, 14, room, 0, 10) + !watches(1, 11, room, 0, 12)
+        + !watches(1, 12, room - 1, 0, 13) + (tintboulder_work(6) != room);
+}
+
 int main(void)
 {
     static const uint8_t graph[] = {1, 1, 0, 1, 0, 0, 2, 0, 0, 0, 0, 0};
@@ -156,6 +182,7 @@ int main(void)
     wrong += wrong_modelling();
     wrong += wrong_joining();
     wrong += wrong_showing();
+    wrong += wrong_watching();
     wrong += tintboulder_work(0) != 0;
     return wrong;
 }

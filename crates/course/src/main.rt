@@ -1,7 +1,7 @@
 // Runs the examples of data/ through the proved code, one after the other as the arguments name them. The first letter of a name tells what its file is: a graph,
 // property, rule or interface file is checked, and its line has `accepted`, nodes and records, or `refused`, number, file and record; `judge`, `compare` and
-// `model` name a call on two files, `join` (by its second letter) one on two sides and `show` one on two graphs and a number, and the verdict's line is
-// followed by the records or the relation's lines that it wrote.
+// `model` name a call on two files, `join` (by its second letter) one on two sides, `show` one on two graphs and a number and `watch` one on three files and a
+// start method, and the verdict's line is followed by the records or the relation's lines that it wrote.
 ghost use mathlib.Core.Path.{_≡_};
 ghost use Prim.Native.Nat.{_+_, _*_, _≤_, _<_};
 ghost use lib.ListN.{length};
@@ -20,6 +20,8 @@ use maximal::answers::Modelled;
 use maximal::places::Places;
 use runs::answers::Joined;
 use runs::answers::Shown;
+use runs::answers::Verdict;
+use runs::regions::Regions;
 
 // Room for the longest example: 257 nodes or 4,097 edges with their nodes.
 const LONGEST: usize = 60000;
@@ -204,6 +206,9 @@ fn work_length(letter: u8, flag: u8) -> usize
     if letter == b'm' {
         return Places::ROOM;
     }
+    if letter == b'w' {
+        return Regions::ROOM;
+    }
     Sizes::ROOM
 }
 
@@ -345,6 +350,72 @@ fn show_node(example: &[u8]) {
     }
 }
 
+fn say_watched(answer: Verdict, out: &[u8]) {
+    match answer {
+        Verdict::Clean => say(b": clean\n"),
+        Verdict::Bad(n) => {
+            say(b": bad");
+            say_number(n as u64);
+            say(b"\n");
+            say_records(out, n);
+        }
+        Verdict::Refused(r) => {
+            say_refused(r);
+            say(b"\n");
+        }
+    }
+}
+
+fn watch_on(
+    interface: &[u8],
+    graph: &[u8],
+    rules: &[u8],
+    start: u8,
+    out: &mut [u8],
+    work: &mut [u8],
+    room: usize,
+    lent: usize,
+)
+    requires { ⌜ (room ≤ length (now out)) × (lent ≤ length (now work)) ⌝ }
+{
+    let answer = runs::watch(
+        interface,
+        graph,
+        rules,
+        start,
+        &mut out[..room],
+        &mut work[..lent],
+    );
+    say_watched(answer, &out[..room]);
+}
+
+// Watching. The example starts with the lengths of the first two files and of the output, two bytes each, low byte first, then 1 for a work buffer of the published
+// length or 0 for none, and the start method; the three files follow.
+fn watch_runs(example: &[u8]) {
+    if example.len() < 8 {
+        return;
+    }
+    let first = 8 + two_bytes(example[0], example[1]);
+    let second = first + two_bytes(example[2], example[3]);
+    let room = two_bytes(example[4], example[5]);
+    let lent = work_length(b'w', example[6]);
+    if example.len() < second {
+        return;
+    }
+    let mut out = [0u8; 65536];
+    let mut work = work_buffer();
+    watch_on(
+        &example[8..first],
+        &example[first..second],
+        &example[second..],
+        example[7],
+        &mut out,
+        &mut work,
+        room,
+        lent,
+    );
+}
+
 // The example that argument i names.
 fn one(i: usize) {
     let mut name = io::buffer();
@@ -364,6 +435,10 @@ fn one(i: usize) {
     }
     if name[0] == b's' {
         show_node(&file[..n]);
+        return;
+    }
+    if name[0] == b'w' {
+        watch_runs(&file[..n]);
         return;
     }
     if (name[0] == b'j') | (name[0] == b'c') | (name[0] == b'm') {

@@ -13,6 +13,7 @@ use Rattle.files.specs.Outcome as outcome
 use Rattle.judging.specs.Compare.{compare-room}
 use Rattle.judging.specs.Judge.{judge-room}
 use Rattle.maximal.specs.Modelling.{model-room}
+use Rattle.runs.specs.Prepared.{watch-room}
 use Rattle.exports.specs.declared.Answer.{Answer}
 
 -- verdict 0: the refusal's number, then file and record
@@ -51,4 +52,4 @@ fitting out (says s) = cond (ltb out (length (s .written))) (refuses (refusal-at
 
 -- the published length of a call's work buffer, by the call's number
 abbrev pub work-lengths : ℕ → ℕ
-work-lengths call = cond (eqb call 1) judge-room (cond (eqb call 2) compare-room (cond (eqb call 3) model-room 0))
+work-lengths call = cond (eqb call 1) judge-room (cond (eqb call 2) compare-room (cond (eqb call 3) model-room (cond (eqb call 6) watch-room 0)))

@@ -9,6 +9,8 @@ ghost use Rattle.judging.specs.Compare.{compared, compared-answer};
 ghost use Rattle.maximal.specs.Modelling.{modelled, modelled-answer};
 ghost use Rattle.runs.specs.Joining.{joined, joined-answer};
 ghost use Rattle.runs.specs.Showing.{shown};
+ghost use Rattle.runs.specs.Answer.{watched-answer};
+ghost use Rattle.runs.specs.Watching.{watched};
 ghost use Rattle.exports.specs.Boundary.{refused-numbers, verdict-numbers, checked-numbers, answer-numbers, Gives, GivesOut, fitting, work-lengths};
 use files::cells::copy_at;
 use files::check::Checked;
@@ -23,6 +25,8 @@ use maximal::answers::Modelled;
 use maximal::places::Places;
 use runs::answers::Joined;
 use runs::answers::Shown;
+use runs::answers::Verdict;
+use runs::regions::Regions;
 
 // Verdict 0 is a refusal: its number, file (first) and record (second). Other verdicts carry their values from first on.
 #[repr(C)]
@@ -263,7 +267,46 @@ pub extern "C" fn tintboulder_show<'a>(
     }
 }
 
-// The published length of a call's work buffer: 1 is judge, 2 compare, 3 model; 0 for other numbers.
+fn watched_answer(v: Verdict) -> Answer
+    ensures { λ a. ⌜ a ≡ answer-numbers (watched-answer v) ⌝ }
+{
+    match v {
+        Verdict::Clean => Answer {
+            verdict: 1,
+            number: 0,
+            first: 0,
+            second: 0,
+            third: 0,
+            fourth: 0,
+        },
+        Verdict::Bad(records) => Answer {
+            verdict: 2,
+            number: 0,
+            first: records as u64,
+            second: 0,
+            third: 0,
+            fourth: 0,
+        },
+        Verdict::Refused(r) => refused(r),
+    }
+}
+
+// Watches the runs of a graph from a start method: verdict 1 clean, 2 bad, with the number of records of the trail, which is written to `out`.
+#[no_mangle]
+pub extern "C" fn tintboulder_watch(
+    interface: &[u8],
+    graph: &[u8],
+    rules: &[u8],
+    start: u8,
+    out: &mut [u8],
+    work: &mut [u8],
+) -> Answer
+    ensures { λ a. ⌜ Gives (watched desk (now (interface .entry)) (now (graph .entry)) (now (rules .entry)) start (length (now (out .entry))) (length (now (work .entry)))) (now (out .entry)) (now (work .entry)) (now (out .exit)) (now (work .exit)) a ⌝ }
+{
+    watched_answer(runs::watch(interface, graph, rules, start, out, work))
+}
+
+// The published length of a call's work buffer: 1 is judge, 2 compare, 3 model, 6 watch; 0 for other numbers.
 #[no_mangle]
 pub extern "C" fn tintboulder_work(call: u64) -> u64
     ensures { λ n. ⌜ n ≡ work-lengths call ⌝ }
@@ -276,6 +319,9 @@ pub extern "C" fn tintboulder_work(call: u64) -> u64
     }
     if call == 3 {
         return Places::ROOM as u64;
+    }
+    if call == 6 {
+        return Regions::ROOM as u64;
     }
     0
 }

@@ -7,6 +7,7 @@ mod model;
 mod show;
 mod side_by_side;
 mod simulation;
+mod watch;
 
 use side_by_side::{print_header, print_line};
 use std::io;
@@ -24,7 +25,8 @@ fn main() -> io::Result<()> {
     let modelling = (compare::model::CALL, model::inputs()?);
     let joining = (compare::join::CALL, join::inputs());
     let showing = (compare::show::CALL, show::inputs());
-    for (call, rows) in [judging, comparing, modelling, joining, showing] {
+    let watching = (compare::watch::CALL, watch::inputs());
+    for (call, rows) in [judging, comparing, modelling, joining, showing, watching] {
         print_header(call.name);
         for row in &rows {
             print_line(&call, row);

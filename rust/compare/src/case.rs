@@ -7,7 +7,7 @@ use tintboulder::Answer;
 const MARGIN: usize = 64;
 const SHORT_WORK: u32 = 13;
 
-/// The files of a call, and the number of a node where it takes one.
+/// The files of a call, and the number of a node or the start method where it takes one.
 #[derive(Clone, PartialEq)]
 pub struct Input {
     pub files: Vec<Vec<u8>>,

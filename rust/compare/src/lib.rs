@@ -11,13 +11,15 @@ mod report;
 pub mod show;
 pub mod simulation;
 mod tally;
+pub mod watch;
 
 use calls::Call;
 pub use case::Input;
 use generator::generate::{Kind, Random};
 use tally::Tally;
 
-const CALLS: &[Call] = &[judge::CALL, simulation::CALL, model::CALL, join::CALL, show::CALL];
+const CALLS: &[Call] =
+    &[judge::CALL, simulation::CALL, model::CALL, join::CALL, show::CALL, watch::CALL];
 
 /// Prints a line for each call, or ends with the report of a difference.
 pub fn run(seed: u64, count: u64) -> Result<(), String> {

@@ -9,6 +9,7 @@ mod judged;
 pub mod listing;
 mod modelled;
 mod shown;
+mod watched;
 
 use second::files::{check_graph, check_interface, check_property, check_rules};
 use second::record::{Limits, RECORD_LEN};
@@ -45,6 +46,9 @@ pub fn examples() -> io::Result<Vec<Example>> {
     all.extend(joined::of_lent_buffers());
     all.extend(joined::of_cases(&cases));
     all.extend(shown::of_the_paper());
+    all.extend(watched::of_the_paper());
+    all.extend(watched::of_lent_buffers());
+    all.extend(watched::of_cases(&cases));
     Ok(all)
 }
 
@@ -70,6 +74,9 @@ pub fn line(example: &Example) -> String {
     }
     if name.starts_with("show-") {
         return shown::lines(name, bytes);
+    }
+    if name.starts_with("watch-") {
+        return watched::lines(name, bytes);
     }
     let nodes = match name.as_bytes().first() {
         Some(b'g') => check_graph(bytes, &Limits::DESK).map(|graph| graph.nodes.len()),

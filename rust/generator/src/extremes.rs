@@ -1,8 +1,8 @@
-//! Files within the limits that make judging go through the most levels, for tests of the limits and for timing.
+//! Files within the limits that make judging go through the most levels and watching write the most records, for tests of the limits and for timing.
 
-use crate::generate::LIMITS;
+use crate::generate::{interface_of, LIMITS};
 use crate::graphs::{graph_file, node, Edges};
-use second::record::{kind, Record};
+use second::record::{kind, Record, BAD};
 
 const LAST: u8 = (LIMITS.nodes - 1) as u8;
 const LITERAL: u8 = (LIMITS.rows - 1) as u8;
@@ -47,4 +47,46 @@ fn rows_around(leading_to: fn(u8) -> Record) -> Vec<u8> {
     let last = [[kind::ROW, 7, LITERAL, 0, 0, 0], [kind::ROW, 6, 0, 0, 0, 0]];
     let between = (2..LITERAL).map(leading_to);
     first.into_iter().chain(between).chain(last).flatten().collect()
+}
+
+/// Interface, graph and rules with the longest trail, 1,793 records: method 1 goes through all its nodes and calls itself, and each call steps the monitor.
+pub fn longest_trail() -> [Vec<u8>; 3] {
+    let nodes: Vec<Record> = (0..=LAST).map(|at| node(1, false, at == 0)).collect();
+    let mut edges: Edges = (0..LAST).map(|at| (at, 0, at + 1)).collect();
+    edges.insert((LAST, 1, 0));
+    runs(1, graph_file(&nodes, &edges), CALL, 1)
+}
+
+/// The longest trail of calls that are passed over, 1,779 records: each step calls method 2, and the last one method 3, whose return steps the monitor.
+pub fn longest_passing_trail() -> [Vec<u8>; 3] {
+    let last = LAST - 2;
+    let way = (0..=last).map(|at| node(1, false, at == 0));
+    let nodes: Vec<Record> = way.chain([2, 3].map(|method| node(method, true, true))).collect();
+    let mut edges: Edges = (0..last).map(|at| (at, 2, at + 1)).collect();
+    edges.insert((last, 3, 0));
+    runs(7, graph_file(&nodes, &edges), RETURN_TO, 3)
+}
+
+/// Half of the nodes lie on one way, and each calls method 1 with as many of the others, which return, as there is room for. Each return of the method to itself steps
+/// the monitor, around and never to the bad state: the summary of an entry state grows by one state at a time, and every time all calls have one more end.
+pub fn slow_summary() -> [Vec<u8>; 3] {
+    let half = LIMITS.nodes / 2;
+    let nodes: Vec<Record> =
+        (0..LIMITS.nodes).map(|at| node(1, at >= half, at == 0 || at == half)).collect();
+    let way = (0..half - 1).map(|at| (at as u8, 0, at as u8 + 1));
+    let ends = LIMITS.edges / half - 1;
+    let calls = |at: usize| (half..half + ends).map(move |to| (at as u8, 1, to as u8));
+    let edges: Edges = way.chain((0..half).flat_map(calls)).collect();
+    let step = |state| [kind::RULE, state, RETURN_TO, 1, 1, (state + 1) % BAD as u8];
+    let rules = (0..BAD as u8).flat_map(step).collect();
+    [interface_of(1, 1), graph_file(&nodes, &edges), rules]
+}
+
+const CALL: u8 = 1;
+const RETURN_TO: u8 = 2;
+
+/// A closed side, and rules by which this event between the method and method 1 steps the monitor.
+fn runs(provided: u8, graph: Vec<u8>, event: u8, method: u8) -> [Vec<u8>; 3] {
+    let step = |state| [kind::RULE, state, event, method, 1, state + 1];
+    [interface_of(provided, provided), graph, (0..BAD as u8).flat_map(step).collect()]
 }

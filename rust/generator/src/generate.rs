@@ -5,6 +5,7 @@ pub use crate::graded::graded;
 pub use crate::graphs::{graph, graph_of, scattered, without_an_edge};
 pub use crate::properties::{any_rows, property};
 pub use crate::random::Random;
+pub use crate::runs::{runs, Runs};
 pub use crate::sides::{sides, sides_at_the_limits, Sides};
 use second::files;
 use second::record::{kind, Limits, BAD, METHODS};
@@ -91,6 +92,10 @@ pub fn rules(random: &mut Random, size: Size) -> Vec<u8> {
             next.retain(|_, _| !random.once_in(4));
         }
     }
+    rule_file(next)
+}
+
+pub(crate) fn rule_file(next: BTreeMap<Key, u8>) -> Vec<u8> {
     let rule = |((state, event, from, to), next)| [kind::RULE, state, event, from, to, next];
     next.into_iter().flat_map(rule).collect()
 }
@@ -99,7 +104,7 @@ pub fn rules(random: &mut Random, size: Size) -> Vec<u8> {
 const NEXT: [u8; 10] = [0, 0, 1, 1, 2, 2, 3, 4, BAD as u8, BAD as u8];
 
 /// State, event and two methods.
-type Key = (u8, u8, u8, u8);
+pub(crate) type Key = (u8, u8, u8, u8);
 
 fn all_keys() -> impl Iterator<Item = Key> {
     let pairs = (1..=METHODS as u8).flat_map(|from| (1..=METHODS as u8).map(move |to| (from, to)));

@@ -34,7 +34,7 @@ pub fn graph_of(random: &mut Random, size: Size, provided: u8, required: u8) -> 
     }
 }
 
-fn members(set: u8) -> Vec<u8> {
+pub(crate) fn members(set: u8) -> Vec<u8> {
     (1..=METHODS as u8).filter(|m| set >> (m - 1) & 1 == 1).collect()
 }
 

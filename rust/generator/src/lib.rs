@@ -8,4 +8,5 @@ mod graphs;
 mod properties;
 mod random;
 pub mod relations;
+mod runs;
 mod sides;

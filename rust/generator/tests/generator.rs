@@ -1,9 +1,10 @@
 //! What the generator promises.
 
+use generator::extremes::{longest_passing_trail, longest_trail};
 use generator::generate::{self, Kind, Random, Size};
 use generator::relations;
 use second::record::Limits;
-use second::{files, join, Outcome};
+use second::{files, join, watch, Outcome};
 
 #[test]
 fn valid_files_are_accepted() {
@@ -94,6 +95,39 @@ fn sides_are_joined_or_refused_by_9_or_11() {
         met[case] += 1;
     }
     assert!(met.iter().all(|&times| times > 20), "{met:?}");
+}
+
+#[test]
+fn runs_are_watched_or_refused_by_3_9_or_10() {
+    let mut random = Random::new(7);
+    let (mut clean, mut refused, mut lengths) = (0, [0; 11], Vec::new());
+    for round in 0..4_000 {
+        let size = if round % 32 == 0 { Size::Large } else { Size::Small };
+        let ([interface, graph, rules], start) = generate::runs(&mut random, size);
+        match watch(&Limits::DESK, &interface, &graph, &rules, start, usize::MAX, 0, 0) {
+            Outcome::Said { verdict: 1, .. } => clean += 1,
+            Outcome::Said { values, .. } => lengths.push(values[0]),
+            Outcome::Refused(refusal) => refused[usize::from(refusal.number)] += 1,
+        }
+    }
+    assert!(clean > 1_000 && lengths.len() > 1_000, "{clean} {}", lengths.len());
+    let longer = |than: u64| lengths.iter().filter(|&&length| length > than).count();
+    let many = [2, 8, 100, 1_000].map(longer);
+    assert!(many[0] > 500 && many[1] > 200 && many[2] > 40 && many[3] > 5, "{many:?}");
+    assert!([3, 9, 10].iter().all(|&number| refused[number] > 20), "{refused:?}");
+    assert_eq!(refused.iter().sum::<usize>(), refused[3] + refused[9] + refused[10]);
+}
+
+#[test]
+fn the_longest_trails_are_as_long_as_they_can_be() {
+    for ([interface, graph, rules], records) in
+        [(longest_trail(), 256 * 7 + 1), (longest_passing_trail(), 254 * 7 + 1)]
+    {
+        match watch(&Limits::DESK, &interface, &graph, &rules, 1, usize::MAX, 0, 0) {
+            Outcome::Said { verdict: 2, values, .. } => assert_eq!(values, [records]),
+            other => panic!("{other:?}"),
+        }
+    }
 }
 
 #[test]

@@ -59,6 +59,13 @@ extern "C" {
     fn tintboulder_work(call: u64) -> u64;
 }
 
+/// The published length of the work buffer of the call with this number.
+pub(crate) fn work_of(call: u64) -> usize {
+    // Safe: it takes and gives numbers.
+    let length = unsafe { tintboulder_work(call) };
+    length.try_into().expect("a length of at most 1,048,576")
+}
+
 impl OnTwoFiles {
     /// Safe if the function is one of the boundary, which are total. The number is the call's for `tintboulder_work`.
     pub(crate) const unsafe fn new(function: TwoFilesFunction, number: u64) -> OnTwoFiles {
@@ -67,9 +74,7 @@ impl OnTwoFiles {
 
     /// The published length of the work buffer. A shorter one is refused by 13.
     pub fn work(&self) -> usize {
-        // Safe: it takes and gives numbers.
-        let length = unsafe { tintboulder_work(self.number) };
-        length.try_into().expect("a length of at most 1,048,576")
+        work_of(self.number)
     }
 
     /// The answer as it comes. The work buffer is zero afterwards, except after refusal 13.

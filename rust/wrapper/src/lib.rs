@@ -7,6 +7,7 @@ mod join;
 mod judge;
 mod model;
 mod show;
+mod watch;
 
 pub use boundary::{Answer, OnTwoFiles, Refusal};
 pub use checks::{check_graph, check_interface, check_property, check_rules, Accepted};
@@ -15,3 +16,4 @@ pub use join::{join, join_answer, Joined};
 pub use judge::{judge, Judged, JUDGE};
 pub use model::{model, Written, MODEL};
 pub use show::{show, show_answer};
+pub use watch::{watch, watch_answer, watch_work, Watched};

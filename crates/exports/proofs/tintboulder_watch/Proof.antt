@@ -1,0 +1,36 @@
+use mathlib.Core.Path.{ap, _∙_}
+use Rattle.exports.specs.Boundary.{answer-numbers}
+use borrow.Author.Needs.{needs}
+use Rattle.exports.proofs.tintboulder_watch.Statement.{statement}
+use Rattle.exports.proofs.tintboulder_watch.Tie as tie
+use Rattle.exports.proofs.tintboulder_watch.Reads as reads
+use Rattle.exports.proofs.tintboulder_watch.Lts as lts
+use Rattle.exports.proofs.watched_answer.Reads as watched-answer-reads
+use Rattle.runs.proofs.watch.Reads as watch-reads
+
+-- src/lib.rt:306:20
+watch-requires : tie.Need-watch-requires
+watch-requires c κs = search needs
+
+-- src/lib.rt:306:5
+watched-answer-requires : tie.Need-watched-answer-requires
+watched-answer-requires c κs = search needs
+
+-- src/lib.rt:296:1
+same-length : tie.Need-same-length
+same-length c = search needs
+
+-- src/lib.rt:296:1
+same-length-2 : tie.Need-same-length-2
+same-length-2 c = search needs
+
+-- src/lib.rt:296:1
+returns : tie.Need-returns
+returns c =
+    let j = c .before .before .before .before .before .watch in
+    record { numbers-are = c .watched-answer .ensures ∙ ap answer-numbers (j .ensures .answers .answer-is); out-is = j .ensures .answers .out-is; work-is = j .ensures .work-is }
+
+pub tintboulder-watch-spec : {M : Type 1} → statement M
+tintboulder-watch-spec =
+    tie.close
+    (tie.spec watch-requires watched-answer-requires same-length same-length-2 returns)
