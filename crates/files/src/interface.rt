@@ -8,7 +8,7 @@ use crate::parse::parse;
 use crate::record::Parsed;
 
 // Method m is in the set whose bit of weight 2^(m-1) stands for it.
-fn in_set(x: u8, m: u8) -> bool
+pub(crate) fn in_set(x: u8, m: u8) -> bool
     ensures { λ r. ⌜ r ≡ in-set x m ⌝ }
 {
     if m < 1 {

@@ -7,6 +7,7 @@ ghost use Rattle.files.specs.Checking.{parsed-at};
 ghost use Rattle.files.specs.Decode.{decode-interface};
 ghost use Rattle.files.specs.Sides.{foreign-node, foreign-call, foreign-of, first-foreign-record, shares, lacks, unprovided};
 ghost use Rattle.files.specs.Access.{GraphFile, InterfaceFile};
+use crate::interface::in_set;
 use crate::interface::provides;
 use crate::interface::requires_method;
 use crate::parse::parse;
@@ -76,13 +77,12 @@ pub fn shares(first: &[u8], second: &[u8]) -> bool
 }
 
 // A required method is not provided.
-fn lacks(interface: &[u8]) -> bool
-    requires { ⌜ InterfaceFile (now interface) ⌝ }
-    ensures { λ r. ⌜ r ≡ lacks (decode-interface (now (interface .entry))) ⌝ }
+fn lacks(provided: u8, required: u8) -> bool
+    ensures { λ r. ⌜ r ≡ lacks (record { provided = provided; required = required }) ⌝ }
 {
     let mut m = 1;
     while m < 9 {
-        if requires_method(interface, m) & !provides(interface, m) {
+        if in_set(required, m) & !in_set(provided, m) {
             return true;
         }
         m += 1;
@@ -90,10 +90,9 @@ fn lacks(interface: &[u8]) -> bool
     false
 }
 
-// A required method, or the start method, is provided by nobody.
-pub fn unprovided(interface: &[u8], start: u8) -> bool
-    requires { ⌜ InterfaceFile (now interface) ⌝ }
-    ensures { λ r. ⌜ r ≡ unprovided (decode-interface (now (interface .entry))) start ⌝ }
+// A required method, or the start method, is provided by nobody, where these methods are provided and required.
+pub fn unprovided(provided: u8, required: u8, start: u8) -> bool
+    ensures { λ r. ⌜ r ≡ unprovided (record { provided = provided; required = required }) start ⌝ }
 {
-    !provides(interface, start) | lacks(interface)
+    !in_set(provided, start) | lacks(provided, required)
 }

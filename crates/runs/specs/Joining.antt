@@ -17,6 +17,7 @@ use Rattle.runs.specs.Join.{join, moved}
 use Rattle.runs.specs.declared.answers.Joined.the-variants.{Written, Refused}
 use Rattle.runs.specs.declared.answers.Joined.{Joined}
 pub mod Laws
+pub mod Sizes
 pub mod Steps
 pub mod Bytes
 

@@ -25,6 +25,10 @@ pub watch-said : Graph → Monitor → ℕ → Said
 watch-said G mon m =
     cond (clean G mon m) (record { verdict = 1; values = []; written = [] }) (record { verdict = 2; values = length (trail G mon m) ∷ []; written = trail-bytes G mon m })
 
+-- the verdict where it fits into an output of so many bytes, else 12
+abbrev pub told : Graph → Monitor → ℕ → ℕ → Outcome
+told G mon m out = answered (out-check out (watch-said G mon m)) (watch-said G mon m)
+
 -- "watching takes interface, graph, rules and a start method". `out` and `work` are the lengths of the buffers.
 module _ (L : Limits) (i g r : List ℕ) (m out work : ℕ) where
   abbrev pub watch-verdict : Said

@@ -57,7 +57,7 @@ fn write_all_moved(graph2: &[u8], s: Sizes, out: &mut [u8], first: usize)
 }
 
 // Writes the joined graph: the first graph's nodes, the second's, the first's edges, the second's moved.
-fn write_join(graph1: &[u8], graph2: &[u8], s: Sizes, out: &mut [u8])
+pub(crate) fn write_join(graph1: &[u8], graph2: &[u8], s: Sizes, out: &mut [u8])
     requires { ⌜ (Both s (now graph1) (now graph2)) × ((s .nodes + s .nodes2 ≤ 256) × (6 * (s .nodes + s .nodes2 + s .edges + s .edges2) ≤ length (now out))) ⌝ }
     ensures { λ _. ⌜ now (out .exit) ≡ put-at (now (out .entry)) 0 (graph-bytes (join (decode-graph (now (graph1 .entry))) (decode-graph (now (graph2 .entry))))) ⌝ }
 {

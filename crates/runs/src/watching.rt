@@ -12,7 +12,7 @@ ghost use Rattle.judging.specs.Judge.{GraphWithin, Strides};
 ghost use Rattle.runs.specs.Answer.{watched-answer};
 ghost use Rattle.runs.specs.Prepared.{Ready};
 ghost use Rattle.runs.specs.Searching.{Says};
-ghost use Rattle.runs.specs.Watching.{watched, watch-verdict, from-verdict, from-sides, from-rules, from-graph, from-interface};
+ghost use Rattle.runs.specs.Watching.{watched, told, watch-verdict, from-sides, from-rules, from-graph, from-interface};
 use crate::answers::Verdict;
 use crate::prepare::prepare;
 use crate::regions::Regions;
@@ -26,6 +26,8 @@ use files::check::Checked;
 use files::check::check_graph;
 use files::check::check_interface;
 use files::check::check_rules;
+use files::interface::provided_methods;
+use files::interface::required_methods;
 use files::record::Limits;
 use files::record::Record;
 use files::refusal::Refusal;
@@ -44,18 +46,9 @@ fn find_trail(graph: &[u8], rules: &[u8], s: Regions, start: u8, work: &mut [u8]
 }
 
 // The verdict by what the search says, with the trail if it fits.
-fn tell(
-    interface: &[u8],
-    graph: &[u8],
-    rules: &[u8],
-    start: u8,
-    out: &mut [u8],
-    work: &[u8],
-    limits: Limits,
-    i: usize,
-) -> Verdict
+fn tell(graph: &[u8], rules: &[u8], start: u8, out: &mut [u8], work: &[u8], i: usize) -> Verdict
     requires { ⌜ (Says (decode-graph (now graph)) (watch (decode-rules (now rules))) start i (now work)) × (46949 ≤ length (now work)) ⌝ }
-    ensures { λ v. ⌜ Answers (answered (from-verdict limits (now (interface .entry)) (now (graph .entry)) (now (rules .entry)) start (length (now (out .entry))) (length (now (work .entry)))) (watch-verdict limits (now (interface .entry)) (now (graph .entry)) (now (rules .entry)) start (length (now (out .entry))) (length (now (work .entry))))) (now (out .entry)) (now (out .exit)) (watched-answer v) ⌝ }
+    ensures { λ v. ⌜ Answers (told (decode-graph (now (graph .entry))) (watch (decode-rules (now (rules .entry)))) start (length (now (out .entry)))) (now (out .entry)) (now (out .exit)) (watched-answer v) ⌝ }
 {
     if i == 0 {
         return Verdict::Clean;
@@ -66,6 +59,22 @@ fn tell(
     }
     write_trail(graph, rules, work, start, i, n, out);
     Verdict::Bad(n)
+}
+
+// The verdict on an accepted graph and accepted rules, in a buffer of zeros.
+pub(crate) fn watch_runs(
+    graph: &[u8],
+    rules: &[u8],
+    start: u8,
+    out: &mut [u8],
+    work: &mut [u8],
+    s: Regions,
+) -> Verdict
+    requires { ⌜ (Ready s (now graph) (now rules)) × ((now work ≡ replicate (length (now work)) 0) × (46949 ≤ length (now work))) ⌝ }
+    ensures { λ v. ⌜ Answers (told (decode-graph (now (graph .entry))) (watch (decode-rules (now (rules .entry)))) start (length (now (out .entry)))) (now (out .entry)) (now (out .exit)) (watched-answer v) ⌝ }
+{
+    let i = find_trail(graph, rules, s, start, work);
+    tell(graph, rules, start, out, work, i)
 }
 
 // 9 and 10, then the verdict.
@@ -86,11 +95,12 @@ fn watch_sides(
     if foreign < s.nodes + s.edges {
         return Verdict::Refused(Refusal::at(9, 2, foreign));
     }
-    if unprovided(interface, start) {
+    let provided = provided_methods(interface);
+    let required = required_methods(interface);
+    if unprovided(provided, required, start) {
         return Verdict::Refused(Refusal::whole(10));
     }
-    let i = find_trail(graph, rules, s, start, work);
-    tell(interface, graph, rules, start, out, work, limits, i)
+    watch_runs(graph, rules, start, out, work, s)
 }
 
 // The rules' refusals and the start method's 3, then the rest.

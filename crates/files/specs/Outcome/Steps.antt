@@ -35,11 +35,14 @@ module _ (L : Limits) (f : ℕ) (k : Kind) (l : List ℕ) (cs : List Check) (s :
       go none q d = let z : _≡_ {A = ℕ} 0 1 = cc in absurd (omega arith)
       go (some x) q d = let z : refusal-at (x .0) f (x .1) ≡ r = cc in by-file (some x) q ∙ ap refuses z
 
+  pub accepted-passes : refusal L k l ≡ none → answered (file-checks L f k l cs) s ≡ answered cs s
+  accepted-passes e = by-file none e
+
   pub file-passes : (n c : ℕ) → checked L k l f ≡ Accepted n c → answered (file-checks L f k l cs) s ≡ answered cs s
   file-passes n c e = go (refusal L k l) refl (sym (checked-is L k l f) ∙ e)
     where
       go : (o : Option (ℕ × ℕ)) → refusal L k l ≡ o → checked-by k l f o ≡ Accepted n c → answered (file-checks L f k l cs) s ≡ answered cs s
-      go none q d = by-file none q
+      go none q d = accepted-passes q
       go (some x) q d = let z : _≡_ {A = ℕ} 0 1 = cc in absurd (omega arith)
 
 -- a number of no file
@@ -138,6 +141,11 @@ numbered-low n f (none ∷ ms) cs h l = numbered-low (suc n) f ms cs (omega arit
 
 pub file-low : (L : Limits) (f : ℕ) (k : Kind) (l : List ℕ) (cs : List Check) → Low (first-refusal cs) → Low (first-refusal (file-checks L f k l cs))
 file-low L f k l cs x = numbered-low 1 f (findings L k l) cs (omega (arith, eight L k l)) x
+
+-- one more check by a lower number
+pub check-low : (n f : ℕ) (k : Option ℕ) (cs : List Check) → n < 13 → Low (first-refusal cs) → Low (first-refusal (scan-check n f k cs))
+check-low n f (some j) cs h x = ne-eqb n 13 (λ e. omega arith)
+check-low n f none cs h x = x
 
 pub out-low : (b : Bool) → Low (first-refusal (whole-check 12 b []))
 out-low true = refl

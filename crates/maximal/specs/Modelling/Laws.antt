@@ -13,7 +13,7 @@ use Rattle.files.specs.Decode.Properties.{decoded-property}
 use Rattle.files.specs.Decode.Written.{decode-bytes}
 use Rattle.files.specs.Graph.{Graph, Flow, size}
 use Rattle.files.specs.Interface.{Interface, Of}
-use Rattle.files.specs.Outcome.{Said, refuses, says, refusal-at, NoneOf, FirstOf, Matches, TooLarge, graph-said, answer}
+use Rattle.files.specs.Outcome.{Said, refuses, says, refusal-at, NoneOf, FirstOf, Matches, TooLarge, graph-said, answer, answered}
 use Rattle.files.specs.Outcome.Laws.{whole-match, files-match, out-match, refused-by, accepted-by, verdict-is, file-accepted, whole-none, says-too-large, small-enough, whole-none-i, file-none, none-end}
 use Rattle.files.specs.Property.{Row, Property}
 use Rattle.files.specs.Refusal.{graph, property, interface, refusal}
@@ -53,6 +53,10 @@ module _ (L : Limits) (i p : List ℕ) (out work : ℕ) where
   pub model-accepted : (modelled L i p out work ≡ says said) ↔ NoneOf (model-lines L i p out work)
   unfolding modelled
   model-accepted = accepted-by _ _ model-match said
+
+  pub modelled-is : modelled L i p out work ≡ answered (model-checks L i p out work) said
+  unfolding modelled
+  modelled-is = refl
 
   -- a verdict is the model's, both files are accepted, and the model is within the limits
   pub model-files : (s : Said) → modelled L i p out work ≡ says s

@@ -1,23 +1,21 @@
 -- Joining as the code comes to it: through each file and through 9; then a joined graph that is too large, one that does not fit, and one that is written.
 use mathlib.Core.Path.{_≡_, sym, ap, ap₂, subst, _∙_}
-use mathlib.Core.Bool.{Bool, true, false, _||_}
+use mathlib.Core.Bool.{Bool, true, false}
 use mathlib.Core.List.{List, [], _∷_}
 use Prim.Native.Nat.{ℕ, _+_, _*_, _≤_, _<_}
 use native.Mathlib.Omega.{arith}
 use lib.Bits.{bitOr}
-use lib.Dec.{T, ltb, lt→ltb}
+use lib.Dec.{T}
 use lib.ListN.{length}
-use Rattle.files.specs.Basics.Tests.{or-l, at-most}
 use Rattle.files.specs.Cells.{put-at}
 use Rattle.files.specs.Cells.Laws.{put-front}
 use Rattle.files.specs.Checking.{checked}
 use Rattle.files.specs.Decode.{decode-graph, decode-interface, graph-bytes}
 use Rattle.files.specs.Decode.Graphs.{few}
-use Rattle.files.specs.Decode.Written.{graph-length}
-use Rattle.files.specs.Graph.{Graph, size}
+use Rattle.files.specs.Graph.{Graph}
 use Rattle.files.specs.Interface.{Interface}
 use Rattle.files.specs.Limits.{desk}
-use Rattle.files.specs.Outcome.{Said, Outcome, refuses, Answer, Answers, refused-answer, verdict-answer, Check, whole-check, scan-check, answered, refusal-at, too-large, TooLarge}
+use Rattle.files.specs.Outcome.{Said, Outcome, refuses, Answer, Answers, refused-answer, verdict-answer, Check, whole-check, scan-check, answered, refusal-at}
 use Rattle.files.specs.Outcome.Laws.{says-too-large}
 use Rattle.files.specs.Outcome.Steps.{whole-refuses, whole-passes, scan-refuses, scan-passes, answers-refused, answers-same, answers-file-refused, answers-file-passed, answers-large, answers-short}
 use Rattle.files.specs.Outcome.Steps.{answers-written}
@@ -30,11 +28,10 @@ use Rattle.files.specs.declared.check.Checked.the-variants.{Accepted, Refused}
 use Rattle.files.specs.declared.record.Limits.{Limits}
 use Rattle.files.specs.declared.refusal.Refusal.{Refusal}
 use Rattle.judging.specs.Refinement.{Both}
-use Rattle.judging.specs.Refinement.Files.{first-size, second-size, first-edges, second-edges}
 use Rattle.judging.specs.declared.sizes.Sizes.{Sizes}
 use Rattle.runs.specs.Join.{join}
-use Rattle.runs.specs.Join.Laws.{join-size, join-edges}
 use Rattle.runs.specs.Joining.{joined, join-said, from-size, from-sides, from-graph2, from-interface2, from-graph1}
+use Rattle.runs.specs.Joining.Sizes.{passes-limits, limits-are, small, nodes-joined, edges-joined, bytes-joined}
 
 module _ (L : Limits) (i1 g1 i2 g2 out : List ℕ) where
   abbrev I : Interface
@@ -138,48 +135,27 @@ module _ (L : Limits) (i1 g1 i2 g2 out : List ℕ) where
 
     -- ---- 11, 12 and the joined graph
 
-    abbrev whole-join : Graph
-    whole-join = join (decode-graph g1) (decode-graph g2)
-
-    nodes-joined : s .nodes + s .nodes2 ≡ size whole-join
-    nodes-joined = omega (arith, join-size (decode-graph g1) (decode-graph g2), first-size s g1 g2 both, second-size s g1 g2 both)
-
-    edges-joined : s .edges + s .edges2 ≡ length (whole-join .edges)
-    edges-joined = omega (arith, join-edges (decode-graph g1) (decode-graph g2), first-edges s g1 g2 both, second-edges s g1 g2 both)
-
-    bytes-joined : length (graph-bytes whole-join) ≡ 6 * (s .nodes + s .nodes2 + (s .edges + s .edges2))
-    bytes-joined = omega (arith, graph-length whole-join, nodes-joined, edges-joined)
-
-    abbrev passes-limits : Bool
-    passes-limits = ltb (L .nodes) (s .nodes + s .nodes2) || ltb (L .edges) (s .edges + s .edges2)
-
-    limits-are : passes-limits ≡ too-large L whole-join
-    limits-are = ap₂ (λ (n e : ℕ). ltb (L .nodes) n || ltb (L .edges) e) nodes-joined edges-joined
+    abbrev whole : Graph
+    whole = join (decode-graph g1) (decode-graph g2)
 
     abbrev both-bytes : List ℕ
     both-bytes = bitOr (I .provided) (J .provided) ∷ bitOr (I .required) (J .required) ∷ []
 
-    pub large-refused : passes-limits ≡ true → (r : Refusal) → r ≡ refusal-at 11 0 0 → Answers (answered on-size said) out out (refused-answer r)
-    large-refused t r e = answers-large L whole-join both-bytes out r (says-too-large L whole-join .say (subst T (sym t ∙ limits-are) tt)) e
+    pub large-refused : passes-limits L s ≡ true → (r : Refusal) → r ≡ refusal-at 11 0 0 → Answers (answered on-size said) out out (refused-answer r)
+    large-refused t r e = answers-large L whole both-bytes out r (says-too-large L whole .say (subst T (sym t ∙ limits-are L s g1 g2 both) tt)) e
 
-    module _ (within : passes-limits ≡ false) where
-      pub nodes-few : s .nodes + s .nodes2 ≤ L .nodes
-      nodes-few = at-most (s .nodes + s .nodes2) (L .nodes) (λ h. subst T within (or-l (ltb (L .nodes) (s .nodes + s .nodes2)) _ (lt→ltb (L .nodes) (s .nodes + s .nodes2) h)))
-
-      small : TooLarge L whole-join → ⊥
-      small h = subst T (sym limits-are ∙ within) (says-too-large L whole-join .hear h)
-
+    module _ (within : passes-limits L s ≡ false) where
       pub short-refused : length out < 6 * (s .nodes + s .nodes2 + (s .edges + s .edges2)) → (r : Refusal) → r ≡ refusal-at 12 0 0 → Answers (answered on-size said) out out (refused-answer r)
-      short-refused h r e = answers-short L whole-join both-bytes out small r (omega (arith, h, bytes-joined)) e
+      short-refused h r e = answers-short L whole both-bytes out (small L s g1 g2 both within) r (omega (arith, h, bytes-joined s g1 g2 both)) e
 
-      pub join-written : 6 * (s .nodes + s .nodes2 + (s .edges + s .edges2)) ≤ length out → (out′ : List ℕ) → out′ ≡ put-at out 0 (graph-bytes whole-join) → (p p₂ q q₂ : ℕ)
+      pub join-written : 6 * (s .nodes + s .nodes2 + (s .edges + s .edges2)) ≤ length out → (out′ : List ℕ) → out′ ≡ put-at out 0 (graph-bytes whole) → (p p₂ q q₂ : ℕ)
           → p ≡ I .provided → p₂ ≡ J .provided → q ≡ I .required → q₂ ≡ J .required
           → Answers (answered on-size said) out out′ (verdict-answer 1 ((s .nodes + s .nodes2) ∷ (s .edges + s .edges2) ∷ bitOr p p₂ ∷ bitOr q q₂ ∷ []))
       join-written h out′ e p p₂ q q₂ a b c d =
           subst (λ (l : List ℕ). Answers (answered on-size said) out out′ (verdict-answer 1 ((s .nodes + s .nodes2) ∷ (s .edges + s .edges2) ∷ l)))
           (ap₂ (λ (x y : ℕ). x ∷ y ∷ []) (ap₂ bitOr (sym a) (sym b)) (ap₂ bitOr (sym c) (sym d)))
-          (answers-written L whole-join both-bytes out small out′ (s .nodes + s .nodes2) (s .edges + s .edges2) (omega (arith, h, bytes-joined)) (e ∙ put-front out (graph-bytes whole-join))
-          nodes-joined edges-joined)
+          (answers-written L whole both-bytes out (small L s g1 g2 both within) out′ (s .nodes + s .nodes2) (s .edges + s .edges2) (omega (arith, h, bytes-joined s g1 g2 both)) (e ∙ put-front out (graph-bytes whole))
+          (nodes-joined s g1 g2 both) (edges-joined s g1 g2 both))
 
 -- ---- the limits of the desk
 

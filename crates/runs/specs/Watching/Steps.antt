@@ -3,30 +3,29 @@
 use mathlib.Core.Path.{_≡_, refl, sym, ap, ap₂, subst, _∙_}
 use mathlib.Core.Bool.{Bool, true, false, not}
 use mathlib.Core.List.{List, [], _∷_, _++_}
-use mathlib.Core.Option.{Option, none, some}
 use Prim.Native.Nat.{ℕ, _+_, _-_, _*_, _≤_, _<_}
 use native.Mathlib.Omega.{arith}
 use lib.Dec.{T, ltb}
 use lib.ListN.{length, drop, replicate}
-use borrow.Author.Tests.{lt-ltb, le-ltb, ne-eqb}
+use borrow.Author.Tests.{lt-ltb, le-ltb}
 use Rattle.files.specs.Access.{AcceptedAs}
 use Rattle.files.specs.Basics.First.{whole}
 use Rattle.files.specs.Basics.Lists.{length-each}
 use Rattle.files.specs.Basics.Tests.{T-eq}
 use Rattle.files.specs.Checking.{checked}
 use Rattle.files.specs.Checking.Laws.{accepted-counts}
-use Rattle.files.specs.Decode.{decode-graph, decode-interface, decode-rules}
+use Rattle.files.specs.Decode.{decode-interface}
 use Rattle.files.specs.Decode.Graphs.{few, decoded-filed, decoded-size, decoded-edges}
 use Rattle.files.specs.Limits.{desk}
 use Rattle.files.specs.Graph.{Graph}
 use Rattle.files.specs.Interface.{Interface}
-use Rattle.files.specs.Outcome.{Said, Outcome, refuses, says, Answer, Answers, Does, answer, out-after, refused-answer, verdict-answer, Check, whole-check, scan-check, first-refusal, answered}
+use Rattle.files.specs.Outcome.{Said, Outcome, refuses, says, Answer, Answers, Does, answer, out-after, refused-answer, verdict-answer, Check, whole-check, answered}
 use Rattle.files.specs.Outcome.{refusal-at, no-start, short, out-check}
 use Rattle.files.specs.Outcome.Steps.{whole-refuses, whole-passes, scan-refuses, scan-passes, answers-refused, answers-same, answers-file-refused, answers-file-passed, out-passes, out-refuses}
-use Rattle.files.specs.Outcome.Steps.{Low, file-low, out-low, does-left, does-cleared}
+use Rattle.files.specs.Outcome.Steps.{file-low, check-low, out-low, does-left, does-cleared}
 use Rattle.files.specs.Record.{count}
 use Rattle.files.specs.Refusal.{graph, rules, interface, nodes-of}
-use Rattle.files.specs.Rules.{Monitor, watch}
+use Rattle.files.specs.Rules.{Monitor}
 use Rattle.files.specs.Sides.{first-foreign, first-foreign-record, unprovided}
 use Rattle.files.specs.Sides.Reads.{record-found, none-found}
 use Rattle.files.specs.declared.check.Checked.{Checked}
@@ -38,17 +37,11 @@ use Rattle.runs.specs.Prepared.{Ready, watch-room}
 use Rattle.runs.specs.Summary.{clean}
 use Rattle.runs.specs.Summary.Trails.{trail, trail-rec-bytes, trail-bytes}
 use Rattle.runs.specs.Summary.Trails.Laws.{trail-bytes-is}
-use Rattle.runs.specs.Watching.{watch-verdict, from-verdict, from-sides, from-start, from-rules, from-graph, from-interface, watched}
+use Rattle.runs.specs.Watching.{watch-said, told, watch-verdict, from-verdict, from-sides, from-start, from-rules, from-graph, from-interface, watched}
 use Rattle.runs.specs.Watching.Laws.{clean-said, bad-said}
 use Rattle.runs.specs.declared.regions.Regions.{Regions}
 
 module _ (L : Limits) (i g r : List ℕ) (m : ℕ) (out : List ℕ) (work : ℕ) where
-  abbrev G : Graph
-  G = decode-graph g
-
-  abbrev mon : Monitor
-  mon = watch (decode-rules r)
-
   abbrev I : Interface
   I = decode-interface i
 
@@ -126,14 +119,18 @@ module _ (L : Limits) (i g r : List ℕ) (m : ℕ) (out : List ℕ) (work : ℕ)
       pub sides-passed : unprovided I m ≡ false → (out′ : List ℕ) (a : Answer) → Answers (answered on-verdict said) out out′ a → Answers (answered on-sides said) out out′ a
       sides-passed b out′ a = answers-same (answered on-verdict said) (answered on-sides said) out out′ a (own ∙ whole-passes 10 (unprovided I m) on-verdict said b)
 
-  -- ---- the verdict
+-- ---- the verdict
 
-  clean-is : T (clean G mon m) → said ≡ record { verdict = 1; values = []; written = [] }
+module _ (G : Graph) (mon : Monitor) (m : ℕ) (out : List ℕ) where
+  abbrev verdict : Said
+  verdict = watch-said G mon m
+
+  clean-is : T (clean G mon m) → verdict ≡ record { verdict = 1; values = []; written = [] }
   clean-is t = clean-said G mon m (T-eq (clean G mon m) t)
 
-  pub clean-told : T (clean G mon m) → Answers (answered on-verdict said) out out (verdict-answer 1 [])
+  pub clean-told : T (clean G mon m) → Answers (told G mon m (length out)) out out (verdict-answer 1 [])
   clean-told t =
-      let o : answered on-verdict said ≡ says (record { verdict = 1; values = []; written = [] }) =
+      let o : told G mon m (length out) ≡ says (record { verdict = 1; values = []; written = [] }) =
       ap (λ (x : Said). answered (out-check (length out) x) x) (clean-is t) ∙ out-passes (length out) (record { verdict = 1; values = []; written = [] }) (omega arith) in
       record { answer-is = sym (ap answer o); out-is = sym (ap (λ (x : Outcome). out-after x out) o) }
 
@@ -141,7 +138,7 @@ module _ (L : Limits) (i g r : List ℕ) (m : ℕ) (out : List ℕ) (work : ℕ)
     abbrev bad-said-is : Said
     bad-said-is = record { verdict = 2; values = length (trail G mon m) ∷ []; written = trail-bytes G mon m }
 
-    bad-is : said ≡ bad-said-is
+    bad-is : verdict ≡ bad-said-is
     bad-is = bad-said G mon m (not-true (clean G mon m) bad)
       where
         not-true : (b : Bool) → T (not b) → b ≡ false
@@ -152,24 +149,19 @@ module _ (L : Limits) (i g r : List ℕ) (m : ℕ) (out : List ℕ) (work : ℕ)
     trail-size : length (trail-bytes G mon m) ≡ 6 * length (trail G mon m)
     trail-size = ap length (trail-bytes-is G mon m) ∙ length-each 6 trail-rec-bytes (λ x. refl) (trail G mon m)
 
-    pub bad-short : (n : ℕ) → n ≡ length (trail G mon m) → length out < 6 * n → (f : Refusal) → f ≡ refusal-at 12 0 0 → Answers (answered on-verdict said) out out (refused-answer f)
+    pub bad-short : (n : ℕ) → n ≡ length (trail G mon m) → length out < 6 * n → (f : Refusal) → f ≡ refusal-at 12 0 0 → Answers (told G mon m (length out)) out out (refused-answer f)
     bad-short n e h f d =
-        answers-refused (answered on-verdict said) f out
+        answers-refused (told G mon m (length out)) f out
         (ap (λ (x : Said). answered (out-check (length out) x) x) bad-is ∙ out-refuses (length out) bad-said-is (omega (arith, e, h, trail-size)) ∙ ap refuses (sym d))
 
     pub bad-told : (n : ℕ) → n ≡ length (trail G mon m) → 6 * n ≤ length out → (out′ : List ℕ) → out′ ≡ trail-bytes G mon m ++ drop (length (trail-bytes G mon m)) out
-        → Answers (answered on-verdict said) out out′ (verdict-answer 2 (n ∷ []))
+        → Answers (told G mon m (length out)) out out′ (verdict-answer 2 (n ∷ []))
     bad-told n e h out′ d =
-        let o : answered on-verdict said ≡ says bad-said-is =
+        let o : told G mon m (length out) ≡ says bad-said-is =
         ap (λ (x : Said). answered (out-check (length out) x) x) bad-is ∙ out-passes (length out) bad-said-is (omega (arith, e, h, trail-size)) in
         record { answer-is = ap (λ (k : ℕ). verdict-answer 2 (k ∷ [])) e ∙ sym (ap answer o); out-is = d ∙ sym (ap (λ (x : Outcome). out-after x out) o) }
 
 -- ---- the whole call
-
--- a number below 13 leaves the work buffer cleared
-check-low : (n f : ℕ) (k : Option ℕ) (cs : List Check) → n < 13 → Low (first-refusal cs) → Low (first-refusal (scan-check n f k cs))
-check-low n f (some j) cs h x = ne-eqb n 13 (λ e. omega arith)
-check-low n f none cs h x = x
 
 module _ (L : Limits) (i g r : List ℕ) (m : ℕ) (out work : List ℕ) where
   pub does-nothing : (f : Refusal) → length work < watch-room → f ≡ refusal-at 13 0 0 → Does (watched L i g r m (length out) (length work)) out work out work (refused-answer f)

@@ -1,5 +1,6 @@
 use native.Mathlib.Omega.{arith}
-use Rattle.runs.specs.Joining.Steps.{large-refused, nodes-few, short-refused, join-written}
+use Rattle.runs.specs.Joining.Sizes.{nodes-few}
+use Rattle.runs.specs.Joining.Steps.{large-refused, short-refused, join-written}
 use borrow.Author.Needs.{needs}
 use Rattle.runs.proofs.joining.join_sizes.Statement.{statement}
 use Rattle.runs.proofs.joining.join_sizes.Tie as tie
@@ -41,7 +42,7 @@ write-join-requires c κs =
     let k = c .before .before .before .before .before .before .before .before .before .before .before .before in
     let a = k .args in
     let both = k .pre .1 .1 .0 in
-    let few = nodes-few (a .limits) (a .interface1 .now) (a .graph1 .now) (a .interface2 .now) (a .graph2 .now) (a .out .now) (a .s) both (c .before .before .if1 .left) in
+    let few = nodes-few (a .limits) (a .s) (a .graph1 .now) (a .graph2 .now) both (c .before .before .if1 .left) in
     (both, (omega (arith, few, k .pre .1 .1 .1 .nodes-fit), omega (arith, c .before .if2 .left)))
 
 provided-methods-requires : tie.Need-provided-methods-requires

@@ -1,5 +1,4 @@
 use native.Mathlib.Omega.{arith}
-use lib.ListN.{length}
 use borrow.Author.Needs.{needs}
 use Rattle.files.specs.Decode.{decode-graph, decode-rules}
 use Rattle.files.specs.Rules.{watch}
@@ -11,22 +10,22 @@ use Rattle.runs.proofs.watching.tell.Tie as tie
 -- src/watching.rt:61:9
 returns : tie.Need-returns
 returns c =
-    let k = c .before .before .before .before .before .before in
+    let k = c .before .before .before .before .before in
     let a = k .args in
-    clean-told (a .limits) (a .interface .now) (a .graph .now) (a .rules .now) (a .start) (a .out .now) (length (a .work .now))
+    clean-told (decode-graph (a .graph .now)) (watch (decode-rules (a .rules .now))) (a .start) (a .out .now)
     (says-zero (decode-graph (a .graph .now)) (watch (decode-rules (a .rules .now))) (a .start) (a .i) (a .work .now) (k .pre .0) (c .if1 .taken))
 
 -- src/watching.rt:63:9
 count-records-requires : tie.Need-count-records-requires
 count-records-requires c κs =
-    let k = c .before .before .before .before .before .before in
+    let k = c .before .before .before .before .before in
     let a = k .args in
     ((says-item (decode-graph (a .graph .now)) (watch (decode-rules (a .rules .now))) (a .start) (a .i) (a .work .now) (k .pre .0) (c .if1 .left)) .1, k .pre .1)
 
 -- src/watching.rt:64:20
 mul-if2 : tie.Need-mul-if2
 mul-if2 c =
-    let k = c .before .before .before .before .before .before .before in
+    let k = c .before .before .before .before .before .before in
     let a = k .args in
     let t = (says-item (decode-graph (a .graph .now)) (watch (decode-rules (a .rules .now))) (a .start) (a .i) (a .work .now) (k .pre .0) (c .before .if1 .left)) .1 in
     omega (arith, c .count-records .ensures, trail-small (decode-graph (a .graph .now)) (watch (decode-rules (a .rules .now))) (a .start) (a .i) (a .work .now) t)
@@ -38,16 +37,16 @@ whole-requires c κs = search needs
 -- src/watching.rt:65:9
 returns-2 : tie.Need-returns-2
 returns-2 c =
-    let k = c .before .before .before .before .before .before .before .before .before in
+    let k = c .before .before .before .before .before .before .before .before in
     let a = k .args in
     let b = says-item (decode-graph (a .graph .now)) (watch (decode-rules (a .rules .now))) (a .start) (a .i) (a .work .now) (k .pre .0) (c .before .before .before .if1 .left) in
-    bad-short (a .limits) (a .interface .now) (a .graph .now) (a .rules .now) (a .start) (a .out .now) (length (a .work .now)) (b .0) (c .before .before .count-records .result)
+    bad-short (decode-graph (a .graph .now)) (watch (decode-rules (a .rules .now))) (a .start) (a .out .now) (b .0) (c .before .before .count-records .result)
     (c .before .before .count-records .ensures) (c .before .if2 .taken) (c .whole .result) (c .whole .ensures)
 
 -- src/watching.rt:67:5
 write-trail-requires : tie.Need-write-trail-requires
 write-trail-requires c κs =
-    let k = c .before .before .before .before .before .before .before .before .before in
+    let k = c .before .before .before .before .before .before .before .before in
     let a = k .args in
     let b = says-item (decode-graph (a .graph .now)) (watch (decode-rules (a .rules .now))) (a .start) (a .i) (a .work .now) (k .pre .0) (c .before .before .before .if1 .left) in
     (b .1, (k .pre .1, (c .before .before .count-records .ensures, omega (arith, c .before .if2 .left))))
@@ -59,12 +58,12 @@ same-length c = search needs
 -- src/watching.rt:47:1
 returns-3 : tie.Need-returns-3
 returns-3 c =
-    let k = c .before .before .before .before .before .before .before .before .before .before .before .before in
+    let k = c .before .before .before .before .before .before .before .before .before .before .before in
     let a = k .args in
     let n = c .before .before .before .before .before .count-records in
     let w = c .before .before .write-trail in
     let b = says-item (decode-graph (a .graph .now)) (watch (decode-rules (a .rules .now))) (a .start) (a .i) (a .work .now) (k .pre .0) (c .before .before .before .before .before .before .if1 .left) in
-    bad-told (a .limits) (a .interface .now) (a .graph .now) (a .rules .now) (a .start) (a .out .now) (length (a .work .now)) (b .0) (n .result) (n .ensures)
+    bad-told (decode-graph (a .graph .now)) (watch (decode-rules (a .rules .now))) (a .start) (a .out .now) (b .0) (n .result) (n .ensures)
     (omega (arith, c .before .before .before .before .if2 .left)) (w .last .1 .1 .1 .1 .1 .1 .0) (w .ensures)
 
 pub tell-spec : {M : Type 1} → statement M
