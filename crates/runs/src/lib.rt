@@ -1,9 +1,10 @@
-// Joining, showing and watching: the public calls on joined graphs and on runs.
+// Joining, showing, watching and the composed verdict: the public calls on joined graphs and on runs.
 ghost use mathlib.Core.Path.{_≡_};
 ghost use Rattle.files.specs.Limits.{desk};
 ghost use Rattle.files.specs.Outcome.{Answers, Does, answer, written-of};
 ghost use lib.ListN.{length};
 ghost use Rattle.runs.specs.Answer.{watched-answer};
+ghost use Rattle.runs.specs.Composing.{composed, DoesBoth};
 ghost use Rattle.runs.specs.Joining.{joined, joined-answer};
 ghost use Rattle.runs.specs.Showing.{shown, shown-answer};
 ghost use Rattle.runs.specs.Watching.{watched};
@@ -13,6 +14,7 @@ use answers::Verdict;
 use files::record::Limits;
 
 pub mod answers;
+pub mod composing;
 pub mod joining;
 pub mod prepare;
 pub mod regions;
@@ -61,4 +63,33 @@ pub fn watch(
     ensures { λ v. ⌜ Does (watched desk (now (interface .entry)) (now (graph .entry)) (now (rules .entry)) start (length (now (out .entry))) (length (now (work .entry)))) (now (out .entry)) (now (work .entry)) (now (out .exit)) (now (work .exit)) (watched-answer v) ⌝ }
 {
     watching::watch_within(interface, graph, rules, start, out, work, Limits::desk())
+}
+
+// Whether the known graph is clean from the start method with every module of the other interface that satisfies the property, of any size. Where it is not, the trail of a
+// run of the known graph joined with the maximal model goes to `out`, in the joined numbers.
+pub fn compose(
+    known_interface: &[u8],
+    known_graph: &[u8],
+    other_interface: &[u8],
+    property: &[u8],
+    rules: &[u8],
+    start: u8,
+    out: &mut [u8],
+    store: &mut [u8],
+    work: &mut [u8],
+) -> Verdict
+    ensures { λ v. ⌜ DoesBoth (composed desk (now («known_interface» .entry)) (now («known_graph» .entry)) (now («other_interface» .entry)) (now (property .entry)) (now (rules .entry)) start (length (now (out .entry))) (length (now (store .entry))) (length (now (work .entry)))) (now (out .entry)) (now (store .entry)) (now (work .entry)) (now (out .exit)) (now (store .exit)) (now (work .exit)) (watched-answer v) ⌝ }
+{
+    composing::compose_within(
+        known_interface,
+        known_graph,
+        other_interface,
+        property,
+        rules,
+        start,
+        out,
+        store,
+        work,
+        Limits::desk(),
+    )
 }
