@@ -13,6 +13,7 @@ use Rattle.files.specs.Outcome as outcome
 use Rattle.judging.specs.Compare.{compare-room}
 use Rattle.judging.specs.Judge.{judge-room}
 use Rattle.maximal.specs.Modelling.{model-room}
+use Rattle.runs.specs.Composing.{compose-store, compose-work}
 use Rattle.runs.specs.Prepared.{watch-room}
 use Rattle.exports.specs.declared.Answer.{Answer}
 
@@ -40,6 +41,13 @@ pub record Gives (o : Outcome) (out work out′ work′ : List ℕ) (a : Answer)
   pub out-is : out′ ≡ out-after o out
   pub work-is : work′ ≡ work-after o work
 
+-- the same of a call that is lent two work buffers
+pub record GivesBoth (o : Outcome) (out store work out′ store′ work′ : List ℕ) (a : Answer) : Type 0 where
+  pub numbers-are : a ≡ answer-numbers (answer o)
+  pub out-is : out′ ≡ out-after o out
+  pub store-is : store′ ≡ work-after o store
+  pub work-is : work′ ≡ work-after o work
+
 -- the same of a call that is lent no work buffer
 pub record GivesOut (o : Outcome) (out out′ : List ℕ) (a : Answer) : Type 0 where
   pub numbers-are : a ≡ answer-numbers (answer o)
@@ -50,6 +58,7 @@ abbrev pub fitting : ℕ → Outcome → Outcome
 fitting out (refuses r) = refuses r
 fitting out (says s) = cond (ltb out (length (s .written))) (refuses (refusal-at 12 0 0)) (says s)
 
--- the published length of a call's work buffer, by the call's number
+-- the published length of a call's work buffer, by the call's number; 8 is the composed verdict's `store`
 abbrev pub work-lengths : ℕ → ℕ
-work-lengths call = cond (eqb call 1) judge-room (cond (eqb call 2) compare-room (cond (eqb call 3) model-room (cond (eqb call 6) watch-room 0)))
+work-lengths call =
+    cond (eqb call 1) judge-room (cond (eqb call 2) compare-room (cond (eqb call 3) model-room (cond (eqb call 6) watch-room (cond (eqb call 7) compose-work (cond (eqb call 8) compose-store 0)))))

@@ -7,11 +7,12 @@ ghost use lib.ListN.{length};
 ghost use Rattle.judging.specs.Judge.{judged, judged-answer};
 ghost use Rattle.judging.specs.Compare.{compared, compared-answer};
 ghost use Rattle.maximal.specs.Modelling.{modelled, modelled-answer};
+ghost use Rattle.runs.specs.Composing.{composed};
 ghost use Rattle.runs.specs.Joining.{joined, joined-answer};
 ghost use Rattle.runs.specs.Showing.{shown};
 ghost use Rattle.runs.specs.Answer.{watched-answer};
 ghost use Rattle.runs.specs.Watching.{watched};
-ghost use Rattle.exports.specs.Boundary.{refused-numbers, verdict-numbers, checked-numbers, answer-numbers, Gives, GivesOut, fitting, work-lengths};
+ghost use Rattle.exports.specs.Boundary.{refused-numbers, verdict-numbers, checked-numbers, answer-numbers, Gives, GivesBoth, GivesOut, fitting, work-lengths};
 use files::cells::copy_at;
 use files::check::Checked;
 use files::record::Limits;
@@ -306,7 +307,35 @@ pub extern "C" fn tintboulder_watch(
     watched_answer(runs::watch(interface, graph, rules, start, out, work))
 }
 
-// The published length of a call's work buffer: 1 is judge, 2 compare, 3 model, 6 watch; 0 for other numbers.
+// The composed verdict: verdict 1 clean with every module that conforms, 2 bad, with the number of records of the trail, which is written to `out`.
+#[no_mangle]
+pub extern "C" fn tintboulder_compose(
+    known_interface: &[u8],
+    known_graph: &[u8],
+    other_interface: &[u8],
+    property: &[u8],
+    rules: &[u8],
+    start: u8,
+    out: &mut [u8],
+    store: &mut [u8],
+    work: &mut [u8],
+) -> Answer
+    ensures { λ a. ⌜ GivesBoth (composed desk (now («known_interface» .entry)) (now («known_graph» .entry)) (now («other_interface» .entry)) (now (property .entry)) (now (rules .entry)) start (length (now (out .entry))) (length (now (store .entry))) (length (now (work .entry)))) (now (out .entry)) (now (store .entry)) (now (work .entry)) (now (out .exit)) (now (store .exit)) (now (work .exit)) a ⌝ }
+{
+    watched_answer(runs::compose(
+        known_interface,
+        known_graph,
+        other_interface,
+        property,
+        rules,
+        start,
+        out,
+        store,
+        work,
+    ))
+}
+
+// The published length of a call's work buffer: 1 is judge, 2 compare, 3 model, 6 watch, 7 compose, 8 compose's store; 0 for other numbers.
 #[no_mangle]
 pub extern "C" fn tintboulder_work(call: u64) -> u64
     ensures { λ n. ⌜ n ≡ work-lengths call ⌝ }
@@ -321,6 +350,12 @@ pub extern "C" fn tintboulder_work(call: u64) -> u64
         return Places::ROOM as u64;
     }
     if call == 6 {
+        return Regions::ROOM as u64;
+    }
+    if call == 7 {
+        return Places::ROOM as u64;
+    }
+    if call == 8 {
         return Regions::ROOM as u64;
     }
     0
