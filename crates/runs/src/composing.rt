@@ -89,9 +89,10 @@ fn watch_model(
     match model_within(other, property, store, work, limits) {
         Modelled::Refused(refusal) => Verdict::Refused(refusal),
         Modelled::Written(nodes2, edges2) => {
+            let edges = records - nodes;
             let s = Sizes {
                 nodes: nodes,
-                edges: records - nodes,
+                edges: edges,
                 nodes2: nodes2,
                 edges2: edges2,
             };

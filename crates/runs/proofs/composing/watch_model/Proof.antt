@@ -19,8 +19,8 @@ enum-known-refusal c = search needs
 enum-known-nodes2 : tie.Need-enum-known-nodes2
 enum-known-nodes2 c = search needs
 
-sub-t23 : tie.Need-sub-t23
-sub-t23 c =
+sub-edges : tie.Need-sub-edges
+sub-edges c =
     let k = c .before .before .before .before .before .before .before .before .before .before .before .before .before .before .before .before .before .before in
     omega (arith, k .pre .0 .nodes-are, k .pre .0 .records-are, few (k .args .limits) (k .args .graph .now) (k .pre .0 .graph-within))
 
@@ -79,7 +79,7 @@ watch-model-spec =
     model-within-requires
     enum-known-refusal
     enum-known-nodes2
-    sub-t23
+    sub-edges
     watch-joined-requires
     same-length
     same-length-2
