@@ -60,7 +60,17 @@ struct tintboulder_answer tintboulder_show(const uint8_t *graph1, size_t graph1_
 struct tintboulder_answer tintboulder_watch(const uint8_t *interface, size_t interface_length, const uint8_t *graph, size_t graph_length, const uint8_t *rules,
                                             size_t rules_length, uint8_t start, uint8_t *out, size_t out_length, uint8_t *work, size_t work_length);
 
-/* The least length of the work buffer of a call: 1 judge, 2 compare, 3 model, 6 watch; 0 for other numbers. */
+/* The composed verdict, for a side that is not written yet: is every run clean, from the start method, of the known graph joined with a flow graph of the other
+   interface that satisfies the property, whichever and however large it is? Verdict 1: clean. Verdict 2: bad; first is the number of records of the trail, which is
+   written to out, 6 bytes each: a run of the known graph joined with the maximal model, the known graph's nodes first. Interfaces, graph, property and rules are
+   refused as files 1 to 5, and a start that is not 1 to 8 by 3 with file 0 and record 0. store and work are both scratch as work above, of at least
+   tintboulder_work(8) and tintboulder_work(7) bytes. */
+struct tintboulder_answer tintboulder_compose(const uint8_t *known_interface, size_t known_interface_length, const uint8_t *known_graph, size_t known_graph_length,
+                                              const uint8_t *other_interface, size_t other_interface_length, const uint8_t *property, size_t property_length,
+                                              const uint8_t *rules, size_t rules_length, uint8_t start, uint8_t *out, size_t out_length, uint8_t *store,
+                                              size_t store_length, uint8_t *work, size_t work_length);
+
+/* The least length of the work buffer of a call: 1 judge, 2 compare, 3 model, 6 watch, 7 compose; 8 is that of compose's store; 0 for other numbers. */
 uint64_t tintboulder_work(uint64_t call);
 
 #ifdef __cplusplus

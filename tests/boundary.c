@@ -1,5 +1,5 @@
-/* The header against the static library: one accepted and one refused file of each kind; judging, comparing, modelling, joining, showing and watching, with
-   the buffers they are lent. Exits with the number of answers that are wrong. */
+/* The header against the static library: one accepted and one refused file of each kind; judging, comparing, modelling, joining, showing, watching and the composed
+   verdict, with the buffers they are lent. Exits with the number of answers that are wrong. */
 #include "../include/tintboulder.h"
 
 #include <string.h>
@@ -39,6 +39,12 @@ static int filled(const uint8_t *bytes, size_t length, uint8_t with)
     return i == length;
 }
 
+/* What was lent of a work buffer that held nothing but 7 is zero, or as it was after 13; what was not lent is as it was. */
+static int cleared(const uint8_t *work, size_t length, uint32_t number)
+{
+    return filled(work, length, number == 13 ? 7 : 0) && filled(work + length, MOST_WORK - length, 7);
+}
+
 /* The example with this much output and work: the answer's numbers, the result or no change in out, and zeros or no change in what was lent of work. */
 static int answers(const struct example *e, size_t out_length, size_t work_length, uint32_t verdict, uint32_t number)
 {
@@ -50,8 +56,7 @@ static int answers(const struct example *e, size_t out_length, size_t work_lengt
     memset(work, 7, MOST_WORK);
     a = e->call(e->first, e->first_length, e->second, e->second_length, out, out_length, work, work_length);
     return a.verdict == verdict && a.number == number && a.first == (said ? e->values[0] : 0) && a.second == (said ? e->values[1] : 0) && a.third == 0 && a.fourth == 0
-        && memcmp(out, e->result, written) == 0 && filled(out + written, MOST_OUT - written, 7) && filled(work, work_length, number == 13 ? 7 : 0)
-        && filled(work + work_length, MOST_WORK - work_length, 7);
+        && memcmp(out, e->result, written) == 0 && filled(out + written, MOST_OUT - written, 7) && cleared(work, work_length, number);
 }
 
 /* Its verdict, and the refusals 12 and 13. */
@@ -151,7 +156,7 @@ static int watches(uint8_t start, size_t out_length, size_t work_length, uint32_
     memset(work, 7, MOST_WORK);
     a = tintboulder_watch(interface, sizeof interface, graph, sizeof graph, rules, sizeof rules, start, out, out_length, work, work_length);
     return gives(a, verdict, number, verdict == 0 ? no_values : records, out, trail, verdict == 0 ? 0 : sizeof trail)
-        && filled(work, work_length, number == 13 ? 7 : 0) && filled(work + work_length, MOST_WORK - work_length, 7);
+        && cleared(work, work_length, number);
 }
 
 /* Bad with its two records, and the refusals by 3 and 10, for the start method, and by 12 and 13. */
@@ -160,6 +165,45 @@ static int wrong_watching(void)
     size_t room = 46949;
     return !watches(1, 14, room, 2, 0) + !watches(9, 14, room, 0, 3) + !watches(2, 14, room, 0, 10) + !watches(1, 11, room, 0, 12)
         + !watches(1, 12, room - 1, 0, 13) + (tintboulder_work(6) != room);
+}
+
+/* Bytes lent to the composed verdict. */
+struct lent {
+    size_t out, store, work;
+};
+
+/* No call of method 1, now or after internal steps; and no demand at all. */
+static const uint8_t no_call[] = {3, 7, 1, 2, 0, 0, 3, 9, 1, 3, 0, 0, 3, 9, 0, 0, 0, 0, 3, 2, 0, 0, 0, 0};
+static const uint8_t anything[] = {3, 1, 0, 0, 0, 0};
+
+/* The composed verdict of method 1, which calls method 2 again and again, where method 2 is not written and its call of 1 is bad: the answer's numbers, the trail or no
+   change in out, and zeros or no change in store and work. */
+static int composes(const uint8_t *property, size_t length, uint8_t start, struct lent lent, uint32_t verdict, uint32_t number)
+{
+    static const uint8_t known[] = {5, 1, 2, 0, 0, 0}, other[] = {5, 2, 1, 0, 0, 0};
+    static const uint8_t graph[] = {1, 1, 0, 1, 0, 0, 2, 0, 2, 0, 0, 0};
+    static const uint8_t rules[] = {4, 0, 1, 2, 1, 7};
+    static const uint8_t trail[] = {0, 0, 0, 0, 0, 0, 0, 0, 2, 2, 2, 0, 2, 0, 2, 1, 0, 7};
+    static const uint64_t records[4] = {sizeof trail / 6, 0, 0, 0};
+    static uint8_t out[MOST_OUT], store[MOST_WORK], work[MOST_WORK];
+    struct tintboulder_answer a;
+    memset(out, 7, MOST_OUT);
+    memset(store, 7, MOST_WORK);
+    memset(work, 7, MOST_WORK);
+    a = tintboulder_compose(known, sizeof known, graph, sizeof graph, other, sizeof other, property, length, rules, sizeof rules, start, out, lent.out, store,
+                            lent.store, work, lent.work);
+    return gives(a, verdict, number, verdict == 2 ? records : no_values, out, trail, verdict == 2 ? sizeof trail : 0) && cleared(store, lent.store, number)
+        && cleared(work, lent.work, number);
+}
+
+/* Clean by the property, and without it bad with three records; then the refusals by 3 and 10, for the start method, by 12, and by 13 for each of both buffers. */
+static int wrong_composing(void)
+{
+    static const struct lent whole = {20, 46949, 103456}, short_out = {17, 46949, 103456}, short_store = {18, 46948, 103456}, short_work = {18, 46949, 103455};
+    const size_t n = sizeof anything;
+    return !composes(no_call, sizeof no_call, 1, whole, 1, 0) + !composes(anything, n, 1, whole, 2, 0) + !composes(anything, n, 9, whole, 0, 3)
+        + !composes(anything, n, 3, whole, 0, 10) + !composes(anything, n, 1, short_out, 0, 12) + !composes(anything, n, 1, short_store, 0, 13)
+        + !composes(anything, n, 1, short_work, 0, 13) + (tintboulder_work(7) != whole.work) + (tintboulder_work(8) != whole.store);
 }
 
 int main(void)
@@ -183,6 +227,7 @@ int main(void)
     wrong += wrong_joining();
     wrong += wrong_showing();
     wrong += wrong_watching();
+    wrong += wrong_composing();
     wrong += tintboulder_work(0) != 0;
     return wrong;
 }

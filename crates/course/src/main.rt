@@ -1,7 +1,7 @@
 // Runs the examples of data/ through the proved code, one after the other as the arguments name them. The first letter of a name tells what its file is: a graph,
 // property, rule or interface file is checked, and its line has `accepted`, nodes and records, or `refused`, number, file and record; `judge`, `compare` and
-// `model` name a call on two files, `join` (by its second letter) one on two sides, `show` one on two graphs and a number and `watch` one on three files and a
-// start method, and the verdict's line is followed by the records or the relation's lines that it wrote.
+// `model` name a call on two files, `join` (by its second letter) one on two sides, `show` one on two graphs and a number, `watch` one on three files and a
+// start method and `compose` (by its fifth letter) one on five, and the verdict's line is followed by the records or the relation's lines that it wrote.
 ghost use mathlib.Core.Path.{_≡_};
 ghost use Prim.Native.Nat.{_+_, _*_, _≤_, _<_};
 ghost use lib.ListN.{length};
@@ -187,10 +187,12 @@ fn say_modelled(answer: Modelled, out: &[u8]) {
     }
 }
 
-fn two_bytes(low: u8, high: u8) -> usize
+// The number that an example has in two bytes from i on, low byte first.
+fn two_bytes(example: &[u8], i: usize) -> usize
+    requires { ⌜ i + 1 < length (now example) ⌝ }
     ensures { λ r. ⌜ r < 65536 ⌝ }
 {
-    wide(low) + 256 * wide(high)
+    wide(example[i]) + 256 * wide(example[i + 1])
 }
 
 // The published length of the call that a letter names, where the flag is 1.
@@ -249,8 +251,8 @@ fn call(letter: u8, example: &[u8]) {
     if example.len() < Record::LEN {
         return;
     }
-    let split = Record::LEN + two_bytes(example[0], example[1]);
-    let room = two_bytes(example[2], example[3]);
+    let split = Record::LEN + two_bytes(example, 0);
+    let room = two_bytes(example, 2);
     let lent = work_length(letter, example[4]);
     if example.len() < split {
         return;
@@ -310,10 +312,10 @@ fn join_sides(example: &[u8]) {
     if example.len() < 8 {
         return;
     }
-    let first = 8 + two_bytes(example[0], example[1]);
-    let second = first + two_bytes(example[2], example[3]);
-    let third = second + two_bytes(example[4], example[5]);
-    let room = two_bytes(example[6], example[7]);
+    let first = 8 + two_bytes(example, 0);
+    let second = first + two_bytes(example, 2);
+    let third = second + two_bytes(example, 4);
+    let room = two_bytes(example, 6);
     if example.len() < third {
         return;
     }
@@ -333,8 +335,8 @@ fn show_node(example: &[u8]) {
     if example.len() < 4 {
         return;
     }
-    let split = 4 + two_bytes(example[0], example[1]);
-    let number = two_bytes(example[2], example[3]);
+    let split = 4 + two_bytes(example, 0);
+    let number = two_bytes(example, 2);
     if example.len() < split {
         return;
     }
@@ -395,9 +397,9 @@ fn watch_runs(example: &[u8]) {
     if example.len() < 8 {
         return;
     }
-    let first = 8 + two_bytes(example[0], example[1]);
-    let second = first + two_bytes(example[2], example[3]);
-    let room = two_bytes(example[4], example[5]);
+    let first = 8 + two_bytes(example, 0);
+    let second = first + two_bytes(example, 2);
+    let room = two_bytes(example, 4);
     let lent = work_length(b'w', example[6]);
     if example.len() < second {
         return;
@@ -412,6 +414,71 @@ fn watch_runs(example: &[u8]) {
         &mut out,
         &mut work,
         room,
+        lent,
+    );
+}
+
+fn compose_on(
+    known_interface: &[u8],
+    known_graph: &[u8],
+    other_interface: &[u8],
+    property: &[u8],
+    rules: &[u8],
+    start: u8,
+    out: &mut [u8],
+    store: &mut [u8],
+    work: &mut [u8],
+    room: usize,
+    held: usize,
+    lent: usize,
+)
+    requires { ⌜ (room ≤ length (now out)) × ((held ≤ length (now store)) × (lent ≤ length (now work))) ⌝ }
+{
+    let answer = runs::compose(
+        known_interface,
+        known_graph,
+        other_interface,
+        property,
+        rules,
+        start,
+        &mut out[..room],
+        &mut store[..held],
+        &mut work[..lent],
+    );
+    say_watched(answer, &out[..room]);
+}
+
+// The composed verdict. The example starts with the lengths of the first four files and of the output, two bytes each, low byte first, then 1 for a store of the
+// published length or 0 for none, the same for a work buffer, and the start method; the five files follow.
+fn compose_sides(example: &[u8]) {
+    if example.len() < 13 {
+        return;
+    }
+    let first = 13 + two_bytes(example, 0);
+    let second = first + two_bytes(example, 2);
+    let third = second + two_bytes(example, 4);
+    let fourth = third + two_bytes(example, 6);
+    let room = two_bytes(example, 8);
+    let held = work_length(b'w', example[10]);
+    let lent = work_length(b'm', example[11]);
+    if example.len() < fourth {
+        return;
+    }
+    let mut out = [0u8; 65536];
+    let mut store = work_buffer();
+    let mut work = work_buffer();
+    compose_on(
+        &example[13..first],
+        &example[first..second],
+        &example[second..third],
+        &example[third..fourth],
+        &example[fourth..],
+        example[12],
+        &mut out,
+        &mut store,
+        &mut work,
+        room,
+        held,
         lent,
     );
 }
@@ -439,6 +506,10 @@ fn one(i: usize) {
     }
     if name[0] == b'w' {
         watch_runs(&file[..n]);
+        return;
+    }
+    if (name[0] == b'c') & (name[4] == b'o') {
+        compose_sides(&file[..n]);
         return;
     }
     if (name[0] == b'j') | (name[0] == b'c') | (name[0] == b'm') {

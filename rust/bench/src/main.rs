@@ -1,5 +1,6 @@
 //! Prints the time of each call in both implementations, side by side on the same bytes, and their ratio: `cargo run --release -p bench`.
 
+mod compose;
 mod inputs;
 mod join;
 mod judge;
@@ -14,8 +15,8 @@ use std::io;
 
 const NOTE: &str = "\
 Median of batches in turn, warm, one thread, the same bytes.
-proved: the output is as long as the result, the work buffer as published; the call clears the whole work buffer, and the time includes that. Joining and
-showing have none.
+proved: the output is as long as the result, work buffers as published; the call clears each of them whole, and the time includes that. Joining and showing
+have none, the composed verdict has two.
 second: takes its memory from the allocator in every call and clears nothing afterwards.";
 
 fn main() -> io::Result<()> {
@@ -26,7 +27,9 @@ fn main() -> io::Result<()> {
     let joining = (compare::join::CALL, join::inputs());
     let showing = (compare::show::CALL, show::inputs());
     let watching = (compare::watch::CALL, watch::inputs());
-    for (call, rows) in [judging, comparing, modelling, joining, showing, watching] {
+    let composing = (compare::compose::CALL, compose::inputs()?);
+    let calls = [judging, comparing, modelling, joining, showing, watching, composing];
+    for (call, rows) in calls {
         print_header(call.name);
         for row in &rows {
             print_line(&call, row);

@@ -20,7 +20,8 @@ pub fn print_line(call: &Call, row: &Timed) {
         [answer] => answer.clone(),
         _ => format!("{} pairs of files", answers.len()),
     };
-    let mut work = vec![0; (call.room)()];
+    let mut buffers = work_buffers(call);
+    let mut work: Vec<&mut [u8]> = buffers.iter_mut().map(Vec::as_mut_slice).collect();
     let mut out: Vec<Vec<u8>> = row.inputs.iter().map(|input| vec![0; need(call, input)]).collect();
     let proved = || {
         for (input, out) in row.inputs.iter().zip(&mut out) {
@@ -38,6 +39,10 @@ pub fn print_line(call: &Call, row: &Timed) {
     println!("{:36} {answer:28} {proved:>11} {second:>11} {ratio:>7.2}", row.name);
 }
 
+fn work_buffers(call: &Call) -> Vec<Vec<u8>> {
+    call.rooms.iter().map(|room| vec![0; room()]).collect()
+}
+
 /// The length of the result.
 fn need(call: &Call, input: &Input) -> usize {
     call.result(input).1.len()
@@ -46,7 +51,8 @@ fn need(call: &Call, input: &Input) -> usize {
 /// What both answer. Times of different answers would say nothing.
 fn agreed(call: &Call, input: &Input) -> String {
     let (expected, written) = call.result(input);
-    let (mut out, mut work) = (vec![0; written.len()], vec![0; (call.room)()]);
+    let (mut out, mut buffers) = (vec![0; written.len()], work_buffers(call));
+    let mut work: Vec<&mut [u8]> = buffers.iter_mut().map(Vec::as_mut_slice).collect();
     let answer = (call.proved)(input, &mut out, &mut work);
     assert!((answer, out) == (expected, written), "the implementations differ");
     match answer.verdict {

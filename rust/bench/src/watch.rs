@@ -37,7 +37,7 @@ fn closed(graph: &[u8], rules: Vec<u8>) -> [Vec<u8>; 3] {
 }
 
 /// A rule for every state and event.
-fn all_rules(next: fn(u8, u8) -> u8) -> Vec<u8> {
+pub fn all_rules(next: fn(u8, u8) -> u8) -> Vec<u8> {
     let pairs = || (1..=8).flat_map(|from| (1..=8).map(move |to| (from, to)));
     let keys = (0..7).flat_map(|state| [1, 2].map(|event| (state, event)));
     let rules = keys.flat_map(|(state, event)| {
@@ -46,20 +46,22 @@ fn all_rules(next: fn(u8, u8) -> u8) -> Vec<u8> {
     rules.flatten().collect()
 }
 
-/// Three methods; calls and returns of method 2 count up to the bad state, and a call of 3 by 2 starts again.
+/// Three methods, watched by these rules.
 fn typical(random: &mut Random) -> [Vec<u8>; 3] {
-    let rules = [
-        [4, 0, 1, 1, 2, 1],
-        [4, 1, 1, 2, 3, 0],
-        [4, 1, 2, 2, 1, 2],
-        [4, 2, 1, 2, 3, 0],
-        [4, 2, 2, 2, 1, 3],
-        [4, 3, 1, 2, 3, 0],
-        [4, 3, 1, 3, 1, 4],
-        [4, 4, 2, 2, 1, 7],
-    ];
-    [vec![5, 7, 7, 0, 0, 0], typical_graph(random), rules.concat()]
+    [vec![5, 7, 7, 0, 0, 0], typical_graph(random), TYPICAL_RULES.concat()]
 }
+
+/// Calls and returns of method 2 count up to the bad state, and a call of 3 by 2 starts again.
+pub const TYPICAL_RULES: [[u8; 6]; 8] = [
+    [4, 0, 1, 1, 2, 1],
+    [4, 1, 1, 2, 3, 0],
+    [4, 1, 2, 2, 1, 2],
+    [4, 2, 1, 2, 3, 0],
+    [4, 2, 2, 2, 1, 3],
+    [4, 3, 1, 2, 3, 0],
+    [4, 3, 1, 3, 1, 4],
+    [4, 4, 2, 2, 1, 7],
+];
 
 /// At each of its nodes but the last a method calls the next one or goes to the last, which returns; the state counts the calls that are open, up to 6.
 fn recursion() -> [Vec<u8>; 3] {

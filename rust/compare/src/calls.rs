@@ -1,41 +1,47 @@
-//! Calls that are lent an output and perhaps a work buffer, in both implementations on random cases.
+//! Calls that are lent an output and perhaps work buffers, in both implementations on random cases.
 
-use crate::case::{Case, Input};
+use crate::case::{buffers, Case, Input};
 use crate::minimal::{least, shrink};
-use crate::report::records;
-use crate::tally::Tally;
+use crate::tally::{Checked, Tally};
 use generator::generate::Random;
 use second::{Outcome, Refusal};
-use tintboulder::Answer;
+use tintboulder::{Answer, OnTwoFiles};
 
 pub struct Call {
     pub name: &'static str,
-    /// The published length of the work buffer; 0 where none is lent.
-    pub room: fn() -> usize,
-    /// The proved call with an output and a work buffer.
-    pub proved: fn(&Input, &mut [u8], &mut [u8]) -> Answer,
-    /// The second implementation with the lengths of output and work.
-    pub second: fn(&Input, usize, usize) -> Outcome,
+    /// The published length of each work buffer that is lent.
+    pub rooms: &'static [fn() -> usize],
+    /// The proved call with an output and the work buffers.
+    pub proved: fn(&Input, &mut [u8], &mut [&mut [u8]]) -> Answer,
+    /// The second implementation with the lengths of the output and of the work buffers.
+    pub second: fn(&Input, usize, &[usize]) -> Outcome,
     pub input: fn(&mut Random) -> Input,
     /// How many cases are run for each one that is asked for: more where a case is cheap.
     pub cases: u64,
+    /// What else is checked of a verdict that both give.
+    pub claim: Option<Claim>,
 }
 
+/// Checks by other means what a verdict and the bytes written say of an input; ends with a report where it is not so.
+pub type Claim = fn(&Input, u32, &[u8], &mut Random, &mut Checked) -> Result<(), String>;
+
 /// Ends with a report at the first case on which anything differs.
-pub fn run(random: &mut Random, call: &Call, count: u64) -> Result<Tally, String> {
-    let mut tally = Tally::default();
+pub fn run(random: &mut Random, call: &Call, count: u64) -> Result<(Tally, Checked), String> {
+    let (mut tally, mut checked) = (Tally::default(), Checked::default());
     for _ in 0..count * call.cases {
         let case = call.case(random);
-        match call.compare(&case) {
-            Ok(answer) => tally.count(answer.verdict, answer.number),
-            Err(_) => return Err(call.report(case)),
+        let Ok((answer, written)) = call.compare(&case) else { return Err(call.report(case)) };
+        tally.count(answer.verdict, answer.number);
+        if let (Some(claim), 1..) = (call.claim, answer.verdict) {
+            claim(&case.input, answer.verdict, &written, random, &mut checked)
+                .map_err(|wrong| format!("{}: {wrong}\n{}", call.name, case.input.listed()))?;
         }
     }
-    Ok(tally)
+    Ok((tally, checked))
 }
 
 impl Call {
-    /// Output from nothing to past the need; work mostly of the published length, seldom below it.
+    /// Output from nothing to past the need.
     fn case(&self, random: &mut Random) -> Case {
         let input = (self.input)(random);
         let need = self.result(&input).1.len();
@@ -46,23 +52,31 @@ impl Call {
             3 => need + random.below(4096),
             _ => need,
         };
-        let work = match ((self.room)(), random.below(16)) {
-            (0, _) => 0,
-            (room, 0) => random.below(room),
-            (room, 1) => room - 1,
-            (room, 2 | 3) => room + random.below(4096),
-            (room, _) => room,
-        };
-        Case { input, out, work, seed: random.number() }
+        Case { input, out, work: self.work(random), seed: random.number() }
+    }
+
+    /// The published lengths, but seldom a shorter buffer or a longer one.
+    fn work(&self, random: &mut Random) -> Vec<usize> {
+        let mut lengths: Vec<usize> = self.rooms.iter().map(|room| room()).collect();
+        if let Some(last) = lengths.len().checked_sub(1) {
+            let length = &mut lengths[random.below(last + 1)];
+            *length = match (*length, random.below(16)) {
+                (room, 0) => random.below(room),
+                (room, 1) => room - 1,
+                (room, 2 | 3) => room + random.below(4096),
+                (room, _) => room,
+            };
+        }
+        lengths
     }
 
     /// What the second implementation answers and writes when there is room for all of it.
     pub fn result(&self, input: &Input) -> (Answer, Vec<u8>) {
-        self.expected(input, usize::MAX, usize::MAX)
+        self.expected(input, usize::MAX, &vec![usize::MAX; self.rooms.len()])
     }
 
     /// The answer of the second implementation as six numbers, and the bytes that it writes.
-    fn expected(&self, input: &Input, out: usize, work: usize) -> (Answer, Vec<u8>) {
+    fn expected(&self, input: &Input, out: usize, work: &[usize]) -> (Answer, Vec<u8>) {
         match (self.second)(input, out, work) {
             Outcome::Said { verdict, values, written } => (answer(verdict, 0, &values), written),
             Outcome::Refused(Refusal { number, file, record }) => {
@@ -72,25 +86,22 @@ impl Call {
         }
     }
 
-    /// The answer of both, or what differs.
-    fn compare(&self, case: &Case) -> Result<Answer, String> {
+    /// The answer of both and the bytes that they write, or what differs.
+    fn compare(&self, case: &Case) -> Result<(Answer, Vec<u8>), String> {
         let lent = case.lent();
         let seen = lent.clone().after(|out, work| (self.proved)(&case.input, out, work));
-        let (answer, written) = self.expected(&case.input, case.out, case.work);
+        let (answer, written) = self.expected(&case.input, case.out, &case.work);
         let expected = lent.after_result(answer, &written);
-        seen.difference(&expected).map_or(Ok(answer), Err)
+        seen.difference(&expected).map_or(Ok((answer, written)), Err)
     }
 
     fn report(&self, case: Case) -> String {
         let case = self.minimal(case);
         let Case { input, out, work, seed } = &case;
-        let files = input.files.iter().zip(1..);
-        let files: String =
-            files.map(|(bytes, at)| format!("file {at}:\n{}", records(bytes))).collect();
         let difference = self.compare(&case).err().unwrap_or_default();
         format!(
-            "the implementations of {} differ on this case.\n{files}number {}, output {out}, work {work}, seed of both {seed}\n{difference}",
-            self.name, input.number
+            "the implementations of {} differ on this case.\n{}, output {out}, work {work:?}, seed of all {seed}\n{difference}",
+            self.name, input.listed()
         )
     }
 
@@ -105,12 +116,25 @@ impl Call {
             }
             case.input.number = least(case.input.number, |n| differs(&case.with_number(n)));
             case.out = least(case.out, |out| differs(&Case { out, ..case.clone() }));
-            case.work = least(case.work, |work| differs(&Case { work, ..case.clone() }));
+            for at in 0..case.work.len() {
+                case.work[at] = least(case.work[at], |length| differs(&case.with_work(at, length)));
+            }
             if case == before {
                 return case;
             }
         }
     }
+}
+
+/// The answer of a proved call on two files.
+pub fn on_two_files(
+    call: OnTwoFiles,
+    input: &Input,
+    out: &mut [u8],
+    work: &mut [&mut [u8]],
+) -> Answer {
+    let [work] = buffers(work);
+    call.answer(input.files(), out, work)
 }
 
 fn answer(verdict: u32, number: u32, values: &[u64]) -> Answer {

@@ -1,6 +1,8 @@
-//! One case of a call that is lent an output and perhaps a work buffer, and all that the call may change.
+//! One case of a call that is lent an output and perhaps work buffers, and all that the call may change.
 
+use crate::report::records;
 use generator::generate::Random;
+use std::iter;
 use tintboulder::Answer;
 
 /// Bytes on each side of a lent buffer that nobody may touch.
@@ -14,20 +16,20 @@ pub struct Input {
     pub number: usize,
 }
 
-/// What the call is about, the lengths of both buffers, and the seed of all that stands in them and around them.
+/// What the call is about, the lengths of the output and of each work buffer, and the seed of all that stands in them and around them.
 #[derive(Clone, PartialEq)]
 pub struct Case {
     pub input: Input,
     pub out: usize,
-    pub work: usize,
+    pub work: Vec<usize>,
     pub seed: u64,
 }
 
-/// The output and the work buffer with their margins.
+/// The output and the work buffers with their margins.
 #[derive(Clone)]
 pub struct Lent {
     out: Vec<u8>,
-    work: Vec<u8>,
+    work: Vec<Vec<u8>>,
 }
 
 /// What can be seen after a call.
@@ -47,13 +49,25 @@ impl Input {
     pub fn files<const N: usize>(&self) -> [&[u8]; N] {
         std::array::from_fn(|at| self.files[at].as_slice())
     }
+
+    /// The number as a start method.
+    pub fn start(&self) -> u8 {
+        self.number as u8
+    }
+
+    /// The files in decimals, and the number.
+    pub fn listed(&self) -> String {
+        let files = self.files.iter().zip(1..);
+        let files = files.map(|(bytes, at)| format!("file {at}:\n{}", records(bytes)));
+        format!("{}number {}", files.collect::<String>(), self.number)
+    }
 }
 
 impl Case {
     pub fn lent(&self) -> Lent {
         let mut random = Random::new(self.seed);
         let mut buffer = |length: usize| random.bytes(length + 2 * MARGIN);
-        Lent { out: buffer(self.out), work: buffer(self.work) }
+        Lent { out: buffer(self.out), work: self.work.iter().map(|&work| buffer(work)).collect() }
     }
 
     pub fn with_file(&self, at: usize, bytes: &[u8]) -> Case {
@@ -67,24 +81,41 @@ impl Case {
         case.input.number = number;
         case
     }
+
+    pub fn with_work(&self, at: usize, length: usize) -> Case {
+        let mut case = self.clone();
+        case.work[at] = length;
+        case
+    }
+}
+
+/// The work buffers, as many as the call is lent.
+pub fn buffers<'a, 'b, const N: usize>(work: &'a mut [&'b mut [u8]]) -> &'a mut [&'b mut [u8]; N] {
+    work.try_into().expect("a buffer for each published length")
 }
 
 impl Lent {
     /// What the call leaves that is lent these buffers.
-    pub fn after(mut self, call: impl FnOnce(&mut [u8], &mut [u8]) -> Answer) -> Seen {
-        let answer = call(inner(&mut self.out), inner(&mut self.work));
+    pub fn after(mut self, call: impl FnOnce(&mut [u8], &mut [&mut [u8]]) -> Answer) -> Seen {
+        let mut work: Vec<&mut [u8]> = self.work.iter_mut().map(|buffer| inner(buffer)).collect();
+        let answer = call(inner(&mut self.out), &mut work);
         Seen { answer, lent: self }
     }
 
-    /// What is to be seen after a call with this answer: the result at the start of the output, and zeros in the work buffer except after 13.
+    /// What is to be seen after a call with this answer: the result at the start of the output, and zeros in the work buffers except after 13.
     pub fn after_result(self, answer: Answer, written: &[u8]) -> Seen {
         self.after(|out, work| {
             out[..written.len()].copy_from_slice(written);
             if answer.number != SHORT_WORK {
-                work.fill(0);
+                work.iter_mut().for_each(|buffer| buffer.fill(0));
             }
             answer
         })
+    }
+
+    /// The output, then the work buffers.
+    fn buffers(&self) -> impl Iterator<Item = &Vec<u8>> {
+        iter::once(&self.out).chain(&self.work)
     }
 }
 
@@ -99,11 +130,11 @@ impl Seen {
         if self.answer != expected.answer {
             return Some(format!("proved: {:?}\nsecond: {:?}", self.answer, expected.answer));
         }
-        let out = ("output", &self.lent.out, &expected.lent.out);
-        let work = ("work", &self.lent.work, &expected.lent.work);
-        [out, work].into_iter().find_map(|(name, proved, second)| {
+        let mut pairs = self.lent.buffers().zip(expected.lent.buffers()).enumerate();
+        pairs.find_map(|(buffer, (proved, second))| {
             // Whole buffers first: they are equal but for the last case of a run.
             let at = (proved != second).then(|| (0..).find(|&at| proved[at] != second[at]))??;
+            let name = if buffer == 0 { "output".into() } else { format!("work {buffer}") };
             let place = at as i64 - MARGIN as i64;
             let (proved, second) = (proved[at], second[at]);
             Some(format!("{name} byte {place} is {proved}; by the second it is {second}"))
@@ -113,23 +144,26 @@ impl Seen {
 
 #[cfg(test)]
 mod tests {
-    use super::{inner, Case, Input, Seen, MARGIN, SHORT_WORK};
+    use super::{inner, Case, Input, Lent, Seen, MARGIN, SHORT_WORK};
     use tintboulder::Answer;
 
-    const INPUT: Input = Input { files: Vec::new(), number: 0 };
-    const CASE: Case = Case { input: INPUT, out: 3, work: 5, seed: 1 };
+    fn case() -> Case {
+        let input = Input { files: Vec::new(), number: 0 };
+        Case { input, out: 3, work: vec![5, 4], seed: 1 }
+    }
 
     fn seen(number: u32, written: &[u8]) -> Seen {
         let answer = Answer { verdict: 2, number, first: 1, second: 0, third: 0, fourth: 0 };
-        CASE.lent().after_result(answer, written)
+        case().lent().after_result(answer, written)
     }
 
     #[test]
     fn result_is_written_and_work_is_cleared() {
-        let (mut before, mut after) = (CASE.lent(), seen(0, &[1, 2]));
+        let (mut before, mut after) = (case().lent(), seen(0, &[1, 2]));
         let last = inner(&mut before.out)[2];
         assert_eq!(inner(&mut after.lent.out), [1, 2, last]);
-        assert_eq!(inner(&mut after.lent.work), [0; 5]);
+        assert_eq!(inner(&mut after.lent.work[0]), [0; 5]);
+        assert_eq!(inner(&mut after.lent.work[1]), [0; 4]);
         assert_eq!(seen(SHORT_WORK, &[]).lent.work, before.work);
     }
 
@@ -138,15 +172,14 @@ mod tests {
         let expected = seen(0, &[1, 2]);
         assert_eq!(seen(0, &[1, 2]).difference(&expected), None);
         assert!(seen(1, &[1, 2]).difference(&expected).is_some());
-        for at in 0..CASE.out + 2 * MARGIN {
-            let mut other = seen(0, &[1, 2]);
-            other.lent.out[at] ^= 1;
-            assert!(other.difference(&expected).is_some(), "output {at}");
-        }
-        for at in 0..CASE.work + 2 * MARGIN {
-            let mut other = seen(0, &[1, 2]);
-            other.lent.work[at] ^= 1;
-            assert!(other.difference(&expected).is_some(), "work {at}");
+        for (buffer, length) in [3, 5, 4].into_iter().enumerate() {
+            for at in 0..length + 2 * MARGIN {
+                let mut other = seen(0, &[1, 2]);
+                let Lent { out, work } = &mut other.lent;
+                let [store, work] = &mut work[..] else { panic!("two work buffers") };
+                [out, store, work][buffer][at] ^= 1;
+                assert!(other.difference(&expected).is_some(), "buffer {buffer} byte {at}");
+            }
         }
     }
 }

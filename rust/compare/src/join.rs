@@ -7,7 +7,7 @@ use tintboulder::join_answer;
 
 pub const CALL: Call = Call {
     name: "join",
-    room: || 0,
+    rooms: &[],
     proved: |input, out, _| join_answer(input.files(), out),
     second: |input, out, _| {
         let [interface1, graph1, interface2, graph2] = input.files();
@@ -15,6 +15,7 @@ pub const CALL: Call = Call {
     },
     input: |random| files(random).into(),
     cases: 2,
+    claim: None,
 };
 
 /// One pair in sixteen is about as large as a joined graph may be, and in one of six a file is damaged.

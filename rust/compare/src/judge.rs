@@ -1,20 +1,21 @@
 //! Judging in both implementations, and the pairs of files that it is compared on.
 
-use crate::calls::Call;
+use crate::calls::{on_two_files, Call};
 use generator::generate::{self, Kind, Random, Size};
 use second::Limits;
 use tintboulder::JUDGE;
 
 pub const CALL: Call = Call {
     name: "judge",
-    room: || JUDGE.work(),
-    proved: |input, out, work| JUDGE.answer(input.files(), out, work),
+    rooms: &[|| JUDGE.work()],
+    proved: |input, out, work| on_two_files(JUDGE, input, out, work),
     second: |input, out, work| {
         let [graph, property] = input.files();
-        second::judge(&Limits::DESK, graph, property, out, work, JUDGE.work())
+        second::judge(&Limits::DESK, graph, property, out, work[0], JUDGE.work())
     },
     input: |random| files(random).into(),
     cases: 1,
+    claim: None,
 };
 
 /// One pair in four is about the ranks of "or" rows; of the others one file in six is damaged, and one pair in sixteen is large.

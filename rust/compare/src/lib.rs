@@ -3,6 +3,8 @@
 pub mod calls;
 mod case;
 mod checks;
+mod claims;
+pub mod compose;
 pub mod join;
 pub mod judge;
 mod minimal;
@@ -18,8 +20,15 @@ pub use case::Input;
 use generator::generate::{Kind, Random};
 use tally::Tally;
 
-const CALLS: &[Call] =
-    &[judge::CALL, simulation::CALL, model::CALL, join::CALL, show::CALL, watch::CALL];
+const CALLS: &[Call] = &[
+    judge::CALL,
+    simulation::CALL,
+    model::CALL,
+    join::CALL,
+    show::CALL,
+    watch::CALL,
+    compose::CALL,
+];
 
 /// Prints a line for each call, or ends with the report of a difference.
 pub fn run(seed: u64, count: u64) -> Result<(), String> {
@@ -30,7 +39,11 @@ pub fn run(seed: u64, count: u64) -> Result<(), String> {
         println!("{}", tally.line(&format!("check {kind:?}").to_lowercase()));
     }
     for call in CALLS {
-        println!("{}", calls::run(&mut random, call, count)?.line(call.name));
+        let (tally, checked) = calls::run(&mut random, call, count)?;
+        println!("{}", tally.line(call.name));
+        if call.claim.is_some() {
+            println!("{}", checked.line());
+        }
     }
     Ok(())
 }

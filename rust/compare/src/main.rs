@@ -1,5 +1,5 @@
 //! Runs both implementations on random files and reports the first difference as a minimal case: `compare SEED COUNT`, COUNT files of each kind and COUNT cases of
-//! each call, or twice as many where they are cheap.
+//! each call, or twice as many where they are cheap. What a composed verdict says is also checked on runs and on random graphs that conform.
 
 use std::env;
 use std::process::ExitCode;

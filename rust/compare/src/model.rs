@@ -1,20 +1,21 @@
 //! Modelling in both implementations, and the pairs of files that it is compared on.
 
-use crate::calls::Call;
+use crate::calls::{on_two_files, Call};
 use generator::generate::{self, Kind, Random, Size};
 use second::Limits;
 use tintboulder::MODEL;
 
 pub const CALL: Call = Call {
     name: "model",
-    room: || MODEL.work(),
-    proved: |input, out, work| MODEL.answer(input.files(), out, work),
+    rooms: &[|| MODEL.work()],
+    proved: |input, out, work| on_two_files(MODEL, input, out, work),
     second: |input, out, work| {
         let [interface, property] = input.files();
-        second::model(&Limits::DESK, interface, property, out, work, MODEL.work())
+        second::model(&Limits::DESK, interface, property, out, work[0], MODEL.work())
     },
     input: |random| files(random).into(),
     cases: 1,
+    claim: None,
 };
 
 /// One interface in sixteen and one property in eight is damaged; one property in eight is large, where most models pass the limits.

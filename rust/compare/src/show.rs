@@ -10,11 +10,12 @@ use tintboulder::show_answer;
 
 pub const CALL: Call = Call {
     name: "show",
-    room: || 0,
+    rooms: &[],
     proved: |input, out, _| show_answer(input.files(), input.number as u64, out),
     second: |input, out, _| written(input, out),
     input,
     cases: 2,
+    claim: None,
 };
 
 /// The second implementation shows the record; that it goes to an output, which may be too short, is the boundary's.

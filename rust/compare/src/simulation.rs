@@ -1,20 +1,21 @@
 //! Comparing graphs in both implementations, and the pairs of graphs on which that is done.
 
-use crate::calls::Call;
+use crate::calls::{on_two_files, Call};
 use generator::generate::{self, Kind, Random, Size};
 use second::Limits;
 use tintboulder::COMPARE;
 
 pub const CALL: Call = Call {
     name: "compare",
-    room: || COMPARE.work(),
-    proved: |input, out, work| COMPARE.answer(input.files(), out, work),
+    rooms: &[|| COMPARE.work()],
+    proved: |input, out, work| on_two_files(COMPARE, input, out, work),
     second: |input, out, work| {
         let [first, second] = input.files();
-        second::compare(&Limits::DESK, first, second, out, work, COMPARE.work())
+        second::compare(&Limits::DESK, first, second, out, work[0], COMPARE.work())
     },
     input: |random| files(random).into(),
     cases: 1,
+    claim: None,
 };
 
 /// Half of the pairs differ by an edge at most, one file in eight is damaged, and one pair in 64 is large: the second implementation takes milliseconds there.

@@ -31,6 +31,29 @@ impl Tally {
     }
 }
 
+/// What was checked of verdicts beside their bytes.
+#[derive(Default)]
+pub struct Checked {
+    /// Trails that were replayed as runs.
+    pub replayed: u64,
+    /// Trails whose runs are too long to be replayed.
+    pub too_long: u64,
+    /// Conforming graphs that were judged, and watched beside the known graph.
+    pub watched: u64,
+    /// Those of them that are larger than a file may be.
+    pub past_the_limits: u64,
+}
+
+impl Checked {
+    pub fn line(&self) -> String {
+        let Checked { replayed, too_long, watched, past_the_limits } = self;
+        format!(
+            "{:17}{replayed} trails replayed as runs, {too_long} too long; {watched} conforming graphs watched, {past_the_limits} of them past the limits",
+            ""
+        )
+    }
+}
+
 fn line(call: &str, said: [String; 3], refused: impl Iterator<Item = String>) -> String {
     let said = said.iter().map(|text| format!(" {text:>9}"));
     let columns: String = said.chain(refused.map(|text| format!(" {text:>6}"))).collect();

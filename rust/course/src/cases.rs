@@ -18,6 +18,11 @@ impl Case {
         of_kind.map(|(name, bytes)| (name.as_str(), bytes.as_slice()))
     }
 
+    /// Those of the side that is known, where there is another.
+    pub fn known<'a>(&'a self, kind: &'a str) -> impl Iterator<Item = (&'a str, &'a [u8])> {
+        self.files(kind).filter(|(name, _)| !name[kind.len()..].starts_with('2'))
+    }
+
     /// Every file, named for what it is and then for its case.
     pub fn examples(&self) -> Vec<Example> {
         let files = self.files.iter();

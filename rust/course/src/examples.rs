@@ -62,7 +62,7 @@ pub fn at_the_limits() -> Vec<Example> {
         all.push(example(&format!("graph-{nodes}-nodes"), &vec![NODE; nodes]));
     }
     for edges in [4096, 4097] {
-        all.push(example(&format!("graph-{edges}-edges"), &with_edges(edges)));
+        all.push(example(&format!("graph-{edges}-edges"), &with_edges(NODE, 256, edges)));
     }
     for rows in [32, 33] {
         all.push(example(&format!("property-{rows}-rows"), &vec![LITERAL; rows]));
@@ -73,8 +73,9 @@ pub fn at_the_limits() -> Vec<Example> {
     all
 }
 
-/// 256 nodes of one method and the first edges in order, without a label.
-fn with_edges(edges: usize) -> Vec<Record> {
-    let ends = (0..=255).flat_map(|from| (0..=255).map(move |to| [2, from, 0, to, 0, 0]));
-    vec![NODE; 256].into_iter().chain(ends.take(edges)).collect()
+/// So many nodes and the first edges in order, without a label.
+pub fn with_edges(node: Record, nodes: usize, edges: usize) -> Vec<Record> {
+    let numbers = || (0..nodes).map(|at| at as u8);
+    let ends = numbers().flat_map(|from| numbers().map(move |to| [2, from, 0, to, 0, 0]));
+    vec![node; nodes].into_iter().chain(ends.take(edges)).collect()
 }

@@ -3,6 +3,7 @@
 
 use crate::calls::decimals;
 use crate::cases::Case;
+use crate::examples::with_edges;
 use crate::Example;
 use second::record::Limits;
 use second::{join, Outcome};
@@ -54,13 +55,8 @@ pub fn of_the_paper() -> Vec<Example> {
 }
 
 pub fn at_the_limits() -> Vec<Example> {
-    let side = |interface: Record, node: Record, nodes: usize, edges: usize| {
-        let count = nodes as u8;
-        let ends = (0..count).flat_map(|from| (0..count).map(move |to| [2, from, 0, to, 0, 0]));
-        [vec![interface], vec![node; nodes], ends.take(edges).collect()].concat()
-    };
-    let first = |nodes, edges| side(CALLING[0], ENTRY, nodes, edges);
-    let second = |nodes, edges| side(CALLED[0], CALLEE, nodes, edges);
+    let first = |nodes, edges| [vec![CALLING[0]], with_edges(ENTRY, nodes, edges)].concat();
+    let second = |nodes, edges| [vec![CALLED[0]], with_edges(CALLEE, nodes, edges)].concat();
     vec![
         whole("200-and-56-nodes", &first(200, 0), &second(56, 0)),
         whole("11-200-and-57-nodes", &first(200, 0), &second(57, 0)),
@@ -83,10 +79,9 @@ pub fn of_lent_buffers() -> Vec<Example> {
 pub fn of_cases(cases: &[Case]) -> Vec<Example> {
     let mut all = Vec::new();
     for case in cases {
-        let known =
-            |kind| case.files(kind).filter(move |(name, _)| !name[kind.len()..].starts_with('2'));
-        for ((_, interface1), (_, interface2)) in known("interface").zip(case.files("interface2")) {
-            for (name1, graph1) in known("graph") {
+        let interfaces = case.known("interface").zip(case.files("interface2"));
+        for ((_, interface1), (_, interface2)) in interfaces {
+            for (name1, graph1) in case.known("graph") {
                 for (name2, graph2) in case.files("graph2") {
                     let name = format!("{name1}-{name2}-of-{}", case.name);
                     all.push(example(&name, [interface1, graph1, interface2, graph2], LONG));

@@ -3,6 +3,7 @@
 mod calls;
 mod cases;
 mod compared;
+mod composed;
 mod examples;
 mod joined;
 mod judged;
@@ -11,6 +12,7 @@ mod modelled;
 mod shown;
 mod watched;
 
+pub use composed::Study;
 use second::files::{check_graph, check_interface, check_property, check_rules};
 use second::record::{Limits, RECORD_LEN};
 use std::io;
@@ -49,7 +51,17 @@ pub fn examples() -> io::Result<Vec<Example>> {
     all.extend(watched::of_the_paper());
     all.extend(watched::of_lent_buffers());
     all.extend(watched::of_cases(&cases));
+    all.extend(composed::of_the_paper());
+    all.extend(composed::of_refusals());
+    all.extend(composed::at_the_limits());
+    all.extend(composed::of_lent_buffers());
+    all.extend(composed::of_cases(&cases));
     Ok(all)
+}
+
+/// The case studies of which one side is not written.
+pub fn studies() -> io::Result<Vec<Study>> {
+    Ok(composed::studies(&cases::read(&repository().join("cases"))?))
 }
 
 /// What the program `listing` is run on.
@@ -77,6 +89,9 @@ pub fn line(example: &Example) -> String {
     }
     if name.starts_with("watch-") {
         return watched::lines(name, bytes);
+    }
+    if name.starts_with("compose-") {
+        return composed::lines(name, bytes);
     }
     let nodes = match name.as_bytes().first() {
         Some(b'g') => check_graph(bytes, &Limits::DESK).map(|graph| graph.nodes.len()),

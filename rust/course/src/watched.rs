@@ -12,7 +12,7 @@ type Record = [u8; 6];
 /// The published length of watching's work buffer.
 const ROOM: usize = 46_949;
 /// Room for every trail: one record for each node and state, and the bad one.
-const LONG: usize = 6 * (256 * 7 + 1);
+pub const LONG: usize = 6 * (256 * 7 + 1);
 /// Bytes before the files.
 const HEADER: usize = 8;
 
@@ -102,7 +102,13 @@ pub fn lines(name: &str, bytes: &[u8]) -> String {
     let (interface, rest) = bytes[HEADER..].split_at(number(0));
     let (graph, rules) = rest.split_at(number(2));
     let work_len = if bytes[6] == 1 { ROOM } else { 0 };
-    let said = watch(&Limits::DESK, interface, graph, rules, bytes[7], number(4), work_len, ROOM);
+    let start = bytes[7];
+    let said = watch(&Limits::DESK, interface, graph, rules, start, number(4), work_len, ROOM);
+    verdict_lines(name, said)
+}
+
+/// What the program prints of a verdict on runs.
+pub fn verdict_lines(name: &str, said: Outcome) -> String {
     match said {
         Outcome::Refused(r) => format!("{name}: refused {} {} {}\n", r.number, r.file, r.record),
         Outcome::Said { verdict: 1, .. } => format!("{name}: clean\n"),

@@ -2,6 +2,7 @@
 
 use crate::generate::{interface_of, LIMITS};
 use crate::graphs::{graph_file, node, Edges};
+use crate::runs::{CALL, RETURN_TO};
 use second::record::{kind, Record, BAD};
 
 const LAST: u8 = (LIMITS.nodes - 1) as u8;
@@ -81,9 +82,6 @@ pub fn slow_summary() -> [Vec<u8>; 3] {
     let rules = (0..BAD as u8).flat_map(step).collect();
     [interface_of(1, 1), graph_file(&nodes, &edges), rules]
 }
-
-const CALL: u8 = 1;
-const RETURN_TO: u8 = 2;
 
 /// A closed side, and rules by which this event between the method and method 1 steps the monitor.
 fn runs(provided: u8, graph: Vec<u8>, event: u8, method: u8) -> [Vec<u8>; 3] {

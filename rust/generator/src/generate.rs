@@ -1,5 +1,6 @@
 //! Random files: valid ones, small or at the limits, and damaged ones.
 
+pub use crate::composed::{composition, Composition};
 pub use crate::damage::damaged;
 pub use crate::graded::graded;
 pub use crate::graphs::{graph, graph_of, scattered, without_an_edge};

@@ -10,9 +10,7 @@ pub fn graph(random: &mut Random, size: Size) -> Vec<u8> {
 
 /// A graph of the interface with these two sets.
 pub fn graph_of(random: &mut Random, size: Size, provided: u8, required: u8) -> Vec<u8> {
-    let methods = members(provided);
-    let mut labels = vec![0];
-    labels.extend(members(required));
+    let (methods, labels) = (members(provided), labels_of(required));
     if methods.is_empty() {
         return Vec::new();
     }
@@ -36,6 +34,11 @@ pub fn graph_of(random: &mut Random, size: Size, provided: u8, required: u8) -> 
 
 pub(crate) fn members(set: u8) -> Vec<u8> {
     (1..=METHODS as u8).filter(|m| set >> (m - 1) & 1 == 1).collect()
+}
+
+/// The internal step and the calls that a graph may have.
+pub(crate) fn labels_of(required: u8) -> Vec<u8> {
+    [vec![0], members(required)].concat()
 }
 
 pub(crate) type Edges = BTreeSet<(u8, u8, u8)>;

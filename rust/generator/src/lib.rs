@@ -1,5 +1,7 @@
 //! Random files for comparing two implementations of the flow-graph checker.
 
+mod composed;
+pub mod conforming;
 mod damage;
 pub mod extremes;
 pub mod generate;

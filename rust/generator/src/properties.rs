@@ -1,7 +1,8 @@
 //! Random valid properties.
 
 use crate::generate::{label, method, Random, Size, LIMITS};
-use second::record::{kind, Record};
+use crate::graphs::{labels_of, members};
+use second::record::{kind, Interface, Record};
 
 pub fn property(random: &mut Random, size: Size) -> Vec<u8> {
     let records = match (size, random.below(4)) {
@@ -77,4 +78,55 @@ pub(crate) fn many_ors(random: &mut Random, ors: usize) -> Vec<Record> {
         records.push(row(random, operator, LIMITS.rows));
     }
     records
+}
+
+/// One or two phases, row 0 the first. A phase says of each label of the interface that no such step is taken, mostly of those that are forbidden, or which phase holds
+/// after it; one demand of a phase may be about one method or about return nodes only. Their models are small.
+pub(crate) fn guarded(random: &mut Random, interface: Interface, forbidden: u8) -> Vec<u8> {
+    let phases = 1 + random.below(2);
+    let mut records = vec![TRUE; phases];
+    let never = pushed(&mut records, [kind::ROW, 2, 0, 0, 0, 0]);
+    let forbidden = members(forbidden);
+    for phase in 0..phases {
+        let mut demands = Vec::new();
+        for label in labels_of(interface.required).into_iter().take(5) {
+            let then = match (random.below(16), forbidden.contains(&label)) {
+                (0, _) => continue,
+                (1, _) => random.pick(&[never, 0]),
+                (_, true) => never,
+                (_, false) => random.below(phases) as u8,
+            };
+            demands.push(pushed(&mut records, [kind::ROW, 9, label, then, 0, 0]));
+        }
+        if let (Some(demand), true) = (demands.last_mut(), random.once_in(4)) {
+            let operator = random.pick(&[3, 4, 5, 6]);
+            let condition = row(random, operator, 1);
+            let condition = pushed(&mut records, condition);
+            *demand = pushed(&mut records, [kind::ROW, 8, condition, *demand, 0, 0]);
+        }
+        conjunction(&mut records, phase, &demands);
+    }
+    records.concat()
+}
+
+const TRUE: Record = [kind::ROW, 1, 0, 0, 0, 0];
+
+/// The number of one more row.
+fn pushed(records: &mut Vec<Record>, record: Record) -> u8 {
+    records.push(record);
+    records.len() as u8 - 1
+}
+
+/// Makes a row demand all of some rows, through further rows where there are more than two.
+fn conjunction(records: &mut Vec<Record>, row: usize, demands: &[u8]) {
+    let (first, rest) = match *demands {
+        [] => return,
+        [only] => (only, only),
+        [first, second] => (first, second),
+        [first, ..] => (first, pushed(records, TRUE)),
+    };
+    records[row] = [kind::ROW, 7, first, rest, 0, 0];
+    if demands.len() > 2 {
+        conjunction(records, rest.into(), &demands[1..]);
+    }
 }

@@ -2,6 +2,7 @@
 
 use crate::generate::{graph_of, interface_of, rule_file, rules, Key, Random, Size, LIMITS};
 use crate::graphs::{graph_file, members, node, Edges};
+use crate::sides::foreign;
 use second::record::{kind, BAD, METHODS, RECORD_LEN};
 use std::collections::BTreeMap;
 
@@ -29,11 +30,7 @@ fn of_an_interface(random: &mut Random, size: Size) -> [Vec<u8>; 3] {
     let provided = random.pick(&[1, 3, 7, u8::MAX, any[0] | 1]);
     let open = if random.once_in(16) { any[1] } else { 0 };
     let required = provided & random.pick(&[u8::MAX, any[2]]) | open;
-    let [methods, calls] = match random.below(16) {
-        0 => [random.byte(), 0],
-        1 => [0, random.byte()],
-        _ => [0, 0],
-    };
+    let [methods, calls] = foreign(random, 8);
     let mut graph = graph_of(random, size, provided | methods, required | calls);
     // One method without a return node, or without an entry.
     if random.once_in(4) {
@@ -76,8 +73,8 @@ fn depths(random: &mut Random) -> Vec<u8> {
     rule_file(next)
 }
 
-const CALL: u8 = 1;
-const RETURN_TO: u8 = 2;
+pub(crate) const CALL: u8 = 1;
+pub(crate) const RETURN_TO: u8 = 2;
 
 /// Method 1 goes round all its nodes, and only the last call of a round steps the monitor: one of method 1, which is entered, or of method 4, which is passed over. On
 /// the way are calls of method 2, which return, seldom one of method 3, which never does, and seldom edges that make the way shorter.

@@ -12,14 +12,19 @@ pub fn sides(random: &mut Random) -> Sides {
     let provided = [provided, random.byte() & free];
     paired(provided.map(|provided| {
         let required = random.byte();
-        let [methods, calls] = match random.below(16) {
-            0 => [random.byte(), 0],
-            1 => [0, random.byte()],
-            _ => [0, 0],
-        };
+        let [methods, calls] = foreign(random, 8);
         let graph = graph_of(random, Size::Small, provided | methods, required | calls);
         [interface_of(provided, required), graph]
     }))
+}
+
+/// Methods that a graph has and methods that it calls though its interface may not have them: none but once in `times`.
+pub(crate) fn foreign(random: &mut Random, times: usize) -> [u8; 2] {
+    match random.below(2 * times) {
+        0 => [random.byte(), 0],
+        1 => [0, random.byte()],
+        _ => [0, 0],
+    }
 }
 
 /// Together the sides have about as many nodes as a graph may have, and half of them about as many edges.

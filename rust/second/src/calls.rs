@@ -2,7 +2,7 @@
 
 use crate::files::{check_graph, check_interface, check_property, check_rules, Fault};
 use crate::graph::Graph;
-use crate::join::joined;
+use crate::join::joined_within;
 use crate::model::maximal_model;
 use crate::monitor::Monitor;
 use crate::record::{method, Interface, Limits, Record, Rule, INTERNAL, RECORD_LEN};
@@ -92,7 +92,7 @@ pub fn join(
         check_of_interface(2, &graph1, &interface1)?;
         check_of_interface(4, &graph2, &interface2)?;
         check_disjoint(&interface1, &interface2)?;
-        let graph = small(joined(limits, &graph1, &graph2))?;
+        let graph = small(joined_within(limits, &graph1, &graph2))?;
         let united = interface1.united(&interface2);
         let mut values = sizes(&graph);
         values.extend([united.provided, united.required].map(u64::from));
@@ -167,7 +167,7 @@ pub fn compose(
         check_disjoint(&known_interface, &other_interface)?;
         check_provided(&known_interface.united(&other_interface), start)?;
         let model = small(maximal_model(limits, &other_interface, &rows))?;
-        let graph = small(joined(limits, &known, &model))?;
+        let graph = small(joined_within(limits, &known, &model))?;
         say_runs(&graph, &rules, start, out_len)
     })
 }

@@ -93,4 +93,10 @@ impl Graph {
     pub fn entries(&self) -> impl Iterator<Item = usize> + '_ {
         (0..self.nodes.len()).filter(|&node| self.nodes[node].entry)
     }
+
+    /// The entry nodes of one method, ascending.
+    pub(crate) fn entries_of(&self, method: usize) -> impl Iterator<Item = usize> + '_ {
+        self.entries()
+            .filter(move |&node| self.nodes[node].method == method)
+    }
 }

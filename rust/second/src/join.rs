@@ -3,9 +3,17 @@
 use crate::graph::Graph;
 use crate::record::{Edge, Limits};
 
-/// Both graphs side by side, the second's nodes after the first's; `None` when this passes the
-/// limits. The edges are then in order: all sources of the second come after those of the first.
-pub(crate) fn joined(limits: &Limits, first: &Graph, second: &Graph) -> Option<Graph> {
+/// Both graphs in one; `None` when this passes the limits.
+pub(crate) fn joined_within(limits: &Limits, first: &Graph, second: &Graph) -> Option<Graph> {
+    let nodes = first.nodes.len() + second.nodes.len();
+    let edges = first.edges.len() + second.edges.len();
+    let fits = nodes <= limits.nodes && edges <= limits.edges;
+    fits.then(|| joined(first, second))
+}
+
+/// Both graphs in one, the second's nodes after the first's. The edges are then in order: all
+/// sources of the second come after those of the first.
+pub fn joined(first: &Graph, second: &Graph) -> Graph {
     let shift = first.nodes.len();
     let nodes = [first.nodes.as_slice(), &second.nodes].concat();
     let moved = second.edges.iter().map(|edge| Edge {
@@ -13,7 +21,6 @@ pub(crate) fn joined(limits: &Limits, first: &Graph, second: &Graph) -> Option<G
         label: edge.label,
         to: edge.to + shift,
     });
-    let edges: Vec<Edge> = first.edges.iter().copied().chain(moved).collect();
-    let fits = nodes.len() <= limits.nodes && edges.len() <= limits.edges;
-    fits.then(|| Graph::new(nodes, edges))
+    let edges = first.edges.iter().copied().chain(moved).collect();
+    Graph::new(nodes, edges)
 }

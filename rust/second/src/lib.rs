@@ -10,12 +10,16 @@ mod monitor;
 mod rank;
 pub mod record;
 pub mod refusal;
+pub mod replay;
+mod run;
+mod saturation;
 mod set;
 mod sheet;
 mod simulation;
 mod summary;
 mod support;
 mod trail;
+pub mod unlimited;
 
 pub use calls::{compare, compose, join, judge, model, show, watch};
 pub use record::Limits;

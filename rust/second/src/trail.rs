@@ -7,7 +7,7 @@ use crate::summary::{summaries, Summaries};
 use std::collections::VecDeque;
 
 /// Third byte of a trail record.
-mod step {
+pub(crate) mod step {
     pub const START: usize = 0;
     pub const INTERNAL: usize = 1;
     pub const CALL_ENTERED: usize = 2;
@@ -29,7 +29,7 @@ pub(crate) fn bad_trail(graph: &Graph, monitor: &Monitor, start: usize) -> Optio
         queue: VecDeque::new(),
         bad: None,
     };
-    for node in search.entries_of(start) {
+    for node in graph.entries_of(start) {
         search.visit((node, 0), step::START, INTERNAL, (node, 0));
     }
     while search.bad.is_none() {
@@ -55,14 +55,7 @@ struct Search<'a> {
     bad: Option<Position>,
 }
 
-impl<'a> Search<'a> {
-    fn entries_of(&self, method: usize) -> impl Iterator<Item = usize> + use<'a> {
-        let graph = self.graph;
-        graph
-            .entries()
-            .filter(move |&node| graph.nodes[node].method == method)
-    }
-
+impl Search<'_> {
     fn visit(&mut self, from: Position, step: usize, label: usize, to: Position) {
         let reached_by = &mut self.reached_by[to.0][to.1];
         if reached_by.is_some() {
@@ -104,7 +97,8 @@ impl<'a> Search<'a> {
         if !calls || std::mem::replace(&mut self.entered[label - 1][state], true) {
             return;
         }
-        for entry in self.entries_of(label) {
+        let graph = self.graph;
+        for entry in graph.entries_of(label) {
             self.visit(from, step::CALL_ENTERED, label, (entry, state));
         }
     }

@@ -27,6 +27,16 @@ pub enum Watched {
     },
 }
 
+impl Watched {
+    pub(crate) fn of(answer: Answer) -> Result<Watched, Refusal> {
+        let answer = answer.accepted()?;
+        match answer.verdict {
+            1 => Ok(Watched::Clean),
+            _ => Ok(Watched::Bad { records: answer.first }),
+        }
+    }
+}
+
 /// The published length of the work buffer. A shorter one is refused by 13.
 pub fn watch_work() -> usize {
     work_of(6)
@@ -41,11 +51,7 @@ pub fn watch(
     out: &mut [u8],
     work: &mut [u8],
 ) -> Result<Watched, Refusal> {
-    let answer = watch_answer([interface, graph, rules], start, out, work).accepted()?;
-    match answer.verdict {
-        1 => Ok(Watched::Clean),
-        _ => Ok(Watched::Bad { records: answer.first }),
-    }
+    Watched::of(watch_answer([interface, graph, rules], start, out, work))
 }
 
 /// The answer as it comes; the files are in the order of `watch`.

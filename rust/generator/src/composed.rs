@@ -1,0 +1,122 @@
+//! What the composed verdict takes: a known interface and graph, the other side's interface and property, rules and a start method.
+
+use crate::generate::{
+    graph_of, interface_of, property, rule_file, scattered, Key, Random, Size, LIMITS,
+};
+use crate::graphs::{labels_of, members};
+use crate::properties::{any_rows, guarded};
+use crate::runs::{CALL, RETURN_TO};
+use crate::sides::foreign;
+use second::record::{kind, Interface, BAD, METHODS, RECORD_LEN};
+use std::collections::{BTreeMap, BTreeSet};
+
+/// Known interface and graph, other interface, property and rules, and the start method.
+pub type Composition = ([Vec<u8>; 5], u8);
+
+/// The property mostly forbids some calls, and one monitor in three is bad only by one of these. One start method in 32 is any number below 10, and one in six is of the
+/// other side.
+pub fn composition(random: &mut Random) -> Composition {
+    let [known, other] = interfaces(random);
+    let graph = known_graph(random, known);
+    let forbidden = other.required & random.byte();
+    let property = other_property(random, other, forbidden);
+    let calls = [known, other].map(calls_of).concat();
+    let not_allowed = calls_of(Interface { required: forbidden, ..other });
+    let any = not_allowed.is_empty() || !random.once_in(3);
+    let rules = chain(random, &calls, if any { &calls } else { &not_allowed });
+    let start = match (random.below(32), &graph[..]) {
+        (0, _) => random.below(METHODS + 2) as u8,
+        (6.., [kind::NODE, method, ..]) => *method,
+        _ => random.pick(&members(other.provided)),
+    };
+    let [known, other] = [known, other].map(|side| interface_of(side.provided, side.required));
+    ([known, graph, other, property, rules], start)
+}
+
+/// Of the known side, then of the other, which has one method or two. Three pairs in 64 may have a method that both provide, or that is required and not provided.
+fn interfaces(random: &mut Random) -> [Interface; 2] {
+    let count = random.pick(&[2, 2, 2, 2, 3, 3, 3, 3, 4, 4, METHODS]);
+    let all = u8::MAX >> (METHODS - count);
+    let mut one = || 1 << random.below(count);
+    let other = one() | one();
+    let mut sides = [all & !other, other].map(|provided| {
+        let some = random.byte();
+        Interface { provided, required: all & random.pick(&[u8::MAX, u8::MAX, some]) }
+    });
+    let (any, [known, other]) = (random.byte(), &mut sides);
+    match random.below(64) {
+        0 => other.provided |= any,
+        1 => known.required |= any,
+        2 => other.required |= any,
+        _ => {}
+    }
+    sides
+}
+
+/// One graph in 32 may not be of its interface, and one in 128 is about as large as a graph may be. In most graphs every method that has a node has an entry.
+fn known_graph(random: &mut Random, interface: Interface) -> Vec<u8> {
+    let [methods, calls] = foreign(random, 32);
+    let [provided, required] = [interface.provided | methods, interface.required | calls];
+    if provided == 0 || random.once_in(8) {
+        return graph_of(random, Size::Small, provided, required);
+    }
+    let (nodes, edges) = match random.once_in(128) {
+        true => (LIMITS.nodes - random.below(24), 64),
+        false => (2 + random.below(8), 2 + random.below(32)),
+    };
+    let mut graph = scattered(random, &members(provided), &labels_of(required), nodes, edges);
+    enter_first(&mut graph);
+    graph
+}
+
+/// The first node of each method becomes an entry that does not return.
+fn enter_first(graph: &mut [u8]) {
+    let (records, _) = graph.as_chunks_mut::<RECORD_LEN>();
+    let mut met = BTreeSet::new();
+    for record in records.iter_mut().filter(|record| record[0] == kind::NODE) {
+        let [_, method, returns, entry, ..] = record;
+        if met.insert(*method) {
+            [*returns, *entry] = [0, 1];
+        }
+    }
+}
+
+/// One property in 64 is large, where most models pass the limits, and one in four is of any rows.
+fn other_property(random: &mut Random, interface: Interface, forbidden: u8) -> Vec<u8> {
+    match random.below(64) {
+        0 => property(random, Size::Large),
+        1..=16 => {
+            let rows = 1 + random.below(4);
+            any_rows(random, rows).concat()
+        }
+        _ => guarded(random, interface, forbidden),
+    }
+}
+
+/// The callers and callees of an interface.
+fn calls_of(side: Interface) -> Vec<(u8, u8)> {
+    let callees = &members(side.required);
+    let of = |caller| callees.iter().map(move |&callee| (caller, callee));
+    members(side.provided).into_iter().flat_map(of).collect()
+}
+
+/// Calls and their returns lead through a chain of states, the last ones to the bad state; there may be a way back.
+fn chain(random: &mut Random, calls: &[(u8, u8)], last: &[(u8, u8)]) -> Vec<u8> {
+    if calls.is_empty() {
+        return Vec::new();
+    }
+    let states = random.pick(&[1, 1, 1, 2, 2, 3, 4]);
+    let mut next = BTreeMap::<Key, u8>::new();
+    for state in 0..states {
+        let (calls, after) = match state + 1 < states {
+            true => (calls, state + 1),
+            false => (last, BAD as u8),
+        };
+        for after in [after, after, after, 0].into_iter().take(1 + random.below(4)) {
+            let (caller, callee) = random.pick(calls);
+            let events = [(state, CALL, caller, callee), (state, RETURN_TO, callee, caller)];
+            next.insert(random.pick(&events), after);
+        }
+    }
+    rule_file(next)
+}

@@ -1,0 +1,63 @@
+//! What the generator promises of compositions and of graphs that conform.
+
+use generator::conforming::Conforming;
+use generator::generate::{self, Kind, Random};
+use second::files::{check_graph, check_interface, check_property};
+use second::record::Limits;
+use second::unlimited::satisfies;
+use second::{compare, compose, model, Outcome, Sides};
+
+#[test]
+fn compositions_are_composed_or_refused_by_3_9_10_or_11() {
+    let mut random = Random::new(8);
+    let (mut said, mut refused, mut long) = ([0; 2], [0; 12], 0);
+    for _ in 0..10_000 {
+        let (files, start) = generate::composition(&mut random);
+        let [known_interface, known_graph, other_interface, property, rules] = &files;
+        let sides = Sides { known_interface, known_graph, other_interface, property };
+        match compose(&Limits::DESK, &sides, rules, start, usize::MAX, [(0, 0); 2]) {
+            Outcome::Said { verdict, values, .. } => {
+                said[verdict as usize - 1] += 1;
+                long += usize::from(values.first().is_some_and(|&records| records > 2));
+            }
+            Outcome::Refused(refusal) => refused[usize::from(refusal.number)] += 1,
+        }
+    }
+    assert!(said.iter().all(|&times| times > 3_500) && long > 500, "{said:?} {long}");
+    assert!([3, 9, 10].iter().all(|&number| refused[number] > 30), "{refused:?}");
+    assert!(refused[11] > 5, "{refused:?}");
+    let others: usize = [1, 2, 4, 5, 6, 7, 8].iter().map(|&number| refused[number]).sum();
+    assert_eq!(others, 0, "{refused:?}");
+}
+
+#[test]
+fn graphs_that_conform_satisfy_the_property_and_are_simulated() {
+    let (mut random, limits) = (Random::new(9), &Limits::DESK);
+    // All, those that are larger than the model, and those that are larger than a file.
+    let mut met = [0; 3];
+    for _ in 0..1_000 {
+        let ([_, _, interface, property, _], _) = generate::composition(&mut random);
+        let Outcome::Said { written, .. } = model(limits, &interface, &property, usize::MAX, 0, 0)
+        else {
+            continue;
+        };
+        let model = check_graph(&written, limits).expect("a model");
+        let rows = check_property(&property, limits).expect("a valid property");
+        let interface = check_interface(&interface).expect("a valid interface");
+        let conforming = Conforming::new(interface, &model);
+        for _ in 0..10 {
+            let graph = conforming.mapped(&mut random);
+            let larger = [0, model.nodes.len(), limits.nodes].map(|most| graph.nodes.len() > most);
+            met.iter_mut().zip(larger).for_each(|(times, larger)| *times += usize::from(larger));
+            assert!(satisfies(&graph, &rows), "{property:?} {graph:?}");
+            if larger[2] {
+                continue;
+            }
+            let bytes = graph.bytes();
+            assert_eq!(Kind::Graph.number(&bytes), 0, "{graph:?}");
+            let said = compare(limits, &bytes, &written, usize::MAX, 0, 0);
+            assert!(matches!(said, Outcome::Said { verdict: 1, .. }), "{property:?} {graph:?}");
+        }
+    }
+    assert!(met[0] > 9_000 && met[1] > 1_000 && met[2] > 5, "{met:?}");
+}

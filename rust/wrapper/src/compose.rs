@@ -1,0 +1,170 @@
+//! The composed verdict: is the known graph clean with every flow graph of the other interface that satisfies the property, whichever and however large it is?
+
+use crate::boundary::{work_of, Answer, Refusal};
+use crate::watch::Watched;
+
+extern "C" {
+    fn tintboulder_compose(
+        known_interface: *const u8,
+        known_interface_length: usize,
+        known_graph: *const u8,
+        known_graph_length: usize,
+        other_interface: *const u8,
+        other_interface_length: usize,
+        property: *const u8,
+        property_length: usize,
+        rules: *const u8,
+        rules_length: usize,
+        start: u8,
+        out: *mut u8,
+        out_length: usize,
+        store: *mut u8,
+        store_length: usize,
+        work: *mut u8,
+        work_length: usize,
+    ) -> Answer;
+}
+
+/// What is known of both sides: the written one by its graph, the other one by its property.
+#[derive(Clone, Copy, Debug)]
+pub struct Sides<'a> {
+    pub known_interface: &'a [u8],
+    pub known_graph: &'a [u8],
+    pub other_interface: &'a [u8],
+    pub property: &'a [u8],
+}
+
+/// The published length of the work buffer. A shorter one is refused by 13.
+pub fn compose_work() -> usize {
+    work_of(7)
+}
+
+/// The published length of the store. A shorter one is refused by 13.
+pub fn compose_store() -> usize {
+    work_of(8)
+}
+
+/// Watches the runs from the start method, with whatever the other side will be. The trail of a bad one is of the known graph joined with the maximal model. Store and
+/// work buffer are zero afterwards, except after refusal 13.
+pub fn compose(
+    sides: &Sides,
+    rules: &[u8],
+    start: u8,
+    out: &mut [u8],
+    store: &mut [u8],
+    work: &mut [u8],
+) -> Result<Watched, Refusal> {
+    let Sides { known_interface, known_graph, other_interface, property } = *sides;
+    let files = [known_interface, known_graph, other_interface, property, rules];
+    Watched::of(compose_answer(files, start, out, store, work))
+}
+
+/// The answer as it comes; the files are those of the sides in their order, then the rules.
+pub fn compose_answer(
+    files: [&[u8]; 5],
+    start: u8,
+    out: &mut [u8],
+    store: &mut [u8],
+    work: &mut [u8],
+) -> Answer {
+    let [known_interface, known_graph, other_interface, property, rules] = files;
+    // Safe: each pointer goes with its own length, and what is written overlaps nothing, since all three borrows are exclusive.
+    unsafe {
+        tintboulder_compose(
+            known_interface.as_ptr(),
+            known_interface.len(),
+            known_graph.as_ptr(),
+            known_graph.len(),
+            other_interface.as_ptr(),
+            other_interface.len(),
+            property.as_ptr(),
+            property.len(),
+            rules.as_ptr(),
+            rules.len(),
+            start,
+            out.as_mut_ptr(),
+            out.len(),
+            store.as_mut_ptr(),
+            store.len(),
+            work.as_mut_ptr(),
+            work.len(),
+        )
+    }
+}
+
+#[cfg(test)]
+mod tests {
+    use super::{compose, compose_store, compose_work, Refusal, Sides, Watched};
+
+    /// Method 1 calls method 2 again and again; method 2 is not written.
+    const SIDES: Sides = Sides {
+        known_interface: &[5, 1, 2, 0, 0, 0],
+        known_graph: &[1, 1, 0, 1, 0, 0, 2, 0, 2, 0, 0, 0],
+        other_interface: &[5, 2, 1, 0, 0, 0],
+        property: NO_CALL,
+    };
+    /// No call of method 1, now or after internal steps.
+    const NO_CALL: &[u8] =
+        &[3, 7, 1, 2, 0, 0, 3, 9, 1, 3, 0, 0, 3, 9, 0, 0, 0, 0, 3, 2, 0, 0, 0, 0];
+    const ANYTHING: &[u8] = &[3, 1, 0, 0, 0, 0];
+    /// A call of method 1 by method 2 is bad.
+    const RULES: &[u8] = &[4, 0, 1, 2, 1, 7];
+
+    /// Composes with so many bytes of output, store and work, all of them 7 before; checks store and work, and returns the output.
+    fn composed(
+        sides: &Sides,
+        start: u8,
+        [out, store, work]: [usize; 3],
+    ) -> (Result<Watched, Refusal>, Vec<u8>) {
+        let [mut out, mut store, mut work] = [out, store, work].map(|length| vec![7; length]);
+        let answer = compose(sides, RULES, start, &mut out, &mut store, &mut work);
+        let left = if answer.is_err_and(|refusal| refusal.number == 13) { 7 } else { 0 };
+        assert!(store.iter().chain(&work).all(|&byte| byte == left));
+        (answer, out)
+    }
+
+    /// With the lengths published.
+    fn roomy(out: usize) -> [usize; 3] {
+        [out, compose_store(), compose_work()]
+    }
+
+    #[test]
+    fn published_lengths() {
+        assert_eq!((compose_store(), compose_work()), (46_949, 103_456));
+    }
+
+    #[test]
+    fn the_property_keeps_it_clean() {
+        let (answer, out) = composed(&SIDES, 1, roomy(3));
+        assert_eq!((answer, out), (Ok(Watched::Clean), vec![7; 3]));
+    }
+
+    #[test]
+    fn what_the_property_allows_has_a_trail() {
+        let sides = Sides { property: ANYTHING, ..SIDES };
+        let lengths = [20, compose_store() + 1, compose_work() + 1];
+        let (answer, out) = composed(&sides, 1, lengths);
+        assert_eq!(answer, Ok(Watched::Bad { records: 3 }));
+        // Node 2 is the model's entry that does not return.
+        let trail = [[0, 0, 0, 0, 0, 0], [0, 0, 2, 2, 2, 0], [2, 0, 2, 1, 0, 7]].concat();
+        assert_eq!(out, [trail, vec![7, 7]].concat());
+    }
+
+    #[test]
+    fn refusals_leave_the_output() {
+        let refused = |number, file| Err(Refusal { number, file, record: 0 });
+        let sides = Sides { property: ANYTHING, ..SIDES };
+        let [_, store, work] = roomy(0);
+        assert_eq!(composed(&sides, 1, roomy(17)), (refused(12, 0), vec![7; 17]));
+        assert_eq!(composed(&sides, 1, [18, store - 1, work]), (refused(13, 0), vec![7; 18]));
+        assert_eq!(composed(&sides, 1, [18, store, work - 1]), (refused(13, 0), vec![7; 18]));
+        for start in [0, 9, 255] {
+            assert_eq!(composed(&sides, start, roomy(18)), (refused(3, 0), vec![7; 18]));
+        }
+        assert_eq!(composed(&sides, 3, roomy(18)), (refused(10, 0), vec![7; 18]));
+        let shared = Sides { other_interface: SIDES.known_interface, ..SIDES };
+        assert_eq!(composed(&shared, 1, roomy(18)), (refused(9, 0), vec![7; 18]));
+        let empty = Sides { property: &[], ..SIDES };
+        assert_eq!(composed(&empty, 0, roomy(18)), (refused(6, 4), vec![7; 18]));
+    }
+}
