@@ -15,8 +15,8 @@ use tintboulder::{judge, Judged, JUDGE};
 /// Conforming graphs for each clean verdict.
 const GRAPHS: u64 = 100;
 
-/// Bad: the trail is that of a run of the known graph joined with the model. Clean: random graphs that conform satisfy the property, also by the proved judge, and are clean
-/// beside the known graph.
+/// Bad: the trail is that of a run of the known graph joined with the model. Clean: random graphs that conform satisfy the property, also by the proved judge, and
+/// are clean beside the known graph.
 pub fn composed_verdict(
     input: &Input,
     verdict: u32,
