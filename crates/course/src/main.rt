@@ -7,7 +7,6 @@ ghost use Prim.Native.Nat.{_+_, _*_, _≤_, _<_};
 ghost use lib.ListN.{length};
 use files::cells::wide;
 use files::check::Checked;
-use files::encode::LINE;
 use files::record::Limits;
 use files::record::Record;
 use files::refusal::Refusal;
@@ -15,9 +14,14 @@ use judging::answers::Compared;
 use judging::answers::Judged;
 use judging::shape::Shape;
 use judging::sizes::Sizes;
-use libc::STDOUT_FILENO;
 use maximal::answers::Modelled;
 use maximal::places::Places;
+use printing::say;
+use printing::say_bytes;
+use printing::say_graph;
+use printing::say_lines;
+use printing::say_number;
+use printing::say_records;
 use runs::answers::Joined;
 use runs::answers::Shown;
 use runs::answers::Verdict;
@@ -25,15 +29,6 @@ use runs::regions::Regions;
 
 // Room for the longest example: 257 nodes or 4,097 edges with their nodes.
 const LONGEST: usize = 60000;
-
-fn say(words: &[u8]) {
-    io::write_all(STDOUT_FILENO, words);
-}
-
-fn say_number(n: u64) {
-    say(b" ");
-    io::print_decimal(STDOUT_FILENO, n);
-}
 
 fn say_refused(r: Refusal) {
     say(b": refused");
@@ -67,50 +62,6 @@ fn check(letter: u8, file: &[u8]) -> Checked {
     files::check::check_interface(file, 1, Limits::desk())
 }
 
-fn say_byte(b: u8) {
-    say_number(b as u64);
-}
-
-// Bytes as decimals, in a line.
-fn say_bytes(bytes: &[u8]) {
-    if bytes.len() > 0 {
-        io::print_decimal(STDOUT_FILENO, wide(bytes[0]) as u64);
-    }
-    let mut i = 1;
-    while i < bytes.len() {
-        say_byte(bytes[i]);
-        i += 1;
-    }
-    say(b"\n");
-}
-
-// Record i of what a call wrote.
-fn say_record(out: &[u8], i: usize)
-    requires { ⌜ 6 * i + 6 ≤ length (now out) ⌝ }
-{
-    let p = Record::LEN * i;
-    say_bytes(&out[p..p + Record::LEN]);
-}
-
-fn at_most(n: usize, all: usize) -> usize
-    ensures { λ r. ⌜ r ≤ all ⌝ }
-{
-    if n < all {
-        return n;
-    }
-    all
-}
-
-// The first n records of what a call wrote.
-fn say_records(out: &[u8], n: usize) {
-    let end = at_most(n, out.len() / Record::LEN);
-    let mut i = 0;
-    while i < end {
-        say_record(out, i);
-        i += 1;
-    }
-}
-
 fn say_judged(answer: Judged, out: &[u8]) {
     match answer {
         Judged::Holds => say(b": holds\n"),
@@ -124,23 +75,6 @@ fn say_judged(answer: Judged, out: &[u8]) {
             say_refused(r);
             say(b"\n");
         }
-    }
-}
-
-// Line g of a relation.
-fn say_line(out: &[u8], g: usize)
-    requires { ⌜ 32 * g + 32 ≤ length (now out) ⌝ }
-{
-    let p = LINE * g;
-    say_bytes(&out[p..p + LINE]);
-}
-
-fn say_lines(out: &[u8]) {
-    let end = out.len() / LINE;
-    let mut g = 0;
-    while g < end {
-        say_line(out, g);
-        g += 1;
     }
 }
 
@@ -163,14 +97,6 @@ fn say_compared(answer: Compared, out: &[u8]) {
     }
 }
 
-// How many records so many nodes and edges are, at most all.
-fn records_of(nodes: usize, edges: usize, all: usize) -> usize
-    ensures { λ r. ⌜ r ≤ all ⌝ }
-{
-    let first = at_most(nodes, all);
-    first + at_most(edges, all - first)
-}
-
 fn say_modelled(answer: Modelled, out: &[u8]) {
     match answer {
         Modelled::Written(nodes, edges) => {
@@ -178,7 +104,7 @@ fn say_modelled(answer: Modelled, out: &[u8]) {
             say_number(nodes as u64);
             say_number(edges as u64);
             say(b"\n");
-            say_records(out, records_of(nodes, edges, out.len() / Record::LEN));
+            say_graph(out, nodes, edges);
         }
         Modelled::Refused(r) => {
             say_refused(r);
@@ -284,7 +210,7 @@ fn say_joined(answer: Joined, out: &[u8]) {
             say_number(provided as u64);
             say_number(required as u64);
             say(b"\n");
-            say_records(out, records_of(nodes, edges, out.len() / Record::LEN));
+            say_graph(out, nodes, edges);
         }
         Joined::Refused(r) => {
             say_refused(r);

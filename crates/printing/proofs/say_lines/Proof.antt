@@ -2,11 +2,8 @@ use native.Mathlib.Omega.{arith}
 use Prim.Native.Nat.{_≤_, _-_, _/_}
 use lib.ListN.{length}
 use borrow.Author.Needs.{needs}
-use Rattle.course.proofs.say_lines.Statement.{statement}
-use Rattle.course.proofs.say_lines.Tie as tie
-use Rattle.course.proofs.say_lines.Reads as reads
-use Rattle.course.proofs.say_lines.Lts as lts
-use Rattle.course.proofs.say_line.Reads as say-line-reads
+use Rattle.printing.proofs.say_lines.Statement.{statement}
+use Rattle.printing.proofs.say_lines.Tie as tie
 
 abbrev Inv-loop : tie.InvT-loop
 Inv-loop out end g₀ g = end ≤ length out / 32
@@ -14,27 +11,21 @@ Inv-loop out end g₀ g = end ≤ length out / 32
 abbrev μ-loop : tie.MeasureT-loop
 μ-loop out end g₀ g = end - g
 
--- src/main.rt:134:5
 loop-holds : tie.Need-loop-holds Inv-loop μ-loop
 loop-holds c = omega arith
 
--- src/main.rt:135:9
 say-line-requires : tie.Need-say-line-requires Inv-loop μ-loop
 say-line-requires c κs = omega arith
 
--- src/main.rt:136:9
 add-g : tie.Need-add-g Inv-loop μ-loop
 add-g c = omega arith
 
--- src/main.rt:134:5
 loop-less : tie.Need-loop-less Inv-loop μ-loop
 loop-less c = omega arith
 
--- src/main.rt:134:5
 loop-again : tie.Need-loop-again Inv-loop μ-loop
 loop-again c = omega arith
 
--- src/main.rt:131:1
 returns : tie.Need-returns Inv-loop μ-loop
 returns c = search needs
 

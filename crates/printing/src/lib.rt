@@ -1,0 +1,89 @@
+// What the programs print on standard output: words, numbers, and bytes as decimals, a record or a relation's line to a line. What is printed is tested, not proved; it is proved
+// that nothing is read past its end and that every call returns.
+ghost use mathlib.Core.Path.{_≡_};
+ghost use Prim.Native.Nat.{_+_, _*_, _≤_, min};
+ghost use lib.ListN.{length};
+use files::cells::wide;
+use files::encode::LINE;
+use files::record::Record;
+use libc::STDOUT_FILENO;
+
+pub fn say(words: &[u8]) {
+    io::write_all(STDOUT_FILENO, words);
+}
+
+pub fn say_decimal(n: u64) {
+    io::print_decimal(STDOUT_FILENO, n);
+}
+
+// A number after a space.
+pub fn say_number(n: u64) {
+    say(b" ");
+    say_decimal(n);
+}
+
+fn say_byte(b: u8) {
+    say_number(b as u64);
+}
+
+// Bytes as decimals, in a line.
+pub fn say_bytes(bytes: &[u8]) {
+    if bytes.len() > 0 {
+        say_decimal(wide(bytes[0]) as u64);
+    }
+    let mut i = 1;
+    while i < bytes.len() {
+        say_byte(bytes[i]);
+        i += 1;
+    }
+    say(b"\n");
+}
+
+pub fn at_most(n: usize, all: usize) -> usize
+    ensures { λ r. ⌜ r ≡ min n all ⌝ }
+{
+    if n < all { n } else { all }
+}
+
+// Record i of what a call wrote.
+fn say_record(out: &[u8], i: usize)
+    requires { ⌜ 6 * i + 6 ≤ length (now out) ⌝ }
+{
+    let p = Record::LEN * i;
+    say_bytes(&out[p..p + Record::LEN]);
+}
+
+// The first n records of what a call wrote, or all that there are.
+pub fn say_records(out: &[u8], n: usize) {
+    let end = at_most(n, out.len() / Record::LEN);
+    let mut i = 0;
+    while i < end {
+        say_record(out, i);
+        i += 1;
+    }
+}
+
+// The records of so many nodes and edges.
+pub fn say_graph(out: &[u8], nodes: usize, edges: usize) {
+    let all = out.len() / Record::LEN;
+    let first = at_most(nodes, all);
+    say_records(out, first + at_most(edges, all - first));
+}
+
+// Line g of a relation.
+fn say_line(out: &[u8], g: usize)
+    requires { ⌜ 32 * g + 32 ≤ length (now out) ⌝ }
+{
+    let p = LINE * g;
+    say_bytes(&out[p..p + LINE]);
+}
+
+// The lines of a relation.
+pub fn say_lines(out: &[u8]) {
+    let end = out.len() / LINE;
+    let mut g = 0;
+    while g < end {
+        say_line(out, g);
+        g += 1;
+    }
+}
