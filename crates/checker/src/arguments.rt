@@ -1,0 +1,84 @@
+// The program's arguments: words, names of files and decimals.
+ghost use Prim.Native.Nat.{_≤_};
+use files::cells::wide;
+use printing::at_most;
+use printing::say;
+
+// A number past every one that a call takes: larger ones count as this.
+const MOST: usize = 1000000;
+
+// A decimal, or none.
+pub struct Decimal {
+    pub ok: bool,
+    pub value: usize,
+}
+
+fn same(a: &[u8], b: &[u8]) -> bool {
+    if a.len() != b.len() {
+        return false;
+    }
+    let mut i = 0;
+    while i < a.len() {
+        if a[i] != b[i] {
+            return false;
+        }
+        i += 1;
+    }
+    true
+}
+
+pub fn is_word(i: usize, word: &[u8]) -> bool {
+    let mut name = io::buffer();
+    let n = os::arg(i, &mut name);
+    same(&name[..n], word)
+}
+
+pub fn say_argument(i: usize) {
+    let mut name = io::buffer();
+    let n = os::arg(i, &mut name);
+    say(&name[..n]);
+}
+
+fn is_digit(b: u8) -> bool {
+    (b'0' <= b) & (b <= b'9')
+}
+
+// The value with one more digit.
+fn longer(value: usize, digit: u8) -> usize
+    requires { ⌜ value ≤ 1000000 ⌝ }
+    ensures { λ r. ⌜ r ≤ 1000000 ⌝ }
+{
+    at_most(10 * value + wide(digit) % 16, MOST)
+}
+
+fn decimal_of(text: &[u8]) -> Decimal {
+    let mut value: usize = 0;
+    let mut i = 0;
+    while i < text.len() {
+        if !is_digit(text[i]) {
+            return Decimal {
+                ok: false,
+                value: 0,
+            };
+        }
+        value = longer(value, text[i]);
+        i += 1;
+    }
+    Decimal {
+        ok: text.len() > 0,
+        value: value,
+    }
+}
+
+// Argument i as a number; where it is none, a line says so.
+pub fn number(i: usize) -> Decimal {
+    let mut name = io::buffer();
+    let n = os::arg(i, &mut name);
+    let d = decimal_of(&name[..n]);
+    if !d.ok {
+        say(b"error not a number: ");
+        say(&name[..n]);
+        say(b"\n");
+    }
+    d
+}

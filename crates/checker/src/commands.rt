@@ -1,0 +1,233 @@
+// The seven calls on files by name: argument 2 is the first file. `at` is the argument that names the output file, or 0.
+ghost use mathlib.Core.Path.{_≡_};
+ghost use lib.ListN.{length};
+use crate::arguments::number;
+use crate::load::load;
+use crate::refusals::say_refused;
+use crate::results::say_compared;
+use crate::results::say_joined;
+use crate::results::say_judged;
+use crate::results::say_modelled;
+use crate::results::say_shown;
+use crate::results::say_watched;
+use files::check::Checked;
+use files::check::check_graph;
+use files::record::Limits;
+use judging::shape::Shape;
+use judging::sizes::Sizes;
+use maximal::places::Places;
+use runs::answers::Shown;
+use runs::regions::Regions;
+
+fn judge_buffer() -> [u8; Shape::ROOM]
+    ensures { λ r. ⌜ 41664 ≡ length r ⌝ }
+{
+    [0; Shape::ROOM]
+}
+
+fn compare_buffer() -> [u8; Sizes::ROOM]
+    ensures { λ r. ⌜ 165152 ≡ length r ⌝ }
+{
+    [0; Sizes::ROOM]
+}
+
+fn model_buffer() -> [u8; Places::ROOM]
+    ensures { λ r. ⌜ 103456 ≡ length r ⌝ }
+{
+    [0; Places::ROOM]
+}
+
+fn watch_buffer() -> [u8; Regions::ROOM]
+    ensures { λ r. ⌜ 46949 ≡ length r ⌝ }
+{
+    [0; Regions::ROOM]
+}
+
+pub fn judge(at: usize) {
+    let mut graph = io::large_buffer();
+    let g = load(2, &mut graph);
+    let mut property = io::large_buffer();
+    let p = load(3, &mut property);
+    if g.ok & p.ok {
+        let mut out = io::large_buffer();
+        let mut work = judge_buffer();
+        let graph_end = g.length;
+        let property_end = p.length;
+        let answer = judging::judge(
+            &graph[..graph_end],
+            &property[..property_end],
+            &mut out,
+            &mut work,
+        );
+        say_judged(answer, &out, at);
+    }
+}
+
+// The nodes of a graph file, or 0 where it is refused.
+fn nodes_in(graph: &[u8]) -> usize {
+    match check_graph(graph, 1, Limits::desk()) {
+        Checked::Accepted { nodes, .. } => nodes,
+        Checked::Refused(_) => 0,
+    }
+}
+
+pub fn compare(at: usize) {
+    let mut first = io::large_buffer();
+    let f = load(2, &mut first);
+    let mut second = io::large_buffer();
+    let s = load(3, &mut second);
+    if f.ok & s.ok {
+        let mut out = io::large_buffer();
+        let mut work = compare_buffer();
+        let first_end = f.length;
+        let second_end = s.length;
+        let answer = judging::compare(
+            &first[..first_end],
+            &second[..second_end],
+            &mut out,
+            &mut work,
+        );
+        let nodes = nodes_in(&first[..first_end]);
+        say_compared(answer, &out, nodes, at);
+    }
+}
+
+pub fn model(at: usize) {
+    let mut interface = io::large_buffer();
+    let i = load(2, &mut interface);
+    let mut property = io::large_buffer();
+    let p = load(3, &mut property);
+    if i.ok & p.ok {
+        let mut out = io::large_buffer();
+        let mut work = model_buffer();
+        let interface_end = i.length;
+        let property_end = p.length;
+        let answer = maximal::model(
+            &interface[..interface_end],
+            &property[..property_end],
+            &mut out,
+            &mut work,
+        );
+        say_modelled(answer, &out, at);
+    }
+}
+
+pub fn join(at: usize) {
+    let mut interface1 = io::large_buffer();
+    let i = load(2, &mut interface1);
+    let mut graph1 = io::large_buffer();
+    let g = load(3, &mut graph1);
+    let mut interface2 = io::large_buffer();
+    let j = load(4, &mut interface2);
+    let mut graph2 = io::large_buffer();
+    let h = load(5, &mut graph2);
+    if i.ok & g.ok & j.ok & h.ok {
+        let mut out = io::large_buffer();
+        let interface1_end = i.length;
+        let graph1_end = g.length;
+        let interface2_end = j.length;
+        let graph2_end = h.length;
+        let answer = runs::join(
+            &interface1[..interface1_end],
+            &graph1[..graph1_end],
+            &interface2[..interface2_end],
+            &graph2[..graph2_end],
+            &mut out,
+        );
+        say_joined(answer, &out, at);
+    }
+}
+
+pub fn show(at: usize) {
+    let mut graph1 = io::large_buffer();
+    let g = load(2, &mut graph1);
+    let mut graph2 = io::large_buffer();
+    let h = load(3, &mut graph2);
+    let node = number(4);
+    if g.ok & h.ok & node.ok {
+        let graph1_end = g.length;
+        let graph2_end = h.length;
+        let value = node.value;
+        match runs::show_refusal(&graph1[..graph1_end], &graph2[..graph2_end], value) {
+            Shown::Part => say_shown(
+                runs::show(&graph1[..graph1_end], &graph2[..graph2_end], value),
+                at,
+            ),
+            Shown::Refused(r) => say_refused(r),
+        }
+    }
+}
+
+// A start method as the byte that the calls take: what is past a byte is past the methods too.
+fn method_of(value: usize) -> u8 {
+    if value < 256 { value as u8 } else { 255 }
+}
+
+pub fn watch(at: usize) {
+    let mut interface = io::large_buffer();
+    let i = load(2, &mut interface);
+    let mut graph = io::large_buffer();
+    let g = load(3, &mut graph);
+    let mut rules = io::large_buffer();
+    let r = load(4, &mut rules);
+    let start = number(5);
+    if i.ok & g.ok & r.ok & start.ok {
+        let mut out = io::large_buffer();
+        let mut work = watch_buffer();
+        let interface_end = i.length;
+        let graph_end = g.length;
+        let rules_end = r.length;
+        let answer = runs::watch(
+            &interface[..interface_end],
+            &graph[..graph_end],
+            &rules[..rules_end],
+            method_of(start.value),
+            &mut out,
+            &mut work,
+        );
+        say_watched(answer, b"clean from the start method\n", &out, at);
+    }
+}
+
+// The composed verdict on the known side's files, which are loaded.
+fn compose_with(known: &[u8], graph: &[u8], at: usize) {
+    let mut other = io::large_buffer();
+    let o = load(4, &mut other);
+    let mut property = io::large_buffer();
+    let p = load(5, &mut property);
+    let mut rules = io::large_buffer();
+    let r = load(6, &mut rules);
+    let start = number(7);
+    if o.ok & p.ok & r.ok & start.ok {
+        let mut out = io::large_buffer();
+        let mut store = watch_buffer();
+        let mut work = model_buffer();
+        let other_end = o.length;
+        let property_end = p.length;
+        let rules_end = r.length;
+        let answer = runs::compose(
+            known,
+            graph,
+            &other[..other_end],
+            &property[..property_end],
+            &rules[..rules_end],
+            method_of(start.value),
+            &mut out,
+            &mut store,
+            &mut work,
+        );
+        say_watched(answer, b"clean with every module that conforms\n", &out, at);
+    }
+}
+
+pub fn compose(at: usize) {
+    let mut known = io::large_buffer();
+    let k = load(2, &mut known);
+    let mut graph = io::large_buffer();
+    let g = load(3, &mut graph);
+    if k.ok & g.ok {
+        let known_end = k.length;
+        let graph_end = g.length;
+        compose_with(&known[..known_end], &graph[..graph_end], at);
+    }
+}

@@ -1,0 +1,32 @@
+// What the program takes and prints.
+use printing::say;
+
+pub fn say_help() {
+    say(
+        b"checker judge GRAPH PROPERTY                                does the graph satisfy the property?\n",
+    );
+    say(
+        b"checker compare FIRST SECOND                                does the second graph simulate the first?\n",
+    );
+    say(
+        b"checker model INTERFACE PROPERTY                            the most general module that the property allows\n",
+    );
+    say(b"checker join INTERFACE1 GRAPH1 INTERFACE2 GRAPH2            two sides as one graph\n");
+    say(
+        b"checker show GRAPH1 GRAPH2 NUMBER                           the record of a joined node\n",
+    );
+    say(
+        b"checker watch INTERFACE GRAPH RULES START                   does any run from method START turn the monitor bad?\n",
+    );
+    say(
+        b"checker compose INTERFACE GRAPH OTHER PROPERTY RULES START  the same with every module of the other interface that satisfies the property\n",
+    );
+    say(b"checker help                                                this text\n");
+    say(b"\n");
+    say(
+        b"Files are named in this order. The first line is the verdict; its first word is holds, fails, yes, no, written, shown, clean, bad, refused or error. Sheet, relation,\n",
+    );
+    say(
+        b"graph, record or trail follow as decimals, a record a line; with -o FILE as the last two arguments their bytes go to FILE instead.\n",
+    );
+}

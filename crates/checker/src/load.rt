@@ -1,0 +1,53 @@
+// Files by name: read whole or not at all, and written.
+ghost use Rattle.io.specs.Counts.{Counts};
+use crate::arguments::say_argument;
+use printing::say;
+
+// So many bytes were read, or a line said why not.
+pub struct Loaded {
+    pub ok: bool,
+    pub length: usize,
+}
+
+fn complain(words: &[u8], i: usize) {
+    say(b"error ");
+    say(words);
+    say(b": ");
+    say_argument(i);
+    say(b"\n");
+}
+
+// Reads the file that argument i names to the start of buf. One more read tells whether that was all of it, so no file is taken in part.
+pub fn load(i: usize, buf: &mut [u8]) -> Loaded
+    ensures { λ r. ⌜ Counts (r .length) (now (buf .exit)) ⌝ }
+{
+    let mut name = io::buffer();
+    let n = os::arg(i, &mut name);
+    let fd = os::open_read(&name[..n]);
+    let length = io::read_full(fd, buf);
+    let mut further = io::buffer();
+    let more = libc::read(fd, &mut further);
+    libc::close(fd);
+    if more < 0 {
+        complain(b"this file cannot be read", i);
+    }
+    if more > 0 {
+        complain(b"this file is too long to read", i);
+    }
+    Loaded {
+        ok: more == 0,
+        length: length,
+    }
+}
+
+// Writes bytes to the file that argument i names.
+pub fn save(i: usize, bytes: &[u8]) {
+    let mut name = io::buffer();
+    let n = os::arg(i, &mut name);
+    let fd = os::open_overwrite(&name[..n]);
+    let done = io::write_all(fd, bytes);
+    libc::close(fd);
+    if (fd < 0) | !done {
+        complain(b"this file cannot be written", i);
+    }
+}
