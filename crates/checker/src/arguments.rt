@@ -39,12 +39,12 @@ pub fn say_argument(i: usize) {
     say(&name[..n]);
 }
 
-fn is_digit(b: u8) -> bool {
+pub fn is_digit(b: u8) -> bool {
     (b'0' <= b) & (b <= b'9')
 }
 
 // The value with one more digit.
-fn longer(value: usize, digit: u8) -> usize
+pub fn longer(value: usize, digit: u8) -> usize
     requires { ⌜ value ≤ 1000000 ⌝ }
     ensures { λ r. ⌜ r ≤ 1000000 ⌝ }
 {

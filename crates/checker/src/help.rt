@@ -21,6 +21,15 @@ pub fn say_help() {
     say(
         b"checker compose INTERFACE GRAPH OTHER PROPERTY RULES START  the same with every module of the other interface that satisfies the property\n",
     );
+    say(
+        b"checker text FILE                                           a file as a readable listing\n",
+    );
+    say(
+        b"checker pack LISTING                                        a readable listing, decimals and # comments, as bytes\n",
+    );
+    say(
+        b"checker dot GRAPH [TRAIL]                                   a graph in Graphviz' language, with the trail in red\n",
+    );
     say(b"checker help                                                this text\n");
     say(b"\n");
     say(

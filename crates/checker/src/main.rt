@@ -7,10 +7,13 @@ use printing::say_number;
 
 mod arguments;
 mod commands;
+mod dot;
 mod help;
 mod load;
+mod pack;
 mod refusals;
 mod results;
+mod text;
 
 // The command has as many arguments as it takes, or a line says how many.
 fn takes(given: usize, wanted: usize) -> bool {
@@ -78,6 +81,30 @@ fn less(count: usize, words: usize) -> usize {
     if count < words { 0 } else { count - words }
 }
 
+fn run_on_listings(given: usize, at: usize) -> bool {
+    if is_word(1, b"text") {
+        if takes(given, 1) {
+            text::text();
+        }
+        return true;
+    }
+    if is_word(1, b"pack") {
+        if takes(given, 1) {
+            pack::pack(at);
+        }
+        return true;
+    }
+    if is_word(1, b"dot") {
+        if given == 2 {
+            dot::dot_with_trail();
+        } else if takes(given, 1) {
+            dot::dot();
+        }
+        return true;
+    }
+    false
+}
+
 // The argument that names the output file, or 0: it stands last, after -o.
 fn output_at(count: usize) -> usize {
     if count < 4 {
@@ -106,6 +133,9 @@ fn main() {
         return;
     }
     if run_on_sides(given, at) {
+        return;
+    }
+    if run_on_listings(given, at) {
         return;
     }
     say(b"error no such command: ");

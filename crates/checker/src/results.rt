@@ -17,7 +17,7 @@ use runs::answers::Joined;
 use runs::answers::Verdict;
 
 // Where so many bytes end, or all that there are.
-fn end_of(out: &[u8], bytes: usize) -> usize
+pub fn end_of(out: &[u8], bytes: usize) -> usize
     ensures { λ r. ⌜ Counts r (now (out .entry)) ⌝ }
 {
     at_most(bytes, out.len())

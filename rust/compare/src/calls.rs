@@ -1,6 +1,6 @@
 //! Calls that are lent an output and perhaps work buffers, in both implementations on random cases.
 
-use crate::case::{buffers, Case, Input};
+use crate::case::{buffers, out_length, work_lengths, Case, Input};
 use crate::minimal::{least, shrink};
 use crate::tally::{Checked, Tally};
 use generator::generate::Random;
@@ -41,33 +41,10 @@ pub fn run(random: &mut Random, call: &Call, count: u64) -> Result<(Tally, Check
 }
 
 impl Call {
-    /// Output from nothing to past the need.
     fn case(&self, random: &mut Random) -> Case {
         let input = (self.input)(random);
-        let need = self.result(&input).1.len();
-        let out = match random.below(8) {
-            0 => random.below(need + 1),
-            1 => need.saturating_sub(1),
-            2 => need + 1 + random.below(64),
-            3 => need + random.below(4096),
-            _ => need,
-        };
-        Case { input, out, work: self.work(random), seed: random.number() }
-    }
-
-    /// The published lengths, but seldom a shorter buffer or a longer one.
-    fn work(&self, random: &mut Random) -> Vec<usize> {
-        let mut lengths: Vec<usize> = self.rooms.iter().map(|room| room()).collect();
-        if let Some(last) = lengths.len().checked_sub(1) {
-            let length = &mut lengths[random.below(last + 1)];
-            *length = match (*length, random.below(16)) {
-                (room, 0) => random.below(room),
-                (room, 1) => room - 1,
-                (room, 2 | 3) => room + random.below(4096),
-                (room, _) => room,
-            };
-        }
-        lengths
+        let out = out_length(random, self.result(&input).1.len());
+        Case { input, out, work: work_lengths(random, self.rooms), seed: random.number() }
     }
 
     /// What the second implementation answers and writes when there is room for all of it.
@@ -100,7 +77,7 @@ impl Call {
         let Case { input, out, work, seed } = &case;
         let difference = self.compare(&case).err().unwrap_or_default();
         format!(
-            "the implementations of {} differ on this case.\n{}, output {out}, work {work:?}, seed of all {seed}\n{difference}",
+            "the implementations of {} differ on this case; the second says what is expected.\n{}, output {out}, work {work:?}, seed of all {seed}\n{difference}",
             self.name, input.listed()
         )
     }

@@ -89,6 +89,32 @@ impl Case {
     }
 }
 
+/// Output from nothing to past the need.
+pub fn out_length(random: &mut Random, need: usize) -> usize {
+    match random.below(8) {
+        0 => random.below(need + 1),
+        1 => need.saturating_sub(1),
+        2 => need + 1 + random.below(64),
+        3 => need + random.below(4096),
+        _ => need,
+    }
+}
+
+/// The published lengths, but seldom a shorter buffer or a longer one.
+pub fn work_lengths(random: &mut Random, rooms: &[fn() -> usize]) -> Vec<usize> {
+    let mut lengths: Vec<usize> = rooms.iter().map(|room| room()).collect();
+    if let Some(last) = lengths.len().checked_sub(1) {
+        let length = &mut lengths[random.below(last + 1)];
+        *length = match (*length, random.below(16)) {
+            (room, 0) => random.below(room),
+            (room, 1) => room - 1,
+            (room, 2 | 3) => room + random.below(4096),
+            (room, _) => room,
+        };
+    }
+    lengths
+}
+
 /// The work buffers, as many as the call is lent.
 pub fn buffers<'a, 'b, const N: usize>(work: &'a mut [&'b mut [u8]]) -> &'a mut [&'b mut [u8]; N] {
     work.try_into().expect("a buffer for each published length")
@@ -125,19 +151,25 @@ fn inner(buffer: &mut [u8]) -> &mut [u8] {
 }
 
 impl Seen {
+    /// The output without its margins.
+    pub fn output(&self) -> &[u8] {
+        let out = &self.lent.out;
+        &out[MARGIN..out.len() - MARGIN]
+    }
+
     /// The first thing in which the two differ, in words.
     pub fn difference(&self, expected: &Seen) -> Option<String> {
         if self.answer != expected.answer {
-            return Some(format!("proved: {:?}\nsecond: {:?}", self.answer, expected.answer));
+            return Some(format!("seen: {:?}\nexpected: {:?}", self.answer, expected.answer));
         }
         let mut pairs = self.lent.buffers().zip(expected.lent.buffers()).enumerate();
-        pairs.find_map(|(buffer, (proved, second))| {
+        pairs.find_map(|(buffer, (seen, expected))| {
             // Whole buffers first: they are equal but for the last case of a run.
-            let at = (proved != second).then(|| (0..).find(|&at| proved[at] != second[at]))??;
+            let at = (seen != expected).then(|| (0..).find(|&at| seen[at] != expected[at]))??;
             let name = if buffer == 0 { "output".into() } else { format!("work {buffer}") };
             let place = at as i64 - MARGIN as i64;
-            let (proved, second) = (proved[at], second[at]);
-            Some(format!("{name} byte {place} is {proved}; by the second it is {second}"))
+            let (seen, expected) = (seen[at], expected[at]);
+            Some(format!("{name} byte {place} is {seen}; expected is {expected}"))
         })
     }
 }

@@ -19,7 +19,7 @@ fn proved(kind: Kind, bytes: &[u8]) -> Checked {
     };
     checked
         .map(|accepted| (accepted.nodes, accepted.records))
-        .map_err(|refusal| (refusal.number, refusal.file, refusal.record))
+        .map_err(|refusal| (refusal.reason.number(), refusal.file, refusal.record))
 }
 
 fn second(kind: Kind, bytes: &[u8]) -> Checked {
@@ -59,7 +59,7 @@ fn report(kind: Kind, bytes: &[u8]) -> String {
     )
 }
 
-fn file(random: &mut Random, kind: Kind) -> Vec<u8> {
+pub fn file(random: &mut Random, kind: Kind) -> Vec<u8> {
     let size = if random.once_in(16) { Size::Large } else { Size::Small };
     match random.once_in(3) {
         true => generate::valid(random, kind, size),

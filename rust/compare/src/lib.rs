@@ -1,8 +1,8 @@
 //! Both implementations of the flow-graph checker on the same bytes: random files and cases, and the first difference as a minimal case.
 
 pub mod calls;
-mod case;
-mod checks;
+pub mod case;
+pub mod checks;
 mod claims;
 pub mod compose;
 pub mod join;
@@ -12,7 +12,7 @@ pub mod model;
 mod report;
 pub mod show;
 pub mod simulation;
-mod tally;
+pub mod tally;
 pub mod watch;
 
 use calls::Call;

@@ -32,7 +32,7 @@ fn change_bytes(random: &mut Random, bytes: &mut [u8]) {
     }
 }
 
-fn swap_records(random: &mut Random, bytes: &mut [u8]) {
+pub(crate) fn swap_records(random: &mut Random, bytes: &mut [u8]) {
     let (records, _) = bytes.as_chunks_mut::<RECORD_LEN>();
     if !records.is_empty() {
         let (one, other) = (random.below(records.len()), random.below(records.len()));

@@ -7,6 +7,7 @@ pub mod extremes;
 pub mod generate;
 mod graded;
 mod graphs;
+mod mutation;
 mod properties;
 mod random;
 pub mod relations;

@@ -138,3 +138,15 @@ fn a_seed_gives_the_same_files_again() {
     };
     assert_eq!(files(), files());
 }
+
+#[test]
+fn mutated_files_meet_every_number_but_the_limits() {
+    let mut random = Random::new(6);
+    let mut met = [0; 9];
+    for _ in 0..20_000 {
+        let kind = random.pick(&Kind::ALL);
+        let [file, other] = [(); 2].map(|()| generate::valid(&mut random, kind, Size::Small));
+        met[kind.number(&generate::mutated(&mut random, &file, &other))] += 1;
+    }
+    assert!(met.iter().enumerate().all(|(number, &times)| number == 5 || times > 0), "{met:?}");
+}

@@ -1,5 +1,7 @@
 //! What the calls of the C boundary (include/tintboulder.h) share: the answer as it comes, and the one place where slices become pointers.
 
+use crate::refusal::{Reason, Refusal};
+
 /// The six numbers of an answer. Verdict 0 is a refusal; values that a call does not name are 0.
 #[repr(C)]
 #[derive(Clone, Copy, Debug, PartialEq, Eq)]
@@ -12,29 +14,36 @@ pub struct Answer {
     pub fourth: u64,
 }
 
-/// A refusal: its number in the published table, the file's position from 1, and the first offending record from 0.
-#[derive(Clone, Copy, Debug, PartialEq, Eq)]
-pub struct Refusal {
-    pub number: u32,
-    pub file: u64,
-    pub record: u64,
-}
-
 impl Answer {
     /// The answer itself, unless it is a refusal.
     pub(crate) fn accepted(self) -> Result<Answer, Refusal> {
-        match self.verdict {
-            0 => Err(Refusal { number: self.number, file: self.first, record: self.second }),
-            _ => Ok(self),
+        if self.verdict != 0 {
+            return Ok(self);
         }
+        let reason = Reason::of(self.number).expect("a number of the published table");
+        Err(Refusal { reason, file: self.first, record: self.second })
     }
 }
 
-pub(crate) type OnFile = unsafe extern "C" fn(*const u8, usize) -> Answer;
+/// A check of one file.
+#[derive(Clone, Copy)]
+pub struct OnFile {
+    function: FileFunction,
+}
 
-/// Safe if the function is one of the boundary, which are total.
-pub(crate) unsafe fn on_file(call: OnFile, file: &[u8]) -> Answer {
-    call(file.as_ptr(), file.len())
+pub(crate) type FileFunction = unsafe extern "C" fn(*const u8, usize) -> Answer;
+
+impl OnFile {
+    /// Safe if the function is one of the boundary, which are total.
+    pub(crate) const unsafe fn new(function: FileFunction) -> OnFile {
+        OnFile { function }
+    }
+
+    /// The answer as it comes.
+    pub fn answer(&self, file: &[u8]) -> Answer {
+        // Safe: the pointer goes with its own length.
+        unsafe { (self.function)(file.as_ptr(), file.len()) }
+    }
 }
 
 /// A call that takes two files and is lent an output and a work buffer.

@@ -1,6 +1,7 @@
 //! Comparing: does the second graph simulate the first, and by which largest relation?
 
-use crate::boundary::{Answer, OnTwoFiles, Refusal};
+use crate::boundary::{Answer, OnTwoFiles};
+use crate::refusal::Refusal;
 
 extern "C" {
     fn tintboulder_compare(
@@ -29,7 +30,8 @@ pub enum Compared {
     },
 }
 
-/// Compares the graphs. The work buffer is zero afterwards, except after refusal 13.
+/// Compares the graphs with buffers that the caller lends; see [`Buffers::compare`](crate::Buffers::compare). The work buffer is zero afterwards,
+/// except after refusal 13.
 pub fn compare(
     first: &[u8],
     second: &[u8],
@@ -46,6 +48,7 @@ pub fn compare(
 #[cfg(test)]
 mod tests {
     use super::{compare, Compared, Refusal, COMPARE};
+    use crate::refusal::Reason::{PastTheLast, ShortOutput, ShortWork};
 
     const CYCLE: &[u8] = &[1, 1, 0, 1, 0, 0, 1, 1, 0, 1, 0, 0, 2, 0, 0, 1, 0, 0, 2, 1, 0, 0, 0, 0];
     const SELF_LOOP: &[u8] = &[1, 1, 0, 1, 0, 0, 2, 0, 0, 0, 0, 0];
@@ -59,7 +62,7 @@ mod tests {
     ) -> (Result<Compared, Refusal>, Vec<u8>) {
         let (mut out, mut work) = (vec![7; out], vec![7; work]);
         let answer = compare(files[0], files[1], &mut out, &mut work);
-        let left = if answer.is_err_and(|refusal| refusal.number == 13) { 7 } else { 0 };
+        let left = if answer.is_err_and(|refusal| refusal.reason == ShortWork) { 7 } else { 0 };
         assert!(work.iter().all(|&byte| byte == left));
         (answer, out)
     }
@@ -85,11 +88,11 @@ mod tests {
 
     #[test]
     fn refusals_leave_the_output() {
-        let refused = |number, file| Err(Refusal { number, file, record: 0 });
+        let refused = |reason, file| Err(Refusal { reason, file, record: 0 });
         let files = [CYCLE, SELF_LOOP];
-        assert_eq!(compared(files, 63, COMPARE.work()), (refused(12, 0), vec![7; 63]));
-        assert_eq!(compared(files, 64, COMPARE.work() - 1), (refused(13, 0), vec![7; 64]));
+        assert_eq!(compared(files, 63, COMPARE.work()), (refused(ShortOutput, 0), vec![7; 63]));
+        assert_eq!(compared(files, 64, COMPARE.work() - 1), (refused(ShortWork, 0), vec![7; 64]));
         let files = [EDGELESS, &SELF_LOOP[6..]];
-        assert_eq!(compared(files, 0, COMPARE.work()), (refused(7, 2), vec![]));
+        assert_eq!(compared(files, 0, COMPARE.work()), (refused(PastTheLast, 2), vec![]));
     }
 }

@@ -1,6 +1,7 @@
 //! The composed verdict: is the known graph clean with every flow graph of the other interface that satisfies the property, whichever and however large it is?
 
-use crate::boundary::{work_of, Answer, Refusal};
+use crate::boundary::{work_of, Answer};
+use crate::refusal::Refusal;
 use crate::watch::Watched;
 
 extern "C" {
@@ -44,8 +45,9 @@ pub fn compose_store() -> usize {
     work_of(8)
 }
 
-/// Watches the runs from the start method, with whatever the other side will be. The trail of a bad one is of the known graph joined with the maximal model. Store and
-/// work buffer are zero afterwards, except after refusal 13.
+/// Watches the runs from the start method, with whatever the other side will be, and with buffers that the caller lends; see
+/// [`Buffers::compose`](crate::Buffers::compose). The trail of a bad one is of the known graph joined with the maximal model. Store and work buffer are zero
+/// afterwards, except after refusal 13.
 pub fn compose(
     sides: &Sides,
     rules: &[u8],
@@ -95,6 +97,9 @@ pub fn compose_answer(
 #[cfg(test)]
 mod tests {
     use super::{compose, compose_store, compose_work, Refusal, Sides, Watched};
+    use crate::refusal::Reason::{
+        Empty, NotOfInterface, NotProvided, Range, ShortOutput, ShortWork,
+    };
 
     /// Method 1 calls method 2 again and again; method 2 is not written.
     const SIDES: Sides = Sides {
@@ -118,7 +123,7 @@ mod tests {
     ) -> (Result<Watched, Refusal>, Vec<u8>) {
         let [mut out, mut store, mut work] = [out, store, work].map(|length| vec![7; length]);
         let answer = compose(sides, RULES, start, &mut out, &mut store, &mut work);
-        let left = if answer.is_err_and(|refusal| refusal.number == 13) { 7 } else { 0 };
+        let left = if answer.is_err_and(|refusal| refusal.reason == ShortWork) { 7 } else { 0 };
         assert!(store.iter().chain(&work).all(|&byte| byte == left));
         (answer, out)
     }
@@ -152,19 +157,25 @@ mod tests {
 
     #[test]
     fn refusals_leave_the_output() {
-        let refused = |number, file| Err(Refusal { number, file, record: 0 });
+        let refused = |reason, file| Err(Refusal { reason, file, record: 0 });
         let sides = Sides { property: ANYTHING, ..SIDES };
         let [_, store, work] = roomy(0);
-        assert_eq!(composed(&sides, 1, roomy(17)), (refused(12, 0), vec![7; 17]));
-        assert_eq!(composed(&sides, 1, [18, store - 1, work]), (refused(13, 0), vec![7; 18]));
-        assert_eq!(composed(&sides, 1, [18, store, work - 1]), (refused(13, 0), vec![7; 18]));
+        assert_eq!(composed(&sides, 1, roomy(17)), (refused(ShortOutput, 0), vec![7; 17]));
+        assert_eq!(
+            composed(&sides, 1, [18, store - 1, work]),
+            (refused(ShortWork, 0), vec![7; 18])
+        );
+        assert_eq!(
+            composed(&sides, 1, [18, store, work - 1]),
+            (refused(ShortWork, 0), vec![7; 18])
+        );
         for start in [0, 9, 255] {
-            assert_eq!(composed(&sides, start, roomy(18)), (refused(3, 0), vec![7; 18]));
+            assert_eq!(composed(&sides, start, roomy(18)), (refused(Range, 0), vec![7; 18]));
         }
-        assert_eq!(composed(&sides, 3, roomy(18)), (refused(10, 0), vec![7; 18]));
+        assert_eq!(composed(&sides, 3, roomy(18)), (refused(NotProvided, 0), vec![7; 18]));
         let shared = Sides { other_interface: SIDES.known_interface, ..SIDES };
-        assert_eq!(composed(&shared, 1, roomy(18)), (refused(9, 0), vec![7; 18]));
+        assert_eq!(composed(&shared, 1, roomy(18)), (refused(NotOfInterface, 0), vec![7; 18]));
         let empty = Sides { property: &[], ..SIDES };
-        assert_eq!(composed(&empty, 0, roomy(18)), (refused(6, 4), vec![7; 18]));
+        assert_eq!(composed(&empty, 0, roomy(18)), (refused(Empty, 4), vec![7; 18]));
     }
 }

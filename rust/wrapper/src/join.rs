@@ -1,6 +1,7 @@
 //! Joining: what two graphs make together.
 
-use crate::boundary::{Answer, Refusal};
+use crate::boundary::Answer;
+use crate::refusal::Refusal;
 
 extern "C" {
     fn tintboulder_join(
@@ -26,7 +27,13 @@ pub struct Joined {
     pub required: u8,
 }
 
-/// Joins two sides, each of an interface and a graph.
+impl Joined {
+    pub fn records(&self) -> u64 {
+        self.nodes + self.edges
+    }
+}
+
+/// Joins two sides, each of an interface and a graph, with an output that the caller lends; see [`Buffers::join`](crate::Buffers::join).
 pub fn join(
     interface1: &[u8],
     graph1: &[u8],
@@ -63,6 +70,7 @@ pub fn join_answer(files: [&[u8]; 4], out: &mut [u8]) -> Answer {
 #[cfg(test)]
 mod tests {
     use super::{join, Joined, Refusal};
+    use crate::refusal::Reason::{Empty, NotOfInterface, ShortOutput};
 
     /// Method 1 calls 2; method 2 calls nothing.
     const FIRST: [&[u8]; 2] = [&[5, 1, 2, 0, 0, 0], &[1, 1, 0, 1, 0, 0, 2, 0, 2, 0, 0, 0]];
@@ -83,12 +91,12 @@ mod tests {
 
     #[test]
     fn refusals_leave_the_output() {
-        let refused = |number, file| Err(Refusal { number, file, record: 0 });
+        let refused = |reason, file| Err(Refusal { reason, file, record: 0 });
         let mut out = [7; 23];
-        assert_eq!(joined(FIRST, SECOND, &mut out), refused(12, 0));
-        assert_eq!(joined(FIRST, FIRST, &mut out), refused(9, 0));
-        assert_eq!(joined(FIRST, [SECOND[0], FIRST[1]], &mut out), refused(9, 4));
-        assert_eq!(joined([FIRST[0], &[]], [&[], &[]], &mut out), refused(6, 3));
+        assert_eq!(joined(FIRST, SECOND, &mut out), refused(ShortOutput, 0));
+        assert_eq!(joined(FIRST, FIRST, &mut out), refused(NotOfInterface, 0));
+        assert_eq!(joined(FIRST, [SECOND[0], FIRST[1]], &mut out), refused(NotOfInterface, 4));
+        assert_eq!(joined([FIRST[0], &[]], [&[], &[]], &mut out), refused(Empty, 3));
         assert_eq!(out, [7; 23]);
     }
 }

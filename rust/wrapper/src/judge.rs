@@ -1,6 +1,7 @@
 //! Judging: does a graph satisfy a property, and if not, why?
 
-use crate::boundary::{Answer, OnTwoFiles, Refusal};
+use crate::boundary::{Answer, OnTwoFiles};
+use crate::refusal::Refusal;
 
 extern "C" {
     fn tintboulder_judge(
@@ -28,7 +29,17 @@ pub enum Judged {
     },
 }
 
-/// Judges the graph. The work buffer is zero afterwards, except after refusal 13.
+impl Judged {
+    /// Records of the fault sheet: none if the property holds.
+    pub fn records(&self) -> u64 {
+        match *self {
+            Judged::Holds => 0,
+            Judged::Fails { records } => records,
+        }
+    }
+}
+
+/// Judges the graph with buffers that the caller lends; see [`Buffers::judge`](crate::Buffers::judge). The work buffer is zero afterwards, except after refusal 13.
 pub fn judge(
     graph: &[u8],
     property: &[u8],

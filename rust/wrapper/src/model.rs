@@ -1,6 +1,7 @@
 //! Modelling: the most general module that an interface and a property allow.
 
-use crate::boundary::{Answer, OnTwoFiles, Refusal};
+use crate::boundary::{Answer, OnTwoFiles};
+use crate::refusal::Refusal;
 
 extern "C" {
     fn tintboulder_model(
@@ -26,7 +27,13 @@ pub struct Written {
     pub edges: u64,
 }
 
-/// Writes the model. The work buffer is zero afterwards, except after refusal 13.
+impl Written {
+    pub fn records(&self) -> u64 {
+        self.nodes + self.edges
+    }
+}
+
+/// Writes the model with buffers that the caller lends; see [`Buffers::model`](crate::Buffers::model). The work buffer is zero afterwards, except after refusal 13.
 pub fn model(
     interface: &[u8],
     property: &[u8],
@@ -40,6 +47,7 @@ pub fn model(
 #[cfg(test)]
 mod tests {
     use super::{model, Refusal, Written, MODEL};
+    use crate::refusal::Reason::{Empty, ShortOutput, ShortWork};
 
     const INTERFACE: &[u8] = &[5, 1, 0, 0, 0, 0];
     /// Row 0 is "0 or 0", which is true everywhere.
@@ -56,12 +64,12 @@ mod tests {
 
     #[test]
     fn refusals_leave_the_output() {
-        let refused = |number, file| Err(Refusal { number, file, record: 0 });
+        let refused = |reason, file| Err(Refusal { reason, file, record: 0 });
         let (mut out, mut work) = (vec![7; 71], vec![7; MODEL.work()]);
-        assert_eq!(model(INTERFACE, ITSELF, &mut out, &mut work), refused(12, 0));
-        assert_eq!(model(INTERFACE, &[], &mut out, &mut work), refused(6, 2));
+        assert_eq!(model(INTERFACE, ITSELF, &mut out, &mut work), refused(ShortOutput, 0));
+        assert_eq!(model(INTERFACE, &[], &mut out, &mut work), refused(Empty, 2));
         let short = work.len() - 1;
-        assert_eq!(model(INTERFACE, ITSELF, &mut out, &mut work[..short]), refused(13, 0));
+        assert_eq!(model(INTERFACE, ITSELF, &mut out, &mut work[..short]), refused(ShortWork, 0));
         assert_eq!(out, vec![7; 71]);
     }
 }

@@ -1,6 +1,7 @@
 //! Showing: the record of a joined node, in the file it came from.
 
-use crate::boundary::{Answer, Refusal};
+use crate::boundary::Answer;
+use crate::refusal::Refusal;
 
 extern "C" {
     fn tintboulder_show(
@@ -15,6 +16,14 @@ extern "C" {
 }
 
 /// The record of the node of this number: those of the first graph come first, then those of the second.
+///
+/// ```
+/// use tintboulder::{show, Reason};
+/// let (graph1, graph2) = ([1, 1, 0, 1, 0, 0], [1, 2, 1, 1, 0, 0]);
+/// assert_eq!(show(&graph1, &graph2, 1), Ok(graph2));
+/// let refusal = show(&graph1, &graph2, 2).unwrap_err();
+/// assert_eq!(refusal.reason, Reason::PastTheLast);
+/// ```
 pub fn show(graph1: &[u8], graph2: &[u8], number: u64) -> Result<[u8; 6], Refusal> {
     let mut record = [0; 6];
     show_answer([graph1, graph2], number, &mut record).accepted()?;
@@ -41,6 +50,7 @@ pub fn show_answer(graphs: [&[u8]; 2], number: u64, out: &mut [u8]) -> Answer {
 #[cfg(test)]
 mod tests {
     use super::{show, show_answer, Refusal};
+    use crate::refusal::Reason::{Length, PastTheLast};
 
     const FIRST: &[u8] = &[1, 1, 0, 1, 0, 0, 2, 0, 0, 0, 0, 0];
     const SECOND: &[u8] = &[1, 1, 1, 0, 0, 0, 1, 2, 0, 0, 0, 0];
@@ -56,11 +66,11 @@ mod tests {
 
     #[test]
     fn what_is_not_there_is_refused() {
-        let refused = |number, file| Err(Refusal { number, file, record: 0 });
+        let refused = |reason, file| Err(Refusal { reason, file, record: 0 });
         for number in [3, u64::MAX] {
-            assert_eq!(show(FIRST, SECOND, number), refused(7, 0));
+            assert_eq!(show(FIRST, SECOND, number), refused(PastTheLast, 0));
         }
-        assert_eq!(show(FIRST, &SECOND[..5], 0), refused(1, 2));
+        assert_eq!(show(FIRST, &SECOND[..5], 0), refused(Length, 2));
         let mut out = [7; 5];
         let answer = show_answer([FIRST, SECOND], 0, &mut out);
         assert_eq!((answer.verdict, answer.number, out), (0, 12, [7; 5]));

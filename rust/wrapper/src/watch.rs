@@ -1,6 +1,7 @@
 //! Watching: does some run of a graph take a monitor to its bad state?
 
-use crate::boundary::{work_of, Answer, Refusal};
+use crate::boundary::{work_of, Answer};
+use crate::refusal::Refusal;
 
 extern "C" {
     fn tintboulder_watch(
@@ -35,6 +36,14 @@ impl Watched {
             _ => Ok(Watched::Bad { records: answer.first }),
         }
     }
+
+    /// Records of the trail: none if all is clean.
+    pub fn records(&self) -> u64 {
+        match *self {
+            Watched::Clean => 0,
+            Watched::Bad { records } => records,
+        }
+    }
 }
 
 /// The published length of the work buffer. A shorter one is refused by 13.
@@ -42,7 +51,8 @@ pub fn watch_work() -> usize {
     work_of(6)
 }
 
-/// Watches the runs from the start method. The work buffer is zero afterwards, except after refusal 13.
+/// Watches the runs from the start method with buffers that the caller lends; see [`Buffers::watch`](crate::Buffers::watch). The work buffer is zero afterwards,
+/// except after refusal 13.
 pub fn watch(
     interface: &[u8],
     graph: &[u8],
@@ -78,6 +88,9 @@ pub fn watch_answer(files: [&[u8]; 3], start: u8, out: &mut [u8], work: &mut [u8
 #[cfg(test)]
 mod tests {
     use super::{watch, watch_work, Refusal, Watched};
+    use crate::refusal::Reason::{
+        Length, NotOfInterface, NotProvided, Range, ShortOutput, ShortWork,
+    };
 
     const INTERFACE: &[u8] = &[5, 1, 1, 0, 0, 0];
     /// Entry 0 calls its own method, whose other entry returns.
@@ -95,7 +108,7 @@ mod tests {
         let (mut out, mut work) = (vec![7; out], vec![7; work]);
         let [interface, graph, rules] = files;
         let answer = watch(interface, graph, rules, start, &mut out, &mut work);
-        let left = if answer.is_err_and(|refusal| refusal.number == 13) { 7 } else { 0 };
+        let left = if answer.is_err_and(|refusal| refusal.reason == ShortWork) { 7 } else { 0 };
         assert!(work.iter().all(|&byte| byte == left));
         (answer, out)
     }
@@ -122,18 +135,18 @@ mod tests {
 
     #[test]
     fn refusals_leave_the_output() {
-        let refused = |number, file| Err(Refusal { number, file, record: 0 });
+        let refused = |reason, file| Err(Refusal { reason, file, record: 0 });
         let graph = GRAPH.concat();
         let files = [INTERFACE, &graph, RULES];
-        assert_eq!(watched(files, 1, 11, watch_work()), (refused(12, 0), vec![7; 11]));
-        assert_eq!(watched(files, 1, 12, watch_work() - 1), (refused(13, 0), vec![7; 12]));
+        assert_eq!(watched(files, 1, 11, watch_work()), (refused(ShortOutput, 0), vec![7; 11]));
+        assert_eq!(watched(files, 1, 12, watch_work() - 1), (refused(ShortWork, 0), vec![7; 12]));
         for start in [0, 9, 255] {
-            assert_eq!(watched(files, start, 12, watch_work()), (refused(3, 0), vec![7; 12]));
+            assert_eq!(watched(files, start, 12, watch_work()), (refused(Range, 0), vec![7; 12]));
         }
-        assert_eq!(watched(files, 2, 12, watch_work()), (refused(10, 0), vec![7; 12]));
+        assert_eq!(watched(files, 2, 12, watch_work()), (refused(NotProvided, 0), vec![7; 12]));
         let files = [&[5, 2, 2, 0, 0, 0], &graph[..], RULES];
-        assert_eq!(watched(files, 2, 12, watch_work()), (refused(9, 2), vec![7; 12]));
+        assert_eq!(watched(files, 2, 12, watch_work()), (refused(NotOfInterface, 2), vec![7; 12]));
         let files = [INTERFACE, &graph, &RULES[..5]];
-        assert_eq!(watched(files, 0, 12, watch_work()), (refused(1, 3), vec![7; 12]));
+        assert_eq!(watched(files, 0, 12, watch_work()), (refused(Length, 3), vec![7; 12]));
     }
 }

@@ -1,5 +1,6 @@
 //! Judging through the boundary: both verdicts, the order of refusals, and what becomes of the lent buffers.
 
+use tintboulder::Reason::{self, Empty, PastTheLast, ShortOutput, ShortWork};
 use tintboulder::{judge, Judged, Refusal, JUDGE};
 
 const GRAPH: &[u8] = &[1, 1, 0, 1, 0, 0, 1, 1, 1, 0, 0, 0, 2, 0, 1, 1, 0, 0];
@@ -19,8 +20,8 @@ fn judged(
     (answer, out, work)
 }
 
-fn refused(number: u32, file: u64, record: u64) -> Result<Judged, Refusal> {
-    Err(Refusal { number, file, record })
+fn refused(reason: Reason, file: u64, record: u64) -> Result<Judged, Refusal> {
+    Err(Refusal { reason, file, record })
 }
 
 #[test]
@@ -46,19 +47,19 @@ fn holding_graph_writes_nothing() {
 #[test]
 fn short_output_is_left_alone() {
     let (answer, out, work) = judged([GRAPH, BOX_1], 11, JUDGE.work());
-    assert_eq!((answer, out), (refused(12, 0, 0), vec![7; 11]));
+    assert_eq!((answer, out), (refused(ShortOutput, 0, 0), vec![7; 11]));
     assert!(work.iter().all(|&byte| byte == 0));
 }
 
 #[test]
 fn short_work_comes_first_and_is_left_alone() {
     let (answer, out, work) = judged([&[9], &[]], 12, JUDGE.work() - 1);
-    assert_eq!((answer, out), (refused(13, 0, 0), vec![7; 12]));
+    assert_eq!((answer, out), (refused(ShortWork, 0, 0), vec![7; 12]));
     assert!(work.iter().all(|&byte| byte == 7));
 }
 
 #[test]
 fn files_are_refused_in_order() {
-    assert_eq!(judged([&GRAPH[12..], &[]], 0, JUDGE.work()).0, refused(7, 1, 0));
-    assert_eq!(judged([GRAPH, &[]], 0, JUDGE.work()).0, refused(6, 2, 0));
+    assert_eq!(judged([&GRAPH[12..], &[]], 0, JUDGE.work()).0, refused(PastTheLast, 1, 0));
+    assert_eq!(judged([GRAPH, &[]], 0, JUDGE.work()).0, refused(Empty, 2, 0));
 }

@@ -1,0 +1,35 @@
+use native.Mathlib.Omega.{arith}
+use Prim.Native.Nat.{_≤_, _-_, _/_}
+use lib.ListN.{length}
+use borrow.Author.Needs.{needs}
+use Rattle.checker.proofs.dot.say_calls.Statement.{statement}
+use Rattle.checker.proofs.dot.say_calls.Tie as tie
+
+abbrev Inv-loop : tie.InvT-loop
+Inv-loop trail end i₀ i = end ≤ length trail / 6
+
+abbrev μ-loop : tie.MeasureT-loop
+μ-loop trail end i₀ i = end - i
+
+loop-holds : tie.Need-loop-holds Inv-loop μ-loop
+loop-holds c = omega arith
+
+say-entered-requires : tie.Need-say-entered-requires Inv-loop μ-loop
+say-entered-requires c κs = omega arith
+
+add-i : tie.Need-add-i Inv-loop μ-loop
+add-i c = omega arith
+
+loop-less : tie.Need-loop-less Inv-loop μ-loop
+loop-less c = omega arith
+
+loop-again : tie.Need-loop-again Inv-loop μ-loop
+loop-again c = omega arith
+
+returns : tie.Need-returns Inv-loop μ-loop
+returns c = search needs
+
+pub say-calls-spec : {M : Type 1} → statement M
+say-calls-spec =
+    tie.close
+    (tie.spec Inv-loop μ-loop loop-holds say-entered-requires add-i loop-less loop-again returns)
