@@ -1,12 +1,16 @@
 -- A record that does not read as an edge, a rule, a node or a wrong one: what each test then says. The tags are those of the enum's variants, in order.
-use mathlib.Core.Path.{_≡_, refl, subst}
+use mathlib.Core.Path.{_≡_, refl, subst, _∙_}
 use mathlib.Core.Bool.{Bool, true, false}
 use mathlib.Core.List.{List, [], _∷_}
 use Prim.Native.Nat.{ℕ}
-use types.Run.{OneOf, miss}
+use native.Mathlib.Omega.{arith}
+use types.Run.{OneOf, hit, miss}
 use denote.Enum.Declared.{tagOf}
+use Rattle.files.specs.declared.record.Record.{Record}
 use Rattle.files.specs.declared.record.Parsed.{Parsed}
 use Rattle.files.specs.declared.record.Parsed.the-variants.{Node, Edge, Row, Rule, Interface, Wrong, Other}
+use Rattle.files.specs.Record.{parsed, parsed-as}
+use Rattle.files.specs.Record.Laws.{kind-read, as-same}
 use Rattle.files.specs.Interface.{Interface as Sets}
 use Rattle.files.specs.Sides.{foreign-node, foreign-call}
 use Rattle.files.specs.Checking.{is-wrong, edge-out, edges-out, rule-out, rules-out, edge-past, row-past, method-of, crossing-of, is-or-of}
@@ -137,6 +141,95 @@ no-foreign-call I (Rule q v m n s) k = refl
 no-foreign-call I (Interface p q) k = refl
 no-foreign-call I Wrong k = refl
 no-foreign-call I Other k = refl
+
+-- ---- a record that does not read as the kind looked for
+
+not-node : (x : Parsed) → (kind-read x ≡ 1 → ⊥) → OneOf but-node (tagOf Parsed.the-type x)
+not-node (Node m r e) h = absurd (h refl)
+not-node (Edge f l t) h = hit but-node 1 tt
+not-node (Row o a b) h = hit but-node 2 tt
+not-node (Rule q v m n s) h = hit but-node 3 tt
+not-node (Interface p q) h = hit but-node 4 tt
+not-node Wrong h = hit but-node 5 tt
+not-node Other h = hit but-node 6 tt
+
+not-edge : (x : Parsed) → (kind-read x ≡ 2 → ⊥) → OneOf but-edge (tagOf Parsed.the-type x)
+not-edge (Node m r e) h = hit but-edge 0 tt
+not-edge (Edge f l t) h = absurd (h refl)
+not-edge (Row o a b) h = hit but-edge 2 tt
+not-edge (Rule q v m n s) h = hit but-edge 3 tt
+not-edge (Interface p q) h = hit but-edge 4 tt
+not-edge Wrong h = hit but-edge 5 tt
+not-edge Other h = hit but-edge 6 tt
+
+not-row : (x : Parsed) → (kind-read x ≡ 3 → ⊥) → OneOf but-row (tagOf Parsed.the-type x)
+not-row (Node m r e) h = hit but-row 0 tt
+not-row (Edge f l t) h = hit but-row 1 tt
+not-row (Row o a b) h = absurd (h refl)
+not-row (Rule q v m n s) h = hit but-row 3 tt
+not-row (Interface p q) h = hit but-row 4 tt
+not-row Wrong h = hit but-row 5 tt
+not-row Other h = hit but-row 6 tt
+
+not-rule : (x : Parsed) → (kind-read x ≡ 4 → ⊥) → OneOf but-rule (tagOf Parsed.the-type x)
+not-rule (Node m r e) h = hit but-rule 0 tt
+not-rule (Edge f l t) h = hit but-rule 1 tt
+not-rule (Row o a b) h = hit but-rule 2 tt
+not-rule (Rule q v m n s) h = absurd (h refl)
+not-rule (Interface p q) h = hit but-rule 4 tt
+not-rule Wrong h = hit but-rule 5 tt
+not-rule Other h = hit but-rule 6 tt
+
+-- ---- tests on a record parsed as the one kind that they ask for
+
+no-second-edge : (x y : Parsed) → OneOf but-edge (tagOf Parsed.the-type y) → edges-out x Other ≡ edges-out x y
+no-second-edge (Node m r e) y k = refl
+no-second-edge (Edge f l t) y k = no-next-edge f l t y k
+no-second-edge (Row o a b) y k = refl
+no-second-edge (Rule q v m n s) y k = refl
+no-second-edge (Interface p q) y k = refl
+no-second-edge Wrong y k = refl
+no-second-edge Other y k = refl
+
+no-second-rule : (x y : Parsed) → OneOf but-rule (tagOf Parsed.the-type y) → rules-out x Other ≡ rules-out x y
+no-second-rule (Node m r e) y k = refl
+no-second-rule (Edge f l t) y k = refl
+no-second-rule (Row o a b) y k = refl
+no-second-rule (Rule q v m n s) y k = no-next-rule q v m n y k
+no-second-rule (Interface p q) y k = refl
+no-second-rule Wrong y k = refl
+no-second-rule Other y k = refl
+
+pub edges-as : (r s : Record) → edges-out (parsed-as 2 r) (parsed-as 2 s) ≡ edges-out (parsed r) (parsed s)
+edges-as r s =
+    as-same 2 r (λ (x : Parsed). edges-out x (parsed-as 2 s)) (omega arith) (λ x h. no-first-edge x (parsed-as 2 s) (not-edge x h))
+    ∙ as-same 2 s (edges-out (parsed r)) (omega arith) (λ y h. no-second-edge (parsed r) y (not-edge y h))
+
+pub rules-as : (r s : Record) → rules-out (parsed-as 4 r) (parsed-as 4 s) ≡ rules-out (parsed r) (parsed s)
+rules-as r s =
+    as-same 4 r (λ (x : Parsed). rules-out x (parsed-as 4 s)) (omega arith) (λ x h. no-first-rule x (parsed-as 4 s) (not-rule x h))
+    ∙ as-same 4 s (rules-out (parsed r)) (omega arith) (λ y h. no-second-rule (parsed r) y (not-rule y h))
+
+pub edge-past-as : (n : ℕ) (r : Record) → edge-past n (parsed-as 2 r) ≡ edge-past n (parsed r)
+edge-past-as n r = as-same 2 r (edge-past n) (omega arith) (λ x h. no-edge-past n x (not-edge x h))
+
+pub row-past-as : (n : ℕ) (r : Record) → row-past n (parsed-as 3 r) ≡ row-past n (parsed r)
+row-past-as n r = as-same 3 r (row-past n) (omega arith) (λ x h. no-row-past n x (not-row x h))
+
+pub crossing-as : (l : List ℕ) (n : ℕ) (r : Record) → crossing-of l n (parsed-as 2 r) ≡ crossing-of l n (parsed r)
+crossing-as l n r = as-same 2 r (crossing-of l n) (omega arith) (λ x h. no-crossing l n x (not-edge x h))
+
+pub method-as : (r : Record) → method-of (parsed-as 1 r) ≡ method-of (parsed r)
+method-as r = as-same 1 r method-of (omega arith) (λ x h. no-method x (not-node x h))
+
+pub or-as : (r : Record) → is-or-of (parsed-as 3 r) ≡ is-or-of (parsed r)
+or-as r = as-same 3 r is-or-of (omega arith) (λ x h. no-or x (not-row x h))
+
+pub foreign-node-as : (I : Sets) (r : Record) → foreign-node I (parsed-as 1 r) ≡ foreign-node I (parsed r)
+foreign-node-as I r = as-same 1 r (foreign-node I) (omega arith) (λ x h. no-foreign-node I x (not-node x h))
+
+pub foreign-call-as : (I : Sets) (r : Record) → foreign-call I (parsed-as 2 r) ≡ foreign-call I (parsed r)
+foreign-call-as I r = as-same 2 r (foreign-call I) (omega arith) (λ x h. no-foreign-call I x (not-edge x h))
 
 -- ---- a record that is known to read as one kind does not read as another
 

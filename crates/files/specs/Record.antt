@@ -90,6 +90,10 @@ parsed r =
     (cond (eqb (r .kind) 5) (Interface (r .first) (r .second))
     Other)))))
 
+-- what it reads as where only records of kind k are looked for
+pub parsed-as : ℕ → Record → Parsed
+parsed-as k r = cond (eqb (r .kind) k) (parsed r) Other
+
 -- ---- the record written
 
 abbrev pub node-record : ℕ → Bool → Bool → Record

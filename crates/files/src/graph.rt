@@ -8,7 +8,8 @@ ghost use Rattle.files.specs.Refusal.{nodes-of};
 ghost use Rattle.files.specs.Graph.{node, no-edge};
 ghost use Rattle.files.specs.Decode.{decode-graph};
 ghost use Rattle.files.specs.Access.{GraphFile, node-held, edge-held, first-edge};
-use crate::parse::parse;
+use crate::parse::parse_edge;
+use crate::parse::parse_node;
 use crate::record::Parsed;
 use crate::record::Record;
 use crate::refusal::Refusal;
@@ -44,7 +45,7 @@ pub fn node_at(graph: &[u8], g: usize, position: u8) -> NodeAt
         method,
         returns,
         entry,
-    } = parse(graph, g)
+    } = parse_node(graph, g)
     else {
         return NodeAt::Refused(Refusal::at(2, position, g));
     };
@@ -61,7 +62,7 @@ pub fn edge_at(graph: &[u8], nodes: usize, j: usize, position: u8) -> EdgeAt
     ensures { λ r. ⌜ r ≡ EdgeAt.Is (edge-held (getD ((decode-graph (now (graph .entry))) .edges) j no-edge)) ⌝ }
 {
     let i = nodes + j;
-    let Parsed::Edge { from, label, to } = parse(graph, i) else {
+    let Parsed::Edge { from, label, to } = parse_edge(graph, i) else {
         return EdgeAt::Refused(Refusal::at(2, position, i));
     };
     EdgeAt::Is(GraphEdge {

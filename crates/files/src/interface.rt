@@ -4,7 +4,7 @@ ghost use Prim.Native.Nat.{_<_};
 ghost use Rattle.files.specs.Interface.{in-set, provides, requires-method};
 ghost use Rattle.files.specs.Decode.{decode-interface};
 ghost use Rattle.files.specs.Access.{InterfaceFile};
-use crate::parse::parse;
+use crate::parse::parse_interface;
 use crate::record::Parsed;
 
 // Method m is in the set whose bit of weight 2^(m-1) stands for it.
@@ -25,7 +25,7 @@ pub fn provides(interface: &[u8], m: u8) -> bool
     requires { ⌜ InterfaceFile (now interface) ⌝ }
     ensures { λ r. ⌜ r ≡ provides (decode-interface (now (interface .entry))) m ⌝ }
 {
-    let Parsed::Interface { provided, .. } = parse(interface, 0) else {
+    let Parsed::Interface { provided, .. } = parse_interface(interface, 0) else {
         return false;
     };
     in_set(provided, m)
@@ -36,7 +36,7 @@ pub fn requires_method(interface: &[u8], m: u8) -> bool
     requires { ⌜ InterfaceFile (now interface) ⌝ }
     ensures { λ r. ⌜ r ≡ requires-method (decode-interface (now (interface .entry))) m ⌝ }
 {
-    let Parsed::Interface { required, .. } = parse(interface, 0) else {
+    let Parsed::Interface { required, .. } = parse_interface(interface, 0) else {
         return false;
     };
     in_set(required, m)
@@ -47,7 +47,7 @@ pub fn provided_methods(interface: &[u8]) -> u8
     requires { ⌜ InterfaceFile (now interface) ⌝ }
     ensures { λ r. ⌜ r ≡ (decode-interface (now (interface .entry))) .provided ⌝ }
 {
-    let Parsed::Interface { provided, .. } = parse(interface, 0) else {
+    let Parsed::Interface { provided, .. } = parse_interface(interface, 0) else {
         return 0;
     };
     provided
@@ -58,7 +58,7 @@ pub fn required_methods(interface: &[u8]) -> u8
     requires { ⌜ InterfaceFile (now interface) ⌝ }
     ensures { λ r. ⌜ r ≡ (decode-interface (now (interface .entry))) .required ⌝ }
 {
-    let Parsed::Interface { required, .. } = parse(interface, 0) else {
+    let Parsed::Interface { required, .. } = parse_interface(interface, 0) else {
         return 0;
     };
     required

@@ -10,6 +10,10 @@ ghost use Rattle.files.specs.FileKind.{kind-of};
 ghost use Rattle.files.specs.Checking.{parsed-at, is-wrong, edges-out, rules-out, disordered-at, edge-past, row-past, past-of, method-of, crossing-of, is-or-of, offends};
 use crate::parse::kind_at;
 use crate::parse::parse;
+use crate::parse::parse_edge;
+use crate::parse::parse_node;
+use crate::parse::parse_row;
+use crate::parse::parse_rule;
 use crate::record::Parsed;
 use crate::record::Record;
 
@@ -133,9 +137,11 @@ fn disordered(records: &[u8], i: usize) -> bool
     if i == 0 {
         return false;
     }
-    let p = parse(records, i - 1);
-    let q = parse(records, i);
-    edges_out(p, q) | rules_out(p, q)
+    let edge = parse_edge(records, i - 1);
+    let next_edge = parse_edge(records, i);
+    let rule = parse_rule(records, i - 1);
+    let next_rule = parse_rule(records, i);
+    edges_out(edge, next_edge) | rules_out(rule, next_rule)
 }
 
 // An edge that names a node that is not below n.
@@ -161,10 +167,13 @@ fn row_past(p: Parsed, n: usize) -> bool
 }
 
 // 7: an edge names a node, or a row a row, that is not below n.
-fn past(p: Parsed, n: usize) -> bool
-    ensures { λ r. ⌜ r ≡ past-of n p ⌝ }
+fn past(records: &[u8], i: usize, n: usize) -> bool
+    requires { ⌜ 6 * i + 6 ≤ length (now records) ⌝ }
+    ensures { λ r. ⌜ r ≡ past-of n (parsed-at (now (records .entry)) i) ⌝ }
 {
-    edge_past(p, n) | row_past(p, n)
+    let edge = parse_edge(records, i);
+    let row = parse_row(records, i);
+    edge_past(edge, n) | row_past(row, n)
 }
 
 // The method of node g; 0 where record g does not read as a node.
@@ -172,7 +181,7 @@ fn method_of(records: &[u8], g: usize) -> u8
     requires { ⌜ 6 * g + 6 ≤ length (now records) ⌝ }
     ensures { λ r. ⌜ r ≡ method-of (parsed-at (now (records .entry)) g) ⌝ }
 {
-    let Parsed::Node { method, .. } = parse(records, g) else {
+    let Parsed::Node { method, .. } = parse_node(records, g) else {
         return 0;
     };
     method
@@ -183,7 +192,7 @@ fn crossing(records: &[u8], i: usize, n: usize) -> bool
     requires { ⌜ (6 * i + 6 ≤ length (now records)) × (6 * n ≤ length (now records)) ⌝ }
     ensures { λ r. ⌜ r ≡ crossing-of (now (records .entry)) n (parsed-at (now (records .entry)) i) ⌝ }
 {
-    let Parsed::Edge { from, to, .. } = parse(records, i) else {
+    let Parsed::Edge { from, to, .. } = parse_edge(records, i) else {
         return false;
     };
     if n <= from {
@@ -223,8 +232,7 @@ pub fn offends(number: u8, kind: FileKind, records: &[u8], bound: usize, i: usiz
         return disordered(records, i);
     }
     if number == 7 {
-        let p = parse(records, i);
-        return past(p, bound);
+        return past(records, i, bound);
     }
     crossing(records, i, bound)
 }

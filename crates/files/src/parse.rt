@@ -2,7 +2,7 @@
 ghost use mathlib.Core.Path.{_≡_};
 ghost use Prim.Native.Nat.{_+_, _*_, _≤_};
 ghost use lib.ListN.{length};
-ghost use Rattle.files.specs.Record.{record-at, kind-at, node-wrong, edge-wrong, row-wrong, rule-wrong, interface-wrong, wrong, parsed};
+ghost use Rattle.files.specs.Record.{record-at, kind-at, node-wrong, edge-wrong, row-wrong, rule-wrong, interface-wrong, parsed, parsed-as};
 use crate::record::Parsed;
 use crate::record::Record;
 
@@ -70,60 +70,100 @@ fn interface_wrong(r: Record) -> bool
     !(r.third == 0) | (!(r.fourth == 0) | !(r.fifth == 0))
 }
 
-// A field is out of range, or an unused byte is not 0, by the record's own kind.
-fn wrong(r: Record) -> bool
-    ensures { λ b. ⌜ b ≡ wrong r ⌝ }
+// A node, or a wrong one.
+fn read_node(r: Record) -> Parsed
+    requires { ⌜ r .kind ≡ 1 ⌝ }
+    ensures { λ p. ⌜ p ≡ parsed r ⌝ }
 {
-    let k = r.kind;
-    ((k == 1) & node_wrong(r))
-        | (((k == 2) & edge_wrong(r))
-            | (((k == 3) & row_wrong(r))
-                | (((k == 4) & rule_wrong(r)) | ((k == 5) & interface_wrong(r)))))
+    if node_wrong(r) {
+        return Parsed::Wrong;
+    }
+    Parsed::Node {
+        method: r.first,
+        returns: r.second == 1,
+        entry: r.third == 1,
+    }
+}
+
+// An edge, or a wrong one.
+fn read_edge(r: Record) -> Parsed
+    requires { ⌜ r .kind ≡ 2 ⌝ }
+    ensures { λ p. ⌜ p ≡ parsed r ⌝ }
+{
+    if edge_wrong(r) {
+        return Parsed::Wrong;
+    }
+    Parsed::Edge {
+        from: r.first as usize,
+        label: r.second,
+        to: r.third as usize,
+    }
+}
+
+// A row, or a wrong one.
+fn read_row(r: Record) -> Parsed
+    requires { ⌜ r .kind ≡ 3 ⌝ }
+    ensures { λ p. ⌜ p ≡ parsed r ⌝ }
+{
+    if row_wrong(r) {
+        return Parsed::Wrong;
+    }
+    Parsed::Row {
+        operator: r.first,
+        a: r.second,
+        b: r.third,
+    }
+}
+
+// A rule, or a wrong one.
+fn read_rule(r: Record) -> Parsed
+    requires { ⌜ r .kind ≡ 4 ⌝ }
+    ensures { λ p. ⌜ p ≡ parsed r ⌝ }
+{
+    if rule_wrong(r) {
+        return Parsed::Wrong;
+    }
+    Parsed::Rule {
+        state: r.first,
+        event: r.second,
+        m1: r.third,
+        m2: r.fourth,
+        next: r.fifth,
+    }
+}
+
+// An interface, or a wrong one.
+fn read_interface(r: Record) -> Parsed
+    requires { ⌜ r .kind ≡ 5 ⌝ }
+    ensures { λ p. ⌜ p ≡ parsed r ⌝ }
+{
+    if interface_wrong(r) {
+        return Parsed::Wrong;
+    }
+    Parsed::Interface {
+        provided: r.first,
+        required: r.second,
+    }
 }
 
 // What a record reads as.
 fn reads(r: Record) -> Parsed
     ensures { λ p. ⌜ p ≡ parsed r ⌝ }
 {
-    if wrong(r) {
-        return Parsed::Wrong;
+    if r.kind == Record::NODE {
+        return read_node(r);
     }
-    let k = r.kind;
-    if k == 1 {
-        return Parsed::Node {
-            method: r.first,
-            returns: r.second == 1,
-            entry: r.third == 1,
-        };
+    if r.kind == Record::EDGE {
+        return read_edge(r);
     }
-    if k == 2 {
-        return Parsed::Edge {
-            from: r.first as usize,
-            label: r.second,
-            to: r.third as usize,
-        };
+    if r.kind == Record::ROW {
+        return read_row(r);
     }
-    if k == 3 {
-        return Parsed::Row {
-            operator: r.first,
-            a: r.second,
-            b: r.third,
-        };
+    if r.kind == Record::RULE {
+        return read_rule(r);
     }
-    if k == 4 {
-        return Parsed::Rule {
-            state: r.first,
-            event: r.second,
-            m1: r.third,
-            m2: r.fourth,
-            next: r.fifth,
-        };
-    }
-    if k == 5 {
-        return Parsed::Interface {
-            provided: r.first,
-            required: r.second,
-        };
+    if r.kind == Record::INTERFACE {
+        return read_interface(r);
     }
     Parsed::Other
 }
@@ -135,4 +175,61 @@ pub fn parse(records: &[u8], i: usize) -> Parsed
 {
     let r = read(records, i);
     reads(r)
+}
+
+// ---- Record i where one kind is looked for: any other record is Other, and the tests of the other kinds are not made.
+
+pub fn parse_node(records: &[u8], i: usize) -> Parsed
+    requires { ⌜ 6 * i + 6 ≤ length (now records) ⌝ }
+    ensures { λ p. ⌜ p ≡ parsed-as 1 (record-at (now (records .entry)) i) ⌝ }
+{
+    let r = read(records, i);
+    if r.kind == Record::NODE {
+        return read_node(r);
+    }
+    Parsed::Other
+}
+
+pub fn parse_edge(records: &[u8], i: usize) -> Parsed
+    requires { ⌜ 6 * i + 6 ≤ length (now records) ⌝ }
+    ensures { λ p. ⌜ p ≡ parsed-as 2 (record-at (now (records .entry)) i) ⌝ }
+{
+    let r = read(records, i);
+    if r.kind == Record::EDGE {
+        return read_edge(r);
+    }
+    Parsed::Other
+}
+
+pub fn parse_row(records: &[u8], i: usize) -> Parsed
+    requires { ⌜ 6 * i + 6 ≤ length (now records) ⌝ }
+    ensures { λ p. ⌜ p ≡ parsed-as 3 (record-at (now (records .entry)) i) ⌝ }
+{
+    let r = read(records, i);
+    if r.kind == Record::ROW {
+        return read_row(r);
+    }
+    Parsed::Other
+}
+
+pub fn parse_rule(records: &[u8], i: usize) -> Parsed
+    requires { ⌜ 6 * i + 6 ≤ length (now records) ⌝ }
+    ensures { λ p. ⌜ p ≡ parsed-as 4 (record-at (now (records .entry)) i) ⌝ }
+{
+    let r = read(records, i);
+    if r.kind == Record::RULE {
+        return read_rule(r);
+    }
+    Parsed::Other
+}
+
+pub fn parse_interface(records: &[u8], i: usize) -> Parsed
+    requires { ⌜ 6 * i + 6 ≤ length (now records) ⌝ }
+    ensures { λ p. ⌜ p ≡ parsed-as 5 (record-at (now (records .entry)) i) ⌝ }
+{
+    let r = read(records, i);
+    if r.kind == Record::INTERFACE {
+        return read_interface(r);
+    }
+    Parsed::Other
 }

@@ -5,7 +5,7 @@ ghost use Rattle.files.specs.Record.{count};
 ghost use Rattle.files.specs.Property.{row};
 ghost use Rattle.files.specs.Decode.{decode-property};
 ghost use Rattle.files.specs.Access.{PropertyFile, row-held};
-use crate::parse::parse;
+use crate::parse::parse_row;
 use crate::record::Parsed;
 use crate::refusal::Refusal;
 
@@ -25,7 +25,7 @@ pub fn row_at(property: &[u8], r: usize, position: u8) -> RowAt
     requires { ⌜ (PropertyFile (now property)) × (r < count (now property)) ⌝ }
     ensures { λ x. ⌜ x ≡ RowAt.Is (row-held (row (decode-property (now (property .entry))) r)) ⌝ }
 {
-    let Parsed::Row { operator, a, b } = parse(property, r) else {
+    let Parsed::Row { operator, a, b } = parse_row(property, r) else {
         return RowAt::Refused(Refusal::at(2, position, r));
     };
     RowAt::Is(PropertyRow {

@@ -8,7 +8,7 @@ ghost use Rattle.files.specs.Record.{count};
 ghost use Rattle.files.specs.Rules.{no-rule, by-rule, watch};
 ghost use Rattle.files.specs.Decode.{decode-rules};
 ghost use Rattle.files.specs.Access.{RulesFile, rule-held};
-use crate::parse::parse;
+use crate::parse::parse_rule;
 use crate::record::Parsed;
 use crate::record::Record;
 use crate::refusal::Refusal;
@@ -37,7 +37,7 @@ pub fn rule_at(rules: &[u8], j: usize, position: u8) -> RuleAt
         m1,
         m2,
         next,
-    } = parse(rules, j)
+    } = parse_rule(rules, j)
     else {
         return RuleAt::Refused(Refusal::at(2, position, j));
     };

@@ -9,7 +9,7 @@ use crate::offence::FileKind;
 use crate::offence::is_or;
 use crate::offence::offends;
 use crate::parse::kind_at;
-use crate::parse::parse;
+use crate::parse::parse_row;
 use crate::record::Record;
 use crate::refusal::Refusal;
 
@@ -68,7 +68,7 @@ fn counts(kind: FileKind, records: &[u8], i: usize) -> bool
     match kind {
         FileKind::Graph => kind_at(records, i) == Record::NODE,
         FileKind::Property => {
-            let p = parse(records, i);
+            let p = parse_row(records, i);
             is_or(p)
         }
         FileKind::Rules => false,

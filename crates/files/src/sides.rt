@@ -10,7 +10,8 @@ ghost use Rattle.files.specs.Access.{GraphFile, InterfaceFile};
 use crate::interface::in_set;
 use crate::interface::provides;
 use crate::interface::requires_method;
-use crate::parse::parse;
+use crate::parse::parse_edge;
+use crate::parse::parse_node;
 use crate::record::Parsed;
 use crate::record::Record;
 
@@ -41,8 +42,9 @@ fn foreign(graph: &[u8], i: usize, interface: &[u8]) -> bool
     requires { ⌜ (InterfaceFile (now interface)) × (6 * i + 6 ≤ length (now graph)) ⌝ }
     ensures { λ r. ⌜ r ≡ foreign-of (decode-interface (now (interface .entry))) (parsed-at (now (graph .entry)) i) ⌝ }
 {
-    let p = parse(graph, i);
-    foreign_node(p, interface) | foreign_call(p, interface)
+    let node = parse_node(graph, i);
+    let edge = parse_edge(graph, i);
+    foreign_node(node, interface) | foreign_call(edge, interface)
 }
 
 // The first record of the graph that is not of the interface, or the count of records.

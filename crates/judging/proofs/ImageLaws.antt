@@ -4,7 +4,7 @@ use mathlib.Core.Path.{_≡_, refl, sym, ap, subst, _∙_}
 use mathlib.Core.Logic.{inl, inr}
 use mathlib.Core.Bool.{Bool, true, false, not}
 use mathlib.Core.List.{List, _++_, append-assoc}
-use Prim.Native.Nat.{ℕ, _+_, _*_, _-_, _/_, _≤_, _<_}
+use Prim.Native.Nat.{ℕ, _+_, _*_, _-_, _/_, _%_, _≤_, _<_}
 use native.Mathlib.Decide.{ℕ-discrete}
 use native.Mathlib.Omega.{arith}
 use lib.Dec.{T, eqb→eq}
@@ -198,7 +198,14 @@ module _ (s : Sizes) (f g : List ℕ) (x : Both s f g) where
     image-related t w′ a = imaging-related H w₀ w v h (node-fits v hv) h-fits y narrow-edges (sym is ∙ t) w′ (a .0) (a .1)
 
     pub image-unrelated : b ≡ false → Imaging H w₀ v (h + 1) w
-    image-unrelated t = imaging-unrelated H w₀ w v h (node-fits v hv) h-fits y (sym is ∙ t)
+    image-unrelated t = imaging-unrelated H w₀ w v h (node-fits v hv) h-fits y 1 (omega (arith, h-fits)) (λ k a c. ap (rel w v) (same k a c) ∙ sym is ∙ t)
+      where
+        same : (k : ℕ) → h ≤ k → k < h + 1 → k ≡ h
+        same k a c = omega arith
+
+  -- a whole byte of nodes that v is not related to
+  pub image-over : (w₀ w : List ℕ) (v h : ℕ) → v < s .nodes → h < s .nodes2 → Imaging H w₀ v h w → (h % 8 ≡ 0) × ((k : ℕ) → h ≤ k → k < h + 8 → rel w v k ≡ false) → Imaging H w₀ v (h + 8) w
+  image-over w₀ w v h hv hh y r = imaging-unrelated H w₀ w v h (node-fits v hv) (omega (arith, x .few-second-nodes)) y 8 (omega (arith, x .few-second-nodes, r .0)) (r .1)
 
   pub image-all : (w w₁ w₂ : List ℕ) (v h : ℕ) → v < s .nodes → s .nodes2 ≤ h → Outside 8192 8480 w w₁ → Imaging H w₁ v h w₂ → Imaged H w v w₂ × Outside 8192 8480 w w₂
   image-all w w₁ w₂ v h hv l o y = (
@@ -245,11 +252,20 @@ module _ (s : Sizes) (f g : List ℕ) (x : Both s f g) where
         pub narrow-on : (b : Bool) → b ≡ has-bit w (8192 + 32 * u .label) h → not b ≡ false → Narrowed G e w₀ w h → Narrowed G e w₀ w (h + 1)
         narrow-on b t n k =
             narrow-keep G H (first-flow s f g x) (second-flow s f g x) (first-fits s f g x) (second-fits s f g x) (first-edges-fit s f g x) (second-edges-fit s f g x) e inside-edges low tail end w₀ w y h is-node
-            (image-is b true t (on b n)) k
+            1 (omega (arith, x .few-second-nodes)) (λ i a c r. subst T (sym (ap (image w ((edge G e) .label)) (same i a c) ∙ image-is b true t (on b n))) tt) k
           where
+            same : (i : ℕ) → h ≤ i → i < h + 1 → i ≡ h
+            same i a c = omega arith
+
             on : (c : Bool) → not c ≡ false → c ≡ true
             on true q = refl
             on false q = sym q
+
+        -- a whole byte of nodes that are in it wherever they are related stays
+        pub narrow-over : (h % 8 ≡ 0) × ((k : ℕ) → h ≤ k → k < h + 8 → T (rel w (u .from) k) → T (has-bit w (8192 + 32 * u .label) k)) → Narrowed G e w₀ w h → Narrowed G e w₀ w (h + 8)
+        narrow-over r =
+            narrow-keep G H (first-flow s f g x) (second-flow s f g x) (first-fits s f g x) (second-fits s f g x) (first-edges-fit s f g x) (second-edges-fit s f g x) e inside-edges low tail end w₀ w y h is-node
+            8 (omega (arith, x .few-second-nodes, r .0)) (subst (λ (z : GraphEdge). (k : ℕ) → h ≤ k → k < h + 8 → T (rel w (z .from) k) → T (has-bit w (8192 + 32 * z .label) k)) is (r .1))
 
       pub narrow-past : (k : ℕ) → s .nodes2 ≤ k → Narrowed G e w₀ w k → Narrowed G e w₀ w 256
       narrow-past k l n =

@@ -3,10 +3,10 @@
 // what it is related to, or was when its images were taken.
 ghost use mathlib.Core.Path.{_≡_};
 ghost use mathlib.Core.Bool.{false, _||_};
-ghost use Prim.Native.Nat.{ℕ, _+_, _*_, _≤_, _<_};
+ghost use Prim.Native.Nat.{ℕ, _+_, _*_, _/_, _%_, _≤_, _<_};
 ghost use lib.Dec.{T};
 ghost use lib.ListN.{length};
-ghost use Rattle.files.specs.Cells.{put-bit};
+ghost use Rattle.files.specs.Cells.{has-bit, put-bit};
 ghost use Rattle.files.specs.Decode.{decode-graph};
 ghost use Rattle.judging.specs.Chains.{Chained, Outside, into};
 ghost use Rattle.judging.specs.Refinement.{Both, rel, held, image, edge, leads-into, Reaches, Imaged, RowHeld, Refining, Shrank, NodeMatched, Settling};
@@ -46,6 +46,17 @@ fn image_into(first: &[u8], second: &[u8], s: Sizes, work: &mut [u8], h: usize)
     }
 }
 
+// Whether h starts a byte of the row of node v that is 0.
+fn row_empty(work: &[u8], v: usize, h: usize) -> bool
+    requires { ⌜ 32 * v + h / 8 < length (now work) ⌝ }
+    ensures { λ r. ⌜ (T r → (h % 8 ≡ 0) × ((k : ℕ) → h ≤ k → k < h + 8 → rel (now (work .entry)) v k ≡ false)) ⌝ }
+{
+    if h % 8 > 0 {
+        return false;
+    }
+    get8(work, LINE * v, h / 8) == 0
+}
+
 // The images of node v of the first graph, one for each label: only edges that lead to what v is related to are looked at.
 fn images(first: &[u8], second: &[u8], s: Sizes, work: &mut [u8], v: usize)
     requires { ⌜ ((Both s (now first) (now second))) × ((v < s .nodes) × ((165152 ≤ length (now work)) × (Chained (now work) 17184 17696 (into (decode-graph (now second))) (s .nodes2) (s .edges2)))) ⌝ }
@@ -54,11 +65,28 @@ fn images(first: &[u8], second: &[u8], s: Sizes, work: &mut [u8], v: usize)
     clear(&mut work[Sizes::IMAGES..Sizes::FIRST_HEADS]);
     let mut h = 0;
     while h < s.nodes2 {
+        if row_empty(work, v, h) {
+            h += 8;
+            continue;
+        }
         if has_bit(work, 0, Sizes::STRIDE * v + h) {
             image_into(first, second, s, work, h);
         }
         h += 1;
     }
+}
+
+// Whether h starts a byte of the row of node g that has no bit that this byte of the row of bits from `base` on has not.
+fn row_within(work: &[u8], g: usize, base: usize, h: usize) -> bool
+    requires { ⌜ (32 * g + h / 8 < length (now work)) × (base + h / 8 < length (now work)) ⌝ }
+    ensures { λ r. ⌜ (T r → (h % 8 ≡ 0) × ((k : ℕ) → h ≤ k → k < h + 8 → T (rel (now (work .entry)) g k) → T (has-bit (now (work .entry)) base k))) ⌝ }
+{
+    if h % 8 > 0 {
+        return false;
+    }
+    let row = get8(work, LINE * g, h / 8);
+    let over = get8(work, base, h / 8);
+    (row | over) == over
 }
 
 // Drops from what edge e of the first graph comes from all that is not in the image of its label.
@@ -73,6 +101,10 @@ fn narrow(first: &[u8], second: &[u8], s: Sizes, work: &mut [u8], tail: usize, e
     let mut h = 0;
     let mut end = tail;
     while h < s.nodes2 {
+        if row_within(work, x.from, base, h) {
+            h += 8;
+            continue;
+        }
         if !has_bit(work, base, h) {
             end = drop_pair(work, end, x.from, h);
         }

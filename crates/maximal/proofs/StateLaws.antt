@@ -1,5 +1,5 @@
 -- For the code that enters a state: the first place with a kind and a set, what storing a state and marking it in a row of bits changes, and the three ends of `enter`.
-use mathlib.Core.Path.{_≡_, refl, sym, ap, ap₂, subst, _∙_}
+use mathlib.Core.Path.{_≡_, refl, sym, ap, subst, _∙_}
 use mathlib.Core.Logic.{_⊎_, inl, inr}
 use mathlib.Core.Bool.{Bool, true, false, not, _&&_, _||_}
 use mathlib.Core.List.{List, [], _∷_, List·Memᴰ, List·Memᴰ·cases-cons, List·Memᴰ·not-nil}
@@ -28,15 +28,12 @@ use Rattle.maximal.specs.Charting.Entering.{admitted-unmarked, admitted-
 -- ---- the first place with a kind and a set, or with a method and what is asked for
 
 module _ (w : List ℕ) (a b kind set n i : ℕ) (none : (j : ℕ) → j < i → T (not (is-pair w a b kind set j))) where
-  module _ (x y : ℕ) (is-x : x ≡ cell w a 1 i) (is-y : y ≡ cell w b 4 i) where
-    pair-is : is-pair w a b kind set i ≡ (eqb x kind && eqb y set)
-    pair-is = ap₂ (λ (u v : ℕ). eqb u kind && eqb v set) (sym is-x) (sym is-y)
+  pub pair-at : cell w a 1 i ≡ kind → cell w b 4 i ≡ set → i < n → i ≡ least (is-pair w a b kind set) n
+  pair-at e f h = sym (least-at (is-pair w a b kind set) n i h none (and-i (eqb (cell w a 1 i) kind) (eqb (cell w b 4 i) set) (eq-eqb (cell w a 1 i) kind e) (eq-eqb (cell w b 4 i) set f)))
 
-    pub pair-at : (eqb x kind && eqb y set) ≡ true → i < n → i ≡ least (is-pair w a b kind set) n
-    pair-at e h = sym (least-at (is-pair w a b kind set) n i h none (subst T (sym (pair-is ∙ e)) tt))
-
-    pub pair-past : (eqb x kind && eqb y set) ≡ false → (j : ℕ) → j < i + 1 → T (not (is-pair w a b kind set j))
-    pair-past e = none-on (is-pair w a b kind set) i none (pair-is ∙ e)
+  pub pair-past : (cell w a 1 i ≡ kind → cell w b 4 i ≡ set → ⊥) → (j : ℕ) → j < i + 1 → T (not (is-pair w a b kind set j))
+  pair-past apart = none-on (is-pair w a b kind set) i none (off (is-pair w a b kind set i) (λ z.
+      apart (eqb→eq (cell w a 1 i) kind (and-l (eqb (cell w a 1 i) kind) (eqb (cell w b 4 i) set) z)) (eqb→eq (cell w b 4 i) set (and-r (eqb (cell w a 1 i) kind) (eqb (cell w b 4 i) set) z))))
 
   pub pair-none : i ≤ n → (i < n → ⊥) → i ≡ least (is-pair w a b kind set) n
   pair-none l g =

@@ -32,8 +32,10 @@ pub(crate) fn find_pair(
 {
     let mut i = 0;
     while i < n {
-        if (get8(work, bytes, i) == byte) & (get32(work, sets, i) == set) {
-            return i;
+        if get8(work, bytes, i) == byte {
+            if get32(work, sets, i) == set {
+                return i;
+            }
         }
         i += 1;
     }

@@ -1,20 +1,22 @@
 // A model that is found, counted and written: its nodes in order, then its edges by state, label and state. `write_model` states that its bytes are those of the
 // definition's graph.
 ghost use mathlib.Core.Path.{_≡_};
-ghost use mathlib.Core.Bool.{Bool};
+ghost use mathlib.Core.Bool.{Bool, false};
 ghost use mathlib.Core.List.{_++_};
-ghost use Prim.Native.Nat.{_+_, _*_, _≤_, _<_};
+ghost use Prim.Native.Nat.{ℕ, _+_, _*_, _≤_, _<_};
+ghost use lib.Dec.{T};
 ghost use lib.ListN.{length, drop};
 ghost use Rattle.files.specs.Access.{PropertyFile};
 ghost use Rattle.files.specs.Basics.Lists.{each, span};
 ghost use Rattle.files.specs.Cells.{put-at};
 ghost use Rattle.files.specs.Decode.{decode-interface, decode-property, graph-bytes};
-ghost use Rattle.maximal.specs.Charting.{Arranged};
+ghost use Rattle.maximal.specs.Charting.{target, Arranged};
 ghost use Rattle.maximal.specs.Model.{model};
 ghost use Rattle.maximal.specs.Listing.{leads, tally-under, tally-from, tally-upto, node-bytes, under-bytes, from-bytes};
 use crate::places::Places;
 use files::cells::get8;
 use files::cells::has_bit;
+use files::encode::LINE;
 use files::encode::put_six;
 
 // An edge with this label leads from the i-th to the j-th state.
@@ -27,11 +29,30 @@ fn leads(work: &[u8], i: usize, label: usize, j: usize) -> bool
     has_bit(work, Places::TARGETS, 256 * (9 * from + label) + to)
 }
 
+// No state follows by this slot: its row of bits is zero.
+fn is_empty_row(work: &[u8], slot: usize) -> bool
+    requires { ⌜ (slot < 2304) × (103456 ≤ length (now work)) ⌝ }
+    ensures { λ r. ⌜ (T r → (t : ℕ) → t < 256 → target (now (work .entry)) slot t ≡ false) ⌝ }
+{
+    let mut k = 0;
+    while k < LINE {
+        if get8(work, Places::TARGETS + LINE * slot, k) != 0 {
+            return false;
+        }
+        k += 1;
+    }
+    true
+}
+
 // How many edges with this label leave the i-th state.
 fn count_under(work: &[u8], c: usize, i: usize, label: usize) -> usize
     requires { ⌜ (i < c) × ((label < 9) × ((c ≤ 256) × (103456 ≤ length (now work)))) ⌝ }
     ensures { λ t. ⌜ t ≡ tally-under (now (work .entry)) c i label ⌝ }
 {
+    let from = get8(work, Places::ORDER, i) as usize;
+    if is_empty_row(work, 9 * from + label) {
+        return 0;
+    }
     let mut j = 0;
     let mut n = 0;
     while j < c {
@@ -105,6 +126,10 @@ fn write_under(work: &[u8], out: &mut [u8], c: usize, i: usize, label: usize, at
     requires { ⌜ (i < c) × ((label < 9) × ((c ≤ 256) × ((103456 ≤ length (now work)) × (6 * (at + tally-under (now work) c i label) ≤ length (now out))))) ⌝ }
     ensures { λ t. ⌜ (t ≡ at + tally-under (now (work .entry)) c i label) × (now (out .exit) ≡ put-at (now (out .entry)) (6 * at) (under-bytes (now (work .entry)) c i label)) ⌝ }
 {
+    let from = get8(work, Places::ORDER, i) as usize;
+    if is_empty_row(work, 9 * from + label) {
+        return at;
+    }
     let mut j = 0;
     let mut end = at;
     while j < c {

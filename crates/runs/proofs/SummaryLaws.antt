@@ -1,40 +1,41 @@
 -- For the code that finds summaries: a union built state by state, states added, edges run, a summary that grows, a point taken, the start, and the summaries by value.
 use mathlib.Core.Path.{_≡_, refl, sym, ap, ap₂, subst, _∙_}
-use mathlib.Core.Logic.{inr}
-use mathlib.Core.Bool.{Bool, true, false, not, cond}
+use mathlib.Core.Logic.{inl, inr}
+use mathlib.Core.Bool.{Bool, true, false, or-false, not, cond, _||_}
 use mathlib.Core.List.{List, [], List·Memᴰ}
-use Prim.Native.Nat.{ℕ, suc, _+_, _*_, _/_, _%_, _^_, _≤_, _<_}
+use Prim.Native.Nat.{ℕ, suc, _+_, _-_, _*_, _/_, _%_, _^_, _≤_, _<_}
 use native.Mathlib.Nat.{le-trans}
 use native.Mathlib.Decide.{ℕ-discrete}
 use native.Mathlib.Numerals.{add-one}
 use native.Mathlib.Omega.{arith}
-use lib.Bits.{bitOr, or-lt}
+use lib.Bits.{bitOr, bitAnd, or-lt}
 use lib.Dec.{T, T-not, eqb, eqb→eq}
 use lib.ListN.{length, getD, set, replicate, length-set, getD-replicate}
 use lib.Seq.{getD-set-same, getD-set-other}
-use borrow.Author.Tests.{ne-eqb}
+use borrow.Author.Tests.{ne-eqb, eq-eqb as eqb-same}
 use Rattle.files.specs.Access.{node-held, edge-held, first-edge}
 use Rattle.files.specs.Access.Laws.{first-edge-le, leaves-in}
 use Rattle.files.specs.Basics.Tests.{eq-eqb, or-r, not-not}
 use Rattle.files.specs.Cells.{cell, put-cell}
-use Rattle.files.specs.Cells.Laws.{byte-outside}
+use Rattle.files.specs.Cells.Laws.{byte-outside, cell-apart}
 use Rattle.files.specs.Decode.{decode-graph, decode-rules}
 use Rattle.files.specs.Graph.{Graph, Edge, size, node, no-edge}
 use Rattle.files.specs.Refusal.{nodes-of}
-use Rattle.files.specs.Rules.{Monitor, watch}
+use Rattle.files.specs.Rules.{Monitor, watch, calls}
 use Rattle.files.specs.declared.graph.GraphEdge.{GraphEdge}
 use Rattle.files.specs.declared.graph.GraphNode.{GraphNode}
 use Rattle.files.specs.declared.graph.NodeAt.{NodeAt}
 use Rattle.files.specs.declared.graph.NodeAt.the-variants.{Is as NodeIs, Refused as NodeRefused}
 use Rattle.files.specs.declared.refusal.Refusal.{Refusal}
 use Rattle.maximal.specs.Masks.{member}
-use Rattle.maximal.specs.Masks.Laws.{member-or, member-one}
+use Rattle.maximal.specs.Masks.Laws.{member-or, member-one, member-none, apart-e}
+use Rattle.judging.proofs.LevelLaws.{below-more}
 use Rattle.runs.specs.Prepared.{Ready, slot, Stepped, Tables}
 use Rattle.runs.specs.Prepared.Files.{is-filed, is-flow, size-is, edges-is, size-fits, edges-fit, method-in, labels-small, edge-in, monitor-small}
 use Rattle.runs.specs.Runs.{meth, EntryOf}
 use Rattle.runs.specs.Summary.{Inside, enter}
 use Rattle.runs.specs.Worklist.{union, passed, reach, sums, queue, added, added-tail, Past, after-edge, Queued, Holding, Grew, Covered}
-use Rattle.runs.specs.Worklist.{SpreadBut, Spread, PointDue, EdgesRun, CallsRun, EntriesIn, SummariesIn, TableOf}
+use Rattle.runs.specs.Worklist.{SpreadBut, Spread, PointDue, EdgesRun, EntersIn, Entering, StartsIn, Starts, CallsRun, EntriesIn, SummariesIn, TableOf}
 use Rattle.runs.specs.Worklist.Growth.{room-for, added-grew}
 use Rattle.runs.specs.Worklist.Loops.{edges-run, edges-run-e, calls-run-e, holds-nothing, spread-first}
 use Rattle.runs.specs.Worklist.Steps.{edge-happens, run-covers, covered-kept, spread-grew, spread-done, reached-most, taken-due, summed-before, raised-holds, raised-due, summaries-found}
@@ -53,6 +54,40 @@ union-without f x n y s m = union-no f x n y s m ∙ ap (union-to f x) (sym (add
 pub union-all : (f : ℕ → ℕ) (x n y : ℕ) → n ≡ 8 → y ≡ union-to f x n → y ≡ union f x
 union-all f x n y e s = s ∙ ap (union-to f x) e ∙ union-is f x
 
+-- ---- a set built by a test on each state
+
+-- of the states below n, y holds those that pass, and no other state
+abbrev pub Picked : (ℕ → Bool) → ℕ → ℕ → Type 0
+Picked f y n = ((i : ℕ) → i < n → member y i ≡ f i) × ((i : ℕ) → n ≤ i → member y i ≡ false)
+
+pub picked-none : (f : ℕ → Bool) → Picked f 0 0
+picked-none f = (λ i h. absurd (omega arith), λ i h. member-none i)
+
+module _ (f : ℕ → Bool) (y n : ℕ) (so-far : Picked f y n) where
+  upto : (P : ℕ → Type 0) → ((i : ℕ) → i < n → P i) → P n → (i : ℕ) → i < n + 1 → P i
+  upto P g e i h = go (ℕ-discrete i n)
+    where
+      go : Dec (i ≡ n) → P i
+      go (yes d) = subst P (sym d) e
+      go (no d) = g i (omega arith)
+
+  pub picked-yes : (t : ℕ) → t ≡ 2 ^ n → f n ≡ true → Picked f (bitOr y t) (n + 1)
+  picked-yes t e d = (
+    upto (λ i. member (bitOr y t) i ≡ f i)
+        (λ i h. with-t i ∙ ap₂ _||_ (so-far .0 i h) (ne-eqb n i (λ q. omega arith)) ∙ or-false (f i))
+        (with-t n ∙ ap₂ _||_ (so-far .1 n (omega arith)) (is-eqb n) ∙ sym d),
+    λ i h. with-t i ∙ ap₂ _||_ (so-far .1 i (omega arith)) (ne-eqb n i (λ q. omega arith)),
+  )
+    where
+      with-t : (i : ℕ) → member (bitOr y t) i ≡ (member y i || eqb n i)
+      with-t i = member-or y t i ∙ ap (λ (b : Bool). member y i || b) (ap (λ (k : ℕ). member k i) e ∙ member-one n i)
+
+      is-eqb : (k : ℕ) → eqb k k ≡ true
+      is-eqb k = eqb-same k k refl
+
+  pub picked-no : f n ≡ false → Picked f y (n + 1)
+  picked-no d = (upto (λ i. member y i ≡ f i) (so-far .0) (so-far .1 n (omega arith) ∙ sym d), λ i h. so-far .1 i (omega arith))
+
 -- the state to which an event takes q, as a set
 abbrev pub onto : Monitor → ℕ → ℕ → ℕ → ℕ → ℕ
 onto mon k a b q = 2 ^ mon q (record { kind = k; m1 = a; m2 = b })
@@ -65,6 +100,22 @@ pub step-held : (mon : Monitor) (w : List ℕ) (at q k a b r : ℕ) → Stepped 
     → (1 ≤ k) × ((k ≤ 2) × ((1 ≤ a) × ((a ≤ 8) × ((1 ≤ b) × (b ≤ 8))))) → at ≡ slot k a b → r ≡ cell w 32768 1 (at + q) → r ≡ mon q (record { kind = k; m1 = a; m2 = b })
 step-held mon w at q k a b r s h v e d =
     d ∙ ap (λ (i : ℕ). cell w 32768 1 (i + q)) e ∙ s q k a b h (v .0) (v .1 .0) (v .1 .1 .0) (v .1 .1 .1 .0) (v .1 .1 .1 .1 .0) (v .1 .1 .1 .1 .1)
+
+-- ---- the states from which each caller enters a method
+
+-- of the callers below a
+abbrev pub EnteringTo : Monitor → ℕ → ℕ → List ℕ → ℕ → Type 0
+EnteringTo mon m p t a = (length t ≡ 8) × ((b q : ℕ) → b < a → q < 8 → member (getD t b 0) q ≡ eqb (mon q (calls (suc b) m)) p)
+
+pub entering-more : (mon : Monitor) (m p : ℕ) (t : List ℕ) (a x : ℕ) → a < 8 → ((q : ℕ) → q < 8 → member x q ≡ eqb (mon q (calls (a + 1) m)) p)
+    → EnteringTo mon m p t a → EnteringTo mon m p (set t a x) (a + 1)
+entering-more mon m p t a x h f g = (length-set t a x ∙ g .0, λ b q hb hq. go b q hb hq (ℕ-discrete b a))
+  where
+    go : (b q : ℕ) → b < a + 1 → q < 8 → Dec (b ≡ a) → member (getD (set t a x) b 0) q ≡ eqb (mon q (calls (suc b) m)) p
+    go b q hb hq (yes e) =
+        subst (λ (i : ℕ). member (getD (set t a x) i 0) q ≡ eqb (mon q (calls (suc i) m)) p) (sym e)
+        (ap (λ (y : ℕ). member y q) (getD-set-same t a x 0 (omega (arith, g .0))) ∙ f q hq ∙ ap (λ (i : ℕ). eqb (mon q (calls i m)) p) (add-one a))
+    go b q hb hq (no d) = ap (λ (y : ℕ). member y q) (getD-set-other t a b x 0 d) ∙ g .1 b q (omega arith) hq
 
 -- ---- edges run
 
@@ -81,9 +132,15 @@ node-read x v n p q = subst (λ (y : NodeAt). T (is-node y)) (sym p ∙ q) tt
 abbrev pub Ran : Graph → Monitor → List ℕ → ℕ → ℕ → Type 0
 Ran G mon w j p = T (not ((node G ((getD (G .edges) j no-edge) .from)) .ret)) → Covered G mon w (getD (G .edges) j no-edge) p
 
--- the same from every entry state
-abbrev pub RanAll : Graph → Monitor → List ℕ → ℕ → Type 0
-RanAll G mon w j = T (not ((node G ((getD (G .edges) j no-edge) .from)) .ret)) → (p : ℕ) → p < 8 → Covered G mon w (getD (G .edges) j no-edge) p
+-- the same, if it starts in a state of the set with the states that w₀ has
+abbrev pub RanIn : Graph → Monitor → ℕ → List ℕ → List ℕ → ℕ → ℕ → Type 0
+RanIn G mon set w₀ w j p =
+    T (not ((node G ((getD (G .edges) j no-edge) .from)) .ret)) → StartsIn G mon set w₀ (getD (G .edges) j no-edge) p → Covered G mon w (getD (G .edges) j no-edge) p
+
+-- the same from every entry state with which it starts in one of the states that `t` has for its caller, as they were in w₀
+abbrev pub RanAll : Graph → Monitor → List ℕ → List ℕ → List ℕ → ℕ → Type 0
+RanAll G mon t w₀ w j =
+    T (not ((node G ((getD (G .edges) j no-edge) .from)) .ret)) → (p : ℕ) → p < 8 → Starts G mon t w₀ (getD (G .edges) j no-edge) p → Covered G mon w (getD (G .edges) j no-edge) p
 
 module _ (s : Regions) (g r : List ℕ) (ready : Ready s g r) where
   abbrev G : Graph
@@ -100,6 +157,9 @@ module _ (s : Regions) (g r : List ℕ) (ready : Ready s g r) where
 
   pub node-of : (v : ℕ) → v < size G → v < s .nodes
   node-of v h = omega (arith, size-is s g r ready)
+
+  pub method-small : (v m : ℕ) → v < s .nodes → m ≡ meth G v → (1 ≤ m) × (m ≤ 8)
+  method-small v m h e = let a = method-in s g r ready v (node-in v h) in (omega (arith, a .0, e), omega (arith, a .1, e))
 
   pub node-readable : (v : ℕ) → v < size G → v < nodes-of g
   node-readable v h = omega (arith, size-is s g r ready, ready .nodes-are)
@@ -124,7 +184,7 @@ module _ (s : Regions) (g r : List ℕ) (ready : Ready s g r) where
 
   -- edge j, as it was read
   module _ (j : ℕ) (hj : j < s .edges) (u : GraphEdge) (is : u ≡ edge-held (edge j)) where
-    from-is : u .from ≡ (edge j) .from
+    pub from-is : u .from ≡ (edge j) .from
     from-is = ap (λ (x : GraphEdge). x .from) is
 
     pub to-is : u .to ≡ (edge j) .to
@@ -150,14 +210,22 @@ module _ (s : Regions) (g r : List ℕ) (ready : Ready s g r) where
       returns-is : v .returns ≡ (node G ((edge j) .from)) .ret
       returns-is = ap (λ (x : GraphNode). x .returns) source ∙ ap (λ (n : ℕ). (node G n) .ret) from-is
 
+      -- which method calls, as a place among the callers
+      pub caller-in : (1 ≤ v .method) × (v .method ≤ 8)
+      caller-in =
+          let m = method-in s g r ready (u .from) from-in in
+          let e = ap (λ (x : GraphNode). x .method) source in
+          (omega (arith, m .0, e), omega (arith, m .1, e))
+
+      pub caller-is : v .method - 1 ≡ meth G ((edge j) .from) - 1
+      caller-is = ap (λ (n : ℕ). n - 1) method-is
+
       pub runs-none : v .returns ≡ true → (w : List ℕ) (p : ℕ) → Ran G mon w j p
       runs-none e w p t = absurd (T-not ((node G ((edge j) .from)) .ret) t (subst T (sym (sym returns-is ∙ e)) tt))
 
       pub call-in : (u .label ≡ 0 → ⊥) → (1 ≤ v .method) × ((v .method ≤ 8) × ((1 ≤ u .label) × (u .label ≤ 8)))
       call-in n =
-          let m = method-in s g r ready (u .from) from-in in
-          let e = ap (λ (x : GraphNode). x .method) source in
-          (omega (arith, m .0, e), (omega (arith, m .1, e), (omega (arith, n), omega (arith, label-is, labels-small s g r ready (edge j) (member-edge j hj)))))
+          (caller-in .0, (caller-in .1, (omega (arith, n), omega (arith, label-is, labels-small s g r ready (edge j) (member-edge j hj)))))
 
       module _ (w : List ℕ) (p x : ℕ) (at-source : x ≡ reach w (u .from) p) where
         x-is : x ≡ reach w ((edge j) .from) p
@@ -196,8 +264,27 @@ module _ (s : Regions) (g r : List ℕ) (ready : Ready s g r) where
     pub ran-kept : (p : ℕ) → p < 8 → Ran G mon v j p → Ran G mon w j p
     ran-kept p hp f t = covered-kept G mon (is-flow s g r ready) (labels-small s g r ready) (monitor-small s g r ready) a b v w grew (edge j) (member-edge j hj) p hp (f t)
 
-    pub ran-all-kept : RanAll G mon v j → RanAll G mon w j
-    ran-all-kept f t p hp = ran-kept p hp (λ u. f u p hp) t
+    pub ran-all-kept : (t w₀ : List ℕ) → RanAll G mon t w₀ v j → RanAll G mon t w₀ w j
+    ran-all-kept t w₀ f n p hp x = ran-kept p hp (λ u. f u p hp x) n
+
+    -- a start stays one
+    pub starts-kept : (set p : ℕ) → p < 8 → StartsIn G mon set v (edge j) p → StartsIn G mon set w (edge j) p
+    starts-kept set p hp x = (x .0, x .1, grew .reach-kept ((edge j) .from) p (x .0) ((is-flow s g r ready) .from-node (edge j) (member-edge j hj)) hp (x .2), x .3)
+
+  -- edge j for one entry state more: run, or reached in no state of the set
+  module _ (set tail end : ℕ) (w₀ w : List ℕ) (grew : Grew G mon tail end w₀ w) (j : ℕ) (hj : j < s .edges) (p : ℕ) (hp : p < 8)
+      (done : (i : ℕ) → i < p → RanIn G mon set w₀ w j i) where
+    pub where-run : (t : ℕ) (w′ : List ℕ) → Grew G mon end t w w′ → Ran G mon w′ j p → (i : ℕ) → i < p + 1 → RanIn G mon set w₀ w′ j i
+    where-run t w′ more ran =
+        below-more (RanIn G mon set w₀ w′ j) p (λ i h n x. ran-kept end t w w′ more j hj i (omega (arith, h, hp)) (λ u. done i h u x) n) (λ n x. ran n)
+
+    pub where-not : (n x : ℕ) → n ≡ (edge j) .from → x ≡ reach w n p → bitAnd x set ≤ 0 → (i : ℕ) → i < p + 1 → RanIn G mon set w₀ w j i
+    where-not n x from is none = below-more (RanIn G mon set w₀ w j) p done (λ u y. absurd (meets (starts-kept tail end w₀ w grew j hj set p hp y)))
+      where
+        meets : StartsIn G mon set w (edge j) p → ⊥
+        meets z =
+            apart-e x set (eq-eqb (bitAnd x set) 0 (omega (arith, none))) (z .0)
+            (subst (λ (k : ℕ). T (member k (z .0))) (sym (is ∙ ap (λ (v : ℕ). reach w v p) from)) (z .2)) (z .3)
 
   pub first-held : (tail : ℕ) (w : List ℕ) → Holding G mon tail w → (n x : ℕ) → n ≤ s .nodes → x ≡ cell w 33792 2 n → x ≡ first-edge G n
   first-held tail w h n x l e = e ∙ h .tables .firsts n (omega (arith, size-is s g r ready))
@@ -241,29 +328,49 @@ module _ (s : Regions) (g r : List ℕ) (ready : Ready s g r) where
       put-sum : w₁ ≡ put-cell w 46612 1 (8 * meth G n + p) (bitOr (sums w (meth G n) p) (reach w n p))
       put-sum = put ∙ ap₂ (λ (i v : ℕ). put-cell w 46612 1 (8 * i + p) v) method-of new-sum
 
+      -- what is reached stays so
+      reach-raised : (v i : ℕ) → v < size G → i < 8 → reach w₁ v i ≡ reach w v i
+      reach-raised v i hv hi = ap (λ (x : List ℕ). reach x v i) put ∙ cell-apart w 46612 1 (8 * m + p) (bitOr old x) 42516 1 (8 * v + i) (inl (omega (arith, size-fits s g r ready)))
+
       pub sum-holds : (k : ℕ) × (k ≤ tail) × PointDue G mon n p k tail w → Holding G mon tail w₁
       sum-holds d =
           subst (Holding G mon tail) (sym put-sum)
           (raised-holds G mon (is-flow s g r ready) (labels-small s g r ready) (monitor-small s g r ready) (size-fits s g r ready) (edges-fit s g r ready) methods-small (d .0) tail w n p
           (node-in n hn) hp returns (d .2) small)
 
-      pub sum-spreads : (t : ℕ) (w′ : List ℕ) → Grew G mon tail t w₁ w′ → CallsRun G mon w′ m
+      pub sum-spreads : (callers : List ℕ) → Entering mon m p callers → (t : ℕ) (w′ : List ℕ) → Grew G mon tail t w₁ w′ → CallsRun G mon callers w₁ w′ m
           → ((k : ℕ) → k ≤ tail → PointDue G mon n p k tail w → Spread G mon k t w′) × ((tail ≤ t) × Past w w′)
-      sum-spreads t w′ grew run = (spreads, (grew .longer, past))
+      sum-spreads callers into t w′ grew run = (spreads, (grew .longer, past))
         where
           past : Past w w′
           past q h =
               grew .rest-kept q (inr (omega arith)) ∙ ap (λ (v : List ℕ). getD v q 0) put
               ∙ byte-outside w 46612 1 (8 * m + p) (bitOr old x) q (inr (omega (arith, method-fits n m hn method-of)))
 
+          Due : Edge → ℕ → Type 0
+          Due e i = (e .label ≡ meth G n) × EntersIn G mon p e (reach w (e .from) i)
+
+          -- what is due starts in a state of its caller
+          due-starts : (e : Edge) → List·Memᴰ e (G .edges) → (i : ℕ) → i < 8 → Due e i → Starts G mon callers w₁ e i
+          due-starts e c i hi z =
+              let q = z .1 .0 in
+              let a = method-in s g r ready (e .from) ((is-flow s g r ready) .from-node e c) in
+              let b : suc (meth G (e .from) - 1) ≡ meth G (e .from) = omega (arith, a .0) in (
+                q,
+                z .1 .1,
+                subst (λ (x : ℕ). T (member x q)) (sym (reach-raised (e .from) i ((is-flow s g r ready) .from-node e c) hi)) (z .1 .2),
+                subst T (sym (into (meth G (e .from) - 1) q (omega (arith, a .0, a .1)) (z .1 .1)))
+                    (eq-eqb _ p (ap₂ (λ (x y : ℕ). mon q (calls x y)) b (method-of ∙ sym (z .0)) ∙ z .1 .3)),
+              )
+
           spreads : (k : ℕ) → k ≤ tail → PointDue G mon n p k tail w → Spread G mon k t w′
           spreads k l d =
-              spread-done G mon (is-flow s g r ready) (labels-small s g r ready) (monitor-small s g r ready) (λ e i. e .label ≡ meth G n) (λ v i. ⊥) k t w′
-              (spread-grew G mon (is-flow s g r ready) (labels-small s g r ready) (monitor-small s g r ready) tail t w₁ w′ grew (λ e i. e .label ≡ meth G n) (λ v i. ⊥) k
-              (subst (SpreadBut G mon (λ e i. e .label ≡ meth G n) (λ v i. ⊥) k tail) (sym put-sum)
+              spread-done G mon (is-flow s g r ready) (labels-small s g r ready) (monitor-small s g r ready) Due (λ v i. ⊥) k t w′
+              (spread-grew G mon (is-flow s g r ready) (labels-small s g r ready) (monitor-small s g r ready) tail t w₁ w′ grew Due (λ v i. ⊥) k
+              (subst (SpreadBut G mon Due (λ v i. ⊥) k tail) (sym put-sum)
               (raised-due G mon (is-flow s g r ready) (labels-small s g r ready) (monitor-small s g r ready) (size-fits s g r ready) (edges-fit s g r ready) methods-small k tail w n p
               (node-in n hn) hp returns d small)) l)
-              (λ e c t i hi z. calls-run-e G mon w′ m run e c (z ∙ sym method-of) t i hi) (λ v i hv hi t z. absurd z)
+              (λ e c t i hi z. calls-run-e G mon callers w₁ w′ m run e c (z .0 ∙ sym method-of) t i hi (due-starts e c i hi z)) (λ v i hv hi t z. absurd z)
 
   -- ---- a point is taken
 

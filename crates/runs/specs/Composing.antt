@@ -7,6 +7,7 @@ use mathlib.Core.Option.{none}
 use Prim.Native.Nat.{ℕ, _≤_, _<_}
 use lib.ListN.{length, replicate}
 use Rattle.files.specs.Access.{InterfaceFile}
+use Rattle.files.specs.Checking.{checked}
 use Rattle.files.specs.Decode.{decode-graph, decode-property, decode-interface, decode-rules}
 use Rattle.files.specs.Graph.{Graph, Flow}
 use Rattle.files.specs.Interface.{Interface, Of, united}
@@ -17,6 +18,8 @@ use Rattle.files.specs.Record.{count}
 use Rattle.files.specs.Refusal.{graph, property, rules, interface, refusal, nodes-of}
 use Rattle.files.specs.Rules.{Monitor, watch}
 use Rattle.files.specs.Sides.{first-foreign, ForeignAt, shares, Shares, unprovided, Unprovided}
+use Rattle.files.specs.declared.check.Checked.{Checked}
+use Rattle.files.specs.declared.check.Checked.the-variants.{Accepted, Refused}
 use Rattle.files.specs.declared.record.Limits.{Limits}
 use Rattle.judging.specs.Judge.{GraphWithin, Strides}
 use Rattle.judging.specs.Levels.{Satisfies}
@@ -26,6 +29,7 @@ use Rattle.runs.specs.Join.{join}
 use Rattle.runs.specs.Prepared.{watch-room}
 use Rattle.runs.specs.Watching.{watch-said}
 pub mod Laws
+pub mod Files
 pub mod Joined
 pub mod Steps
 
@@ -141,6 +145,19 @@ pub record DoesBoth (o : Outcome) (out store work out′ store′ work′ : List
   pub answers : Answers o out out′ a
   pub store-is : store′ ≡ work-after o store
   pub work-is : work′ ≡ work-after o work
+
+-- ---- the five files
+
+-- the second of two checks where the first accepts
+abbrev pub then-checked : Checked → Checked → Checked
+then-checked (Refused f) y = Refused f
+then-checked (Accepted n c) y = y
+
+-- the files in argument order: the first refusal, or the counts of the known graph
+abbrev pub files-checked : Limits → List ℕ → List ℕ → List ℕ → List ℕ → List ℕ → Checked
+files-checked L ki kg oi p r =
+    then-checked (checked L interface ki 1) (then-checked (checked L graph kg 2) (then-checked (checked L interface oi 3) (then-checked (checked L property p 4)
+    (then-checked (checked L rules r 5) (checked L graph kg 2)))))
 
 -- ---- what the code knows on its way
 

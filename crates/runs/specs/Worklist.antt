@@ -1,11 +1,11 @@
 -- Summaries by worklist, in watching's lent buffer. A point is a node and the monitor state in which its method was entered; for each point the states in which it is
 -- reached stand as a set. A point to which states have come waits in a queue; taking it runs its edges, or, at a return node, adds to the summary of its method, and
--- then every call of that method is run again.
+-- then the calls of that method that enter it in that state are run again.
 use mathlib.Core.Path.{_≡_}
 use mathlib.Core.Logic.{_⊎_, _↔_}
 use mathlib.Core.Bool.{not, cond, _&&_}
 use mathlib.Core.List.{List, [], List·Memᴰ}
-use Prim.Native.Nat.{ℕ, suc, _+_, _*_, _/_, _%_, _^_, _≤_, _<_}
+use Prim.Native.Nat.{ℕ, suc, _+_, _-_, _*_, _/_, _%_, _^_, _≤_, _<_}
 use lib.Bits.{bitOr}
 use lib.Dec.{T, eqb}
 use lib.ListN.{length, getD}
@@ -85,6 +85,10 @@ Past w w′ = (q : ℕ) → 46684 ≤ q → getD w′ q 0 ≡ getD w q 0
 abbrev pub TableOf : List ℕ → List (List ℕ) → Type 0
 TableOf w t = (m p : ℕ) → m < 8 → p < 8 → getD (getD t m []) p 0 ≡ sums w (suc m) p
 
+-- for each caller a, from method 1 on, the states from which a call of method m enters it in state p
+abbrev pub Entering : Monitor → ℕ → ℕ → List ℕ → Type 0
+Entering mon m p t = (a q : ℕ) → a < 8 → q < 8 → member (getD t a 0) q ≡ eqb (mon q (calls (suc a) m)) p
+
 module _ (G : Graph) (mon : Monitor) where
   -- the states after edge e, from the states x at its source
   abbrev pub after-edge : (ℕ → ℕ → ℕ) → Edge → ℕ → ℕ
@@ -146,9 +150,21 @@ module _ (G : Graph) (mon : Monitor) where
   pub EdgesRun : List ℕ → ℕ → ℕ → Type 0
   EdgesRun w g p = (e : Edge) → List·Memᴰ e (G .edges) → e .from ≡ g → T (not ((node G (e .from)) .ret)) → Covered w e p
 
-  -- the calls of method m are run
-  pub CallsRun : List ℕ → ℕ → Type 0
-  CallsRun w m = (e : Edge) → List·Memᴰ e (G .edges) → e .label ≡ m → T (not ((node G (e .from)) .ret)) → (p : ℕ) → p < 8 → Covered w e p
+  -- from one of the states y edge e enters the method that it calls in state p
+  abbrev pub EntersIn : ℕ → Edge → ℕ → Type 0
+  EntersIn p e y = (q : ℕ) × (q < 8) × T (member y q) × (mon q (calls (meth G (e .from)) (e .label)) ≡ p)
+
+  -- edge e is reached in a state of the set, its method entered in state p
+  abbrev pub StartsIn : ℕ → List ℕ → Edge → ℕ → Type 0
+  StartsIn set w e p = (q : ℕ) × (q < 8) × T (member (reach w (e .from) p) q) × T (member set q)
+
+  -- in one of those that `t` has for its caller
+  abbrev pub Starts : List ℕ → List ℕ → Edge → ℕ → Type 0
+  Starts t w e p = StartsIn (getD t (meth G (e .from) - 1) 0) w e p
+
+  -- from w on to w′ the calls of method m that start so are run
+  pub CallsRun : List ℕ → List ℕ → List ℕ → ℕ → Type 0
+  CallsRun t w w′ m = (e : Edge) → List·Memᴰ e (G .edges) → e .label ≡ m → T (not ((node G (e .from)) .ret)) → (p : ℕ) → p < 8 → Starts t w e p → Covered w′ e p
 
   -- each entry is reached in the state in which its method was entered
   abbrev pub EntriesIn : ℕ → List ℕ → Type 0

@@ -1,20 +1,18 @@
 // The composed verdict: refusals in the published order, then the model in `store`, the known graph joined with it in `work`, and its runs watched. States to the layer above
 // that the answer, the output and both buffers are those of the definition `composed`, for any limits that the buffers allow.
 ghost use mathlib.Core.Path.{_≡_};
-ghost use mathlib.Core.Option.{none};
 ghost use Prim.Native.Nat.{_*_, _+_, _≤_};
 ghost use lib.ListN.{length, take};
-ghost use Rattle.files.specs.Access.{InterfaceFile, RulesFile};
+ghost use Rattle.files.specs.Access.{RulesFile};
 ghost use Rattle.files.specs.Decode.{decode-graph, decode-rules};
 ghost use Rattle.files.specs.Outcome.{Answers, answered};
-ghost use Rattle.files.specs.Refusal.{interface, refusal};
 ghost use Rattle.files.specs.Rules.{watch};
 ghost use Rattle.judging.specs.Judge.{Strides};
 ghost use Rattle.judging.specs.Refinement.{Both};
 ghost use Rattle.maximal.specs.Modelling.{Bounded};
 ghost use Rattle.runs.specs.Answer.{watched-answer};
-ghost use Rattle.runs.specs.Composing.{composed, compose-verdict, joined-verdict, from-joined, from-size, from-sides, from-rules, from-property, from-other, from-graph, from-known};
-ghost use Rattle.runs.specs.Composing.{DoesBoth, KnownSide, OtherSide, Room};
+ghost use Rattle.runs.specs.Composing.{composed, compose-verdict, joined-verdict, from-joined, from-size, from-sides, from-known};
+ghost use Rattle.runs.specs.Composing.{DoesBoth, KnownSide, OtherSide, Room, then-checked, files-checked};
 use crate::answers::Verdict;
 use crate::joining::write_join;
 use crate::regions::Regions;
@@ -147,8 +145,37 @@ fn compose_sides(
     )
 }
 
-// The rules' refusals and the start method's 3, then the rest.
-fn compose_rules(
+// The second of two checks where the first accepts.
+fn then_checked(first: Checked, second: Checked) -> Checked
+    ensures { λ r. ⌜ r ≡ then-checked first second ⌝ }
+{
+    match first {
+        Checked::Refused(refusal) => Checked::Refused(refusal),
+        Checked::Accepted { .. } => second,
+    }
+}
+
+// The files in argument order: the first refusal, or the counts of the known graph.
+fn check_files(
+    known: &[u8],
+    graph: &[u8],
+    other: &[u8],
+    property: &[u8],
+    rules: &[u8],
+    limits: Limits,
+) -> Checked
+    ensures { λ r. ⌜ r ≡ files-checked limits (now (known .entry)) (now (graph .entry)) (now (other .entry)) (now (property .entry)) (now (rules .entry)) ⌝ }
+{
+    let counted = check_graph(graph, 2, limits);
+    let rest = then_checked(check_rules(rules, 5, limits), counted);
+    let rest = then_checked(check_property(property, 4, limits), rest);
+    let rest = then_checked(check_interface(other, 3, limits), rest);
+    let rest = then_checked(counted, rest);
+    then_checked(check_interface(known, 1, limits), rest)
+}
+
+// The files' refusals and the start method's 3, then the rest.
+fn compose_files(
     known: &[u8],
     graph: &[u8],
     other: &[u8],
@@ -159,15 +186,13 @@ fn compose_rules(
     store: &mut [u8],
     work: &mut [u8],
     limits: Limits,
-    nodes: usize,
-    records: usize,
 ) -> Verdict
-    requires { ⌜ (KnownSide limits (now known) (now graph) nodes records) × ((OtherSide limits (now other) (now property)) × (Room limits (now store) (now work))) ⌝ }
-    ensures { λ v. ⌜ Answers (answered (from-rules limits (now (known .entry)) (now (graph .entry)) (now (other .entry)) (now (property .entry)) (now (rules .entry)) start (length (now (out .entry)))) (compose-verdict limits (now (known .entry)) (now (graph .entry)) (now (other .entry)) (now (property .entry)) (now (rules .entry)) start (length (now (out .entry))))) (now (out .entry)) (now (out .exit)) (watched-answer v) ⌝ }
+    requires { ⌜ Room limits (now store) (now work) ⌝ }
+    ensures { λ v. ⌜ Answers (answered (from-known limits (now (known .entry)) (now (graph .entry)) (now (other .entry)) (now (property .entry)) (now (rules .entry)) start (length (now (out .entry)))) (compose-verdict limits (now (known .entry)) (now (graph .entry)) (now (other .entry)) (now (property .entry)) (now (rules .entry)) start (length (now (out .entry))))) (now (out .entry)) (now (out .exit)) (watched-answer v) ⌝ }
 {
-    match check_rules(rules, 5, limits) {
+    match check_files(known, graph, other, property, rules, limits) {
         Checked::Refused(refusal) => Verdict::Refused(refusal),
-        Checked::Accepted { .. } => {
+        Checked::Accepted { nodes, records } => {
             if !((1 <= start) & (start <= 8)) {
                 return Verdict::Refused(Refusal::whole(3));
             }
@@ -186,148 +211,6 @@ fn compose_rules(
                 records,
             )
         }
-    }
-}
-
-// The property's refusals, then the rest.
-fn compose_property(
-    known: &[u8],
-    graph: &[u8],
-    other: &[u8],
-    property: &[u8],
-    rules: &[u8],
-    start: u8,
-    out: &mut [u8],
-    store: &mut [u8],
-    work: &mut [u8],
-    limits: Limits,
-    nodes: usize,
-    records: usize,
-) -> Verdict
-    requires { ⌜ (KnownSide limits (now known) (now graph) nodes records) × ((refusal limits interface (now other) ≡ none) × (Room limits (now store) (now work))) ⌝ }
-    ensures { λ v. ⌜ Answers (answered (from-property limits (now (known .entry)) (now (graph .entry)) (now (other .entry)) (now (property .entry)) (now (rules .entry)) start (length (now (out .entry)))) (compose-verdict limits (now (known .entry)) (now (graph .entry)) (now (other .entry)) (now (property .entry)) (now (rules .entry)) start (length (now (out .entry))))) (now (out .entry)) (now (out .exit)) (watched-answer v) ⌝ }
-{
-    match check_property(property, 4, limits) {
-        Checked::Refused(refusal) => Verdict::Refused(refusal),
-        Checked::Accepted { .. } => compose_rules(
-            known,
-            graph,
-            other,
-            property,
-            rules,
-            start,
-            out,
-            store,
-            work,
-            limits,
-            nodes,
-            records,
-        ),
-    }
-}
-
-// The other interface's refusals, then the rest.
-fn compose_other(
-    known: &[u8],
-    graph: &[u8],
-    other: &[u8],
-    property: &[u8],
-    rules: &[u8],
-    start: u8,
-    out: &mut [u8],
-    store: &mut [u8],
-    work: &mut [u8],
-    limits: Limits,
-    nodes: usize,
-    records: usize,
-) -> Verdict
-    requires { ⌜ (KnownSide limits (now known) (now graph) nodes records) × (Room limits (now store) (now work)) ⌝ }
-    ensures { λ v. ⌜ Answers (answered (from-other limits (now (known .entry)) (now (graph .entry)) (now (other .entry)) (now (property .entry)) (now (rules .entry)) start (length (now (out .entry)))) (compose-verdict limits (now (known .entry)) (now (graph .entry)) (now (other .entry)) (now (property .entry)) (now (rules .entry)) start (length (now (out .entry))))) (now (out .entry)) (now (out .exit)) (watched-answer v) ⌝ }
-{
-    match check_interface(other, 3, limits) {
-        Checked::Refused(refusal) => Verdict::Refused(refusal),
-        Checked::Accepted { .. } => compose_property(
-            known,
-            graph,
-            other,
-            property,
-            rules,
-            start,
-            out,
-            store,
-            work,
-            limits,
-            nodes,
-            records,
-        ),
-    }
-}
-
-// The known graph's refusals, then the rest.
-fn compose_graph(
-    known: &[u8],
-    graph: &[u8],
-    other: &[u8],
-    property: &[u8],
-    rules: &[u8],
-    start: u8,
-    out: &mut [u8],
-    store: &mut [u8],
-    work: &mut [u8],
-    limits: Limits,
-) -> Verdict
-    requires { ⌜ (InterfaceFile (now known)) × (Room limits (now store) (now work)) ⌝ }
-    ensures { λ v. ⌜ Answers (answered (from-graph limits (now (known .entry)) (now (graph .entry)) (now (other .entry)) (now (property .entry)) (now (rules .entry)) start (length (now (out .entry)))) (compose-verdict limits (now (known .entry)) (now (graph .entry)) (now (other .entry)) (now (property .entry)) (now (rules .entry)) start (length (now (out .entry))))) (now (out .entry)) (now (out .exit)) (watched-answer v) ⌝ }
-{
-    match check_graph(graph, 2, limits) {
-        Checked::Refused(refusal) => Verdict::Refused(refusal),
-        Checked::Accepted { nodes, records } => compose_other(
-            known,
-            graph,
-            other,
-            property,
-            rules,
-            start,
-            out,
-            store,
-            work,
-            limits,
-            nodes,
-            records,
-        ),
-    }
-}
-
-// All files' refusals, in argument order, then the rest.
-fn compose_files(
-    known: &[u8],
-    graph: &[u8],
-    other: &[u8],
-    property: &[u8],
-    rules: &[u8],
-    start: u8,
-    out: &mut [u8],
-    store: &mut [u8],
-    work: &mut [u8],
-    limits: Limits,
-) -> Verdict
-    requires { ⌜ Room limits (now store) (now work) ⌝ }
-    ensures { λ v. ⌜ Answers (answered (from-known limits (now (known .entry)) (now (graph .entry)) (now (other .entry)) (now (property .entry)) (now (rules .entry)) start (length (now (out .entry)))) (compose-verdict limits (now (known .entry)) (now (graph .entry)) (now (other .entry)) (now (property .entry)) (now (rules .entry)) start (length (now (out .entry))))) (now (out .entry)) (now (out .exit)) (watched-answer v) ⌝ }
-{
-    match check_interface(known, 1, limits) {
-        Checked::Refused(refusal) => Verdict::Refused(refusal),
-        Checked::Accepted { .. } => compose_graph(
-            known,
-            graph,
-            other,
-            property,
-            rules,
-            start,
-            out,
-            store,
-            work,
-            limits,
-        ),
     }
 }
 

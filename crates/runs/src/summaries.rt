@@ -4,15 +4,15 @@ ghost use mathlib.Core.Path.{_≡_};
 ghost use mathlib.Core.Bool.{not};
 ghost use Prim.Native.Nat.{ℕ, _+_, _^_, _≤_, _<_};
 ghost use lib.Bits.{bitOr};
-ghost use lib.Dec.{T};
+ghost use lib.Dec.{T, eqb};
 ghost use lib.ListN.{length, getD};
 ghost use Rattle.files.specs.Decode.{decode-graph, decode-rules};
 ghost use Rattle.files.specs.Graph.{node, no-edge};
-ghost use Rattle.files.specs.Rules.{watch};
+ghost use Rattle.files.specs.Rules.{watch, calls};
 ghost use Rattle.maximal.specs.Masks.{member};
 ghost use Rattle.runs.specs.Prepared.{Ready, Stepped, Tables};
 ghost use Rattle.runs.specs.Runs.{meth};
-ghost use Rattle.runs.specs.Worklist.{union, passed, reach, sums, added, added-tail, Holding, Grew, Covered, PointDue, Spread, EdgesRun, CallsRun, EntriesIn, SummariesIn, Past, TableOf};
+ghost use Rattle.runs.specs.Worklist.{union, passed, reach, sums, added, added-tail, Holding, Grew, Covered, PointDue, Spread, EdgesRun, Entering, StartsIn, Starts, CallsRun, EntriesIn, SummariesIn, Past, TableOf};
 use crate::prepare::slot;
 use crate::regions::Regions;
 use files::cells::get8;
@@ -165,43 +165,110 @@ fn run_edges(
     end
 }
 
-// Runs edge j for every entry state.
-fn run_call(graph: &[u8], rules: &[u8], s: Regions, work: &mut [u8], tail: usize, j: usize) -> usize
-    requires { ⌜ (Ready s (now graph) (now rules)) × ((j < s .edges) × (Holding (decode-graph (now graph)) (watch (decode-rules (now rules))) tail (now work))) ⌝ }
-    ensures { λ t. ⌜ (Grew (decode-graph (now (graph .entry))) (watch (decode-rules (now (rules .entry)))) tail t (now (work .entry)) (now (work .exit))) × (T (not ((node (decode-graph (now (graph .entry))) ((getD ((decode-graph (now (graph .entry))) .edges) j no-edge) .from)) .ret)) → (p : ℕ) → p < 8 → Covered (decode-graph (now (graph .entry))) (watch (decode-rules (now (rules .entry)))) (now (work .exit)) (getD ((decode-graph (now (graph .entry))) .edges) j no-edge) p) ⌝ }
+// The states from which a call of method m by method a enters it in state p.
+fn entering(rules: &[u8], work: &[u8], a: u8, m: u8, p: usize) -> u8
+    requires { ⌜ (Stepped (watch (decode-rules (now rules))) (now work)) × ((46949 ≤ length (now work)) × ((1 ≤ a) × ((a ≤ 8) × ((1 ≤ m) × (m ≤ 8))))) ⌝ }
+    ensures { λ r. ⌜ ((q : ℕ) → q < 8 → member r q ≡ eqb (watch (decode-rules (now (rules .entry))) q (calls a m)) p) ⌝ }
 {
-    let mut p = 0;
-    let mut end = tail;
-    while p < 8 {
-        end = run_edge(graph, rules, s, work, end, j, p);
-        p += 1;
+    let at = slot(1, a, m);
+    let mut q: u8 = 0;
+    let mut y = 0;
+    while q < 8 {
+        if get8(work, Regions::MONITOR, at + q as usize) as usize == p {
+            y = y | one_state(q);
+        }
+        q += 1;
     }
-    end
+    y
 }
 
-// Runs every call of method m.
-fn run_calls(
+// The same for each caller, from method 1 on.
+fn entering_by(rules: &[u8], work: &[u8], m: u8, p: usize) -> [u8; 8]
+    requires { ⌜ (Stepped (watch (decode-rules (now rules))) (now work)) × ((46949 ≤ length (now work)) × ((1 ≤ m) × (m ≤ 8))) ⌝ }
+    ensures { λ t. ⌜ Entering (watch (decode-rules (now (rules .entry)))) m p t ⌝ }
+{
+    let mut t = [0u8; 8];
+    let mut a: u8 = 0;
+    while a < 8 {
+        t[a as usize] = entering(rules, work, a + 1, m, p);
+        a += 1;
+    }
+    t
+}
+
+// Runs edge j, which leaves node g, for each entry state with which the node is reached in a state of the set.
+fn run_where(
     graph: &[u8],
     rules: &[u8],
     s: Regions,
     work: &mut [u8],
     tail: usize,
+    j: usize,
+    g: usize,
+    set: u8,
+) -> usize
+    requires { ⌜ (Ready s (now graph) (now rules)) × ((j < s .edges) × ((g ≡ (getD ((decode-graph (now graph)) .edges) j no-edge) .from) × ((g < s .nodes) × (Holding (decode-graph (now graph)) (watch (decode-rules (now rules))) tail (now work))))) ⌝ }
+    ensures { λ t. ⌜ (Grew (decode-graph (now (graph .entry))) (watch (decode-rules (now (rules .entry)))) tail t (now (work .entry)) (now (work .exit))) × (T (not ((node (decode-graph (now (graph .entry))) ((getD ((decode-graph (now (graph .entry))) .edges) j no-edge) .from)) .ret)) → (p : ℕ) → p < 8 → StartsIn (decode-graph (now (graph .entry))) (watch (decode-rules (now (rules .entry)))) set (now (work .entry)) (getD ((decode-graph (now (graph .entry))) .edges) j no-edge) p → Covered (decode-graph (now (graph .entry))) (watch (decode-rules (now (rules .entry)))) (now (work .exit)) (getD ((decode-graph (now (graph .entry))) .edges) j no-edge) p) ⌝ }
+{
+    let mut p = 0;
+    let mut end = tail;
+    while p < 8 {
+        let x = get8(work, Regions::REACHED, 8 * g + p);
+        if x & set > 0 {
+            end = run_edge(graph, rules, s, work, end, j, p);
+        }
+        p += 1;
+    }
+    end
+}
+
+// Runs call j for each entry state with which it is reached in one of its caller's states.
+fn run_call(
+    graph: &[u8],
+    rules: &[u8],
+    s: Regions,
+    callers: &[u8; 8],
+    work: &mut [u8],
+    tail: usize,
+    j: usize,
+) -> usize
+    requires { ⌜ (Ready s (now graph) (now rules)) × ((j < s .edges) × (Holding (decode-graph (now graph)) (watch (decode-rules (now rules))) tail (now work))) ⌝ }
+    ensures { λ t. ⌜ (Grew (decode-graph (now (graph .entry))) (watch (decode-rules (now (rules .entry)))) tail t (now (work .entry)) (now (work .exit))) × (T (not ((node (decode-graph (now (graph .entry))) ((getD ((decode-graph (now (graph .entry))) .edges) j no-edge) .from)) .ret)) → (p : ℕ) → p < 8 → Starts (decode-graph (now (graph .entry))) (watch (decode-rules (now (rules .entry)))) (now (callers .entry)) (now (work .entry)) (getD ((decode-graph (now (graph .entry))) .edges) j no-edge) p → Covered (decode-graph (now (graph .entry))) (watch (decode-rules (now (rules .entry)))) (now (work .exit)) (getD ((decode-graph (now (graph .entry))) .edges) j no-edge) p) ⌝ }
+{
+    let EdgeAt::Is(e) = edge_at(graph, s.nodes, j, 0) else {
+        return tail;
+    };
+    let NodeAt::Is(v) = node_at(graph, e.from, 0) else {
+        return tail;
+    };
+    let set = callers[(v.method - 1) as usize];
+    run_where(graph, rules, s, work, tail, j, e.from, set)
+}
+
+// Runs every call of method m that starts in one of its caller's states.
+fn run_calls(
+    graph: &[u8],
+    rules: &[u8],
+    s: Regions,
+    callers: &[u8; 8],
+    work: &mut [u8],
+    tail: usize,
     m: usize,
 ) -> usize
     requires { ⌜ (Ready s (now graph) (now rules)) × ((m < 9) × (Holding (decode-graph (now graph)) (watch (decode-rules (now rules))) tail (now work))) ⌝ }
-    ensures { λ t. ⌜ (Grew (decode-graph (now (graph .entry))) (watch (decode-rules (now (rules .entry)))) tail t (now (work .entry)) (now (work .exit))) × (CallsRun (decode-graph (now (graph .entry))) (watch (decode-rules (now (rules .entry)))) (now (work .exit)) m) ⌝ }
+    ensures { λ t. ⌜ (Grew (decode-graph (now (graph .entry))) (watch (decode-rules (now (rules .entry)))) tail t (now (work .entry)) (now (work .exit))) × (CallsRun (decode-graph (now (graph .entry))) (watch (decode-rules (now (rules .entry)))) (now (callers .entry)) (now (work .entry)) (now (work .exit)) m) ⌝ }
 {
     let mut at = get16(work, Regions::LABEL_HEADS, m) as usize;
     let mut end = tail;
     while at > 0 {
         let j = at - 1;
-        end = run_call(graph, rules, s, work, end, j);
+        end = run_call(graph, rules, s, callers, work, end, j);
         at = get16(work, Regions::LABEL_NEXTS, j) as usize;
     }
     end
 }
 
-// Adds the states at the point of return node g to the summary of its method m; if any is new, runs every call of it.
+// Adds the states at the point of return node g to the summary of its method m; if any is new, runs the calls that enter it in state p.
 fn end_call(
     graph: &[u8],
     rules: &[u8],
@@ -222,7 +289,8 @@ fn end_call(
         return tail;
     }
     put8(work, Regions::SUMS, 8 * m + p, new);
-    run_calls(graph, rules, s, work, tail, m)
+    let callers = entering_by(rules, work, m as u8, p);
+    run_calls(graph, rules, s, &callers, work, tail, m)
 }
 
 // Takes the point at place `head` of the queue.

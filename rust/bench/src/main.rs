@@ -1,4 +1,5 @@
 //! Prints the time of each call in both implementations, side by side on the same bytes, and their ratio: `cargo run --release -p bench`.
+//! With an argument, only the calls of that name; with a second one, only the inputs whose name has it as a part.
 
 mod compose;
 mod inputs;
@@ -11,7 +12,7 @@ mod simulation;
 mod watch;
 
 use side_by_side::{print_header, print_line};
-use std::io;
+use std::{env, io};
 
 const NOTE: &str = "\
 Median of batches in turn, warm, one thread, the same bytes.
@@ -29,9 +30,14 @@ fn main() -> io::Result<()> {
     let watching = (compare::watch::CALL, watch::inputs());
     let composing = (compare::compose::CALL, compose::inputs()?);
     let calls = [judging, comparing, modelling, joining, showing, watching, composing];
+    let mut chosen = env::args().skip(1);
+    let (name, part) = (chosen.next(), chosen.next().unwrap_or_default());
     for (call, rows) in calls {
+        if name.as_ref().is_some_and(|name| name != call.name) {
+            continue;
+        }
         print_header(call.name);
-        for row in &rows {
+        for row in rows.iter().filter(|row| row.name.contains(&part)) {
             print_line(&call, row);
         }
     }

@@ -17,8 +17,8 @@ use Rattle.files.specs.Graph.{Node, Edge, Graph, node, no-edge}
 use Rattle.files.specs.Property.{row}
 use Rattle.files.specs.Rules.{Event, Rule, no-rule, same-event, by-rule}
 use Rattle.files.specs.Interface.{Interface}
-use Rattle.files.specs.Record.{record-at, count, wrong, parsed}
-use Rattle.files.specs.Record.Laws.{parsed-node, parsed-edge, parsed-row, parsed-rule, parsed-interface}
+use Rattle.files.specs.Record.{record-at, count, wrong, parsed-as}
+use Rattle.files.specs.Record.Laws.{as-kind, parsed-node, parsed-edge, parsed-row, parsed-rule, parsed-interface}
 use Rattle.files.specs.Refusal.{Kind, graph, property, rules, interface, nodes-of}
 use Rattle.files.specs.Refusal.Laws.{says-wrong}
 use Rattle.files.specs.Decode.{decode-graph, decode-property, decode-rules, decode-interface, row-rec, key, Filed}
@@ -51,25 +51,28 @@ module _ (l : List ℕ) (a : AcceptedAs graph l) where
   nodes-few = few (a .limits) l (a .accepted)
 
   pub node-parsed : (g : ℕ) → g < nodes-of l
-      → parsed (record-at l g) ≡ NodeRead ((node (decode-graph l) g) .method) ((node (decode-graph l) g) .ret) ((node (decode-graph l) g) .entry)
+      → parsed-as 1 (record-at l g) ≡ NodeRead ((node (decode-graph l) g) .method) ((node (decode-graph l) g) .ret) ((node (decode-graph l) g) .entry)
   node-parsed g h =
-      parsed-node (record-at l g) (not-wrong graph l a g (omega (arith, nodes-few))) (is-node (a .limits) l (a .accepted) g h)
+      as-kind 1 (record-at l g) (is-node (a .limits) l (a .accepted) g h)
+      ∙ parsed-node (record-at l g) (not-wrong graph l a g (omega (arith, nodes-few))) (is-node (a .limits) l (a .accepted) g h)
       ∙ ap (λ (v : Node). NodeRead (v .method) (v .ret) (v .entry)) (sym (decoded-node (a .limits) l (a .accepted) g h))
 
   pub edge-parsed : (n j : ℕ) → n ≡ nodes-of l → j < count l - n
-      → parsed (record-at l (n + j))
+      → parsed-as 2 (record-at l (n + j))
       ≡ EdgeRead ((getD ((decode-graph l) .edges) j no-edge) .from) ((getD ((decode-graph l) .edges) j no-edge) .label) ((getD ((decode-graph l) .edges) j no-edge) .to)
   edge-parsed n j e h =
       let k : j < count l - nodes-of l = omega (arith, e) in
-      ap (λ (m : ℕ). parsed (record-at l (m + j))) e
+      ap (λ (m : ℕ). parsed-as 2 (record-at l (m + j))) e
+      ∙ as-kind 2 (record-at l (nodes-of l + j)) (is-edge (a .limits) l (a .accepted) (nodes-of l + j) (omega arith) (omega arith))
       ∙ parsed-edge (record-at l (nodes-of l + j)) (not-wrong graph l a (nodes-of l + j) (omega arith)) (is-edge (a .limits) l (a .accepted) (nodes-of l + j) (omega arith) (omega arith))
       ∙ ap (λ (v : Edge). EdgeRead (v .from) (v .label) (v .to)) (sym (decoded-edge (a .limits) l (a .accepted) j k))
 
 pub row-parsed : (l : List ℕ) → AcceptedAs property l → (r : ℕ) → r < count l
-    → parsed (record-at l r)
+    → parsed-as 3 (record-at l r)
     ≡ RowRead ((row-rec (row (decode-property l) r)) .first) ((row-rec (row (decode-property l) r)) .second) ((row-rec (row (decode-property l) r)) .third)
 row-parsed l a r h =
-    parsed-row (record-at l r) (not-wrong property l a r h) k
+    as-kind 3 (record-at l r) k
+    ∙ parsed-row (record-at l r) (not-wrong property l a r h) k
     ∙ ap (λ (x : Record). RowRead (x .first) (x .second) (x .third)) (sym same)
   where
     k : (record-at l r) .kind ≡ 3
@@ -82,19 +85,21 @@ row-parsed l a r h =
         ∙ of-kind-three (record-at l r) k
 
 pub rule-parsed : (l : List ℕ) → AcceptedAs rules l → (j : ℕ) → j < count l
-    → parsed (record-at l j)
+    → parsed-as 4 (record-at l j)
     ≡ RuleRead ((getD (decode-rules l) j no-rule) .state) ((getD (decode-rules l) j no-rule) .event .kind) ((getD (decode-rules l) j no-rule) .event .m1) ((getD (decode-rules l) j no-rule) .event .m2) ((getD (decode-rules l) j no-rule) .next)
 rule-parsed l a j h =
-    parsed-rule (record-at l j) (not-wrong rules l a j h) (is-rule (a .limits) l (a .accepted) j h)
+    as-kind 4 (record-at l j) (is-rule (a .limits) l (a .accepted) j h)
+    ∙ parsed-rule (record-at l j) (not-wrong rules l a j h) (is-rule (a .limits) l (a .accepted) j h)
     ∙ ap (λ (u : Rule). RuleRead (u .state) (u .event .kind) (u .event .m1) (u .event .m2) (u .next)) (sym (decoded-rule (a .limits) l (a .accepted) j h))
 
 module _ (l : List ℕ) (a : AcceptedAs interface l) where
   pub interface-count : count l ≡ 1
   interface-count = one-record (a .limits) l (a .accepted)
 
-  pub interface-parsed : parsed (record-at l 0) ≡ InterfaceRead ((decode-interface l) .provided) ((decode-interface l) .required)
+  pub interface-parsed : parsed-as 5 (record-at l 0) ≡ InterfaceRead ((decode-interface l) .provided) ((decode-interface l) .required)
   interface-parsed =
-      parsed-interface (record-at l 0) (not-wrong interface l a 0 (omega (arith, interface-count))) (is-interface (a .limits) l (a .accepted))
+      as-kind 5 (record-at l 0) (is-interface (a .limits) l (a .accepted))
+      ∙ parsed-interface (record-at l 0) (not-wrong interface l a 0 (omega (arith, interface-count))) (is-interface (a .limits) l (a .accepted))
       ∙ ap (λ (I : Interface). InterfaceRead (I .provided) (I .required)) (sym (decoded-interface (a .limits) l (a .accepted)))
 
 -- ---- a scan of the rules from rule j on

@@ -1,17 +1,18 @@
 -- Laws of records: a range of a file has the file's records, and what a record reads as, by its kind. Assumes nothing.
-use mathlib.Core.Path.{_≡_, refl, ap, _∙_}
-use mathlib.Core.Bool.{Bool, true, false, not, cond}
+use mathlib.Core.Path.{_≡_, refl, sym, ap, _∙_}
+use mathlib.Core.Logic.{_⊎_, inl, inr}
+use mathlib.Core.Bool.{Bool, true, false, not, cond, _&&_, _||_}
 use mathlib.Core.List.{List}
 use Prim.Native.Nat.{ℕ, _+_, _*_, _≤_, _<_}
 use native.Mathlib.Omega.{arith}
-use lib.Dec.{T, eqb}
+use lib.Dec.{T, eqb, eqb→eq}
 use lib.ListN.{length, getD, drop, length-take, length-drop}
 use lib.Seq.{getD-take, getD-drop}
-use Rattle.files.specs.Record.{record-at, count, part, wrong, parsed}
+use Rattle.files.specs.Record.{record-at, count, part, node-wrong, edge-wrong, row-wrong, rule-wrong, interface-wrong, wrong, parsed, parsed-as}
 use Rattle.files.specs.declared.record.Parsed.the-variants.{Node, Edge, Row, Rule, Interface, Wrong, Other}
 use Rattle.files.specs.declared.record.Parsed.{Parsed}
 use Rattle.files.specs.declared.record.Record.{Record}
-use borrow.Author.Tests.{ne-eqb}
+use borrow.Author.Tests.{eq-eqb, ne-eqb, eqb-true, eqb-false}
 
 -- ---- a range of a file
 
@@ -79,3 +80,78 @@ parsed-interface r t e = parsed-right r 5 t e
 pub parsed-other : (r : Record) → (r .kind ≡ 1 → ⊥) → (r .kind ≡ 2 → ⊥) → (r .kind ≡ 3 → ⊥) → (r .kind ≡ 4 → ⊥) → (r .kind ≡ 5 → ⊥) → parsed r ≡ Other
 unfolding parsed
 parsed-other r a b c d e = simp (ne-eqb (r .kind) 1 a, ne-eqb (r .kind) 2 b, ne-eqb (r .kind) 3 c, ne-eqb (r .kind) 4 d, ne-eqb (r .kind) 5 e)
+
+-- by the kind's own tests: the tests of the other kinds fall away
+pub parsed-kind : (k : ℕ) (r : Record) → r .kind ≡ k
+    → parsed r
+    ≡ cond ((eqb k 1 && node-wrong r) || ((eqb k 2 && edge-wrong r) || ((eqb k 3 && row-wrong r) || ((eqb k 4 && rule-wrong r) || (eqb k 5 && interface-wrong r))))) Wrong (by-kind k r)
+unfolding parsed
+parsed-kind k r e =
+    ap (λ (n : ℕ). cond ((eqb n 1 && node-wrong r) || ((eqb n 2 && edge-wrong r) || ((eqb n 3 && row-wrong r) || ((eqb n 4 && rule-wrong r) || (eqb n 5 && interface-wrong r))))) Wrong (by-kind n r)) e
+
+-- what the tests of a kind tell, where the tests after them tell nothing
+pub told : (b d : Bool) (x : Parsed) → b ≡ d → cond d Wrong x ≡ cond b Wrong x
+told b d x e = ap (λ (t : Bool). cond t Wrong x) (sym e)
+
+pub told-wrong : (b c : Bool) (x : Parsed) → b ≡ true → Wrong ≡ cond (b || c) Wrong x
+told-wrong b c x e = ap (λ (d : Bool). cond (d || c) Wrong x) (sym e)
+
+pub told-right : (b : Bool) (x : Parsed) → b ≡ false → x ≡ cond (b || false) Wrong x
+told-right b x e = ap (λ (d : Bool). cond (d || false) Wrong x) (sym e)
+
+-- ---- the record parsed as one kind
+
+-- the kind of what a record reads as, 0 where it reads as none
+abbrev pub kind-read : Parsed → ℕ
+kind-read (Node m r e) = 1
+kind-read (Edge f l t) = 2
+kind-read (Row o a b) = 3
+kind-read (Rule q v m n p) = 4
+kind-read (Interface p q) = 5
+kind-read Wrong = 0
+kind-read Other = 0
+
+-- nothing is read, or the kind is n
+abbrev Reads : Parsed → ℕ → Type 0
+Reads x n = (kind-read x ≡ 0) ⊎ (kind-read x ≡ n)
+
+reads-cond : (b : Bool) (x y : Parsed) (n : ℕ) → (T b → Reads x n) → Reads y n → Reads (cond b x y) n
+reads-cond true x y n f g = f tt
+reads-cond false x y n f g = g
+
+reads-kind : (r : Record) → Reads (parsed r) (r .kind)
+unfolding parsed
+reads-kind r =
+    reads-cond (wrong r) _ _ n (λ t. inl refl)
+    (reads-cond (eqb n 1) _ _ n (λ t. inr (sym (eqb→eq n 1 t)))
+    (reads-cond (eqb n 2) _ _ n (λ t. inr (sym (eqb→eq n 2 t)))
+    (reads-cond (eqb n 3) _ _ n (λ t. inr (sym (eqb→eq n 3 t)))
+    (reads-cond (eqb n 4) _ _ n (λ t. inr (sym (eqb→eq n 4 t)))
+    (reads-cond (eqb n 5) _ _ n (λ t. inr (sym (eqb→eq n 5 t))) (inl refl))))))
+  where
+    n : ℕ
+    n = r .kind
+
+-- a record that reads as kind k has that kind
+kind-had : (k : ℕ) (r : Record) → 1 ≤ k → kind-read (parsed r) ≡ k → r .kind ≡ k
+kind-had k r h e = go (reads-kind r)
+  where
+    go : Reads (parsed r) (r .kind) → r .kind ≡ k
+    go (inl z) = absurd (omega arith)
+    go (inr s) = sym s ∙ e
+
+pub as-kind : (k : ℕ) (r : Record) → r .kind ≡ k → parsed-as k r ≡ parsed r
+unfolding parsed-as
+as-kind k r e = ap (λ (b : Bool). cond b (parsed r) Other) (eq-eqb (r .kind) k e)
+
+pub as-other : (k : ℕ) (r : Record) → (r .kind ≡ k → ⊥) → parsed-as k r ≡ Other
+unfolding parsed-as
+as-other k r h = ap (λ (b : Bool). cond b (parsed r) Other) (ne-eqb (r .kind) k h)
+
+-- a test that asks for one kind only sees no difference
+pub as-same : {A : Type 0} (k : ℕ) (r : Record) (f : Parsed → A) → 1 ≤ k → ((x : Parsed) → (kind-read x ≡ k → ⊥) → f Other ≡ f x) → f (parsed-as k r) ≡ f (parsed r)
+as-same k r f h g = go (eqb (r .kind) k) refl
+  where
+    go : (b : Bool) → eqb (r .kind) k ≡ b → f (parsed-as k r) ≡ f (parsed r)
+    go true e = ap f (as-kind k r (eqb-true (r .kind) k e))
+    go false e = ap f (as-other k r (eqb-false (r .kind) k e)) ∙ g (parsed r) (λ q. eqb-false (r .kind) k e (kind-had k r h q))

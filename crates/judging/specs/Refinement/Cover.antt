@@ -35,7 +35,7 @@ module _ (G H : Graph) where
 
   -- the row of a node is its line
   settled-line : (w : List ℕ) → Settled G H w → (g : ℕ) → g < 256 → relation-line (has-bit w (32 * g)) ≡ relation-line (related G H g)
-  settled-line w z g hg = line-same (has-bit w (32 * g)) (related G H g) (λ h hh. row-bit w g h hh ∙ settled-e w z g h hg hh)
+  settled-line w z g hg = line-same (has-bit w (32 * g)) (related G H g) (λ h hh. row-bit w g h ∙ settled-e w z g h hg hh)
 
   -- the lines of the first n nodes
   abbrev pub lines-of : ℕ → List ℕ

@@ -5,7 +5,7 @@ use mathlib.Core.Bool.{Bool, true, false, _&&_, _||_}
 use mathlib.Core.List.{List, List·Memᴰ}
 use Prim.Native.Nat.{ℕ, _+_, _*_, _/_, _%_, _^_, _≤_, _<_}
 use native.Mathlib.Nat.{zero-div}
-use native.Mathlib.Decide.{ℕ-discrete}
+use native.Mathlib.Decide.{ℕ-discrete, decLt}
 use native.Mathlib.Omega.{arith}
 use lib.Dec.{T, eqb, eqb→eq}
 use lib.ListN.{length, getD}
@@ -199,13 +199,14 @@ module _ (H : Graph) (w₀ w : List ℕ) (v h : ℕ) (hv : v < 256) (hh : h < 25
           here (no n) =
               or-l (image w ((edge H d) .label) ((edge H d) .from)) (leads-into H h ((edge H d) .label) ((edge H d) .from)) (x .complete d hd (omega arith) s)
 
-  -- a node that it is not
-  pub imaging-unrelated : rel w v h ≡ false → Imaging H w₀ v (h + 1) w
-  imaging-unrelated t = record { rest = x .rest; sound = x .sound; complete = λ d hd l s. put d hd l s (ℕ-discrete ((edge H d) .to) h) }
+  -- nodes that it is not
+  pub imaging-unrelated : (n : ℕ) → h + n ≤ 256 → ((k : ℕ) → h ≤ k → k < h + n → rel w v k ≡ false) → Imaging H w₀ v (h + n) w
+  imaging-unrelated n fits t = record { rest = x .rest; sound = x .sound; complete = λ d hd l s. put d hd l s (decLt ((edge H d) .to) h) }
     where
-      put : (d : ℕ) → d < length (H .edges) → (edge H d) .to < h + 1 → T (rel w₀ v ((edge H d) .to)) → Dec ((edge H d) .to ≡ h) → Entered H w d
-      put d hd l s (yes e) = absurd (subst T (sym now-is ∙ t) (subst (λ (n : ℕ). T (rel w₀ v n)) e s))
-      put d hd l s (no n) = x .complete d hd (omega arith) s
+      put : (d : ℕ) → d < length (H .edges) → (edge H d) .to < h + n → T (rel w₀ v ((edge H d) .to)) → Dec ((edge H d) .to < h) → Entered H w d
+      put d hd l s (yes q) = x .complete d hd q s
+      put d hd l s (no q) =
+          absurd (subst T (sym (rel-outside w₀ w (x .rest) v ((edge H d) .to) hv (omega arith)) ∙ t ((edge H d) .to) (omega arith) l) s)
 
 -- the same images, by a relation that is the same
 pub imaged-same : (H : Graph) (w₀ w₁ w w′ : List ℕ) (v : ℕ) → Narrow H → ((t : ℕ) → t < 256 → rel w₁ v t ≡ rel w₀ v t) → ((l h : ℕ) → l < 9 → h < 256 → image w′ l h ≡ image w l h)

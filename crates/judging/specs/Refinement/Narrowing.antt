@@ -1,5 +1,5 @@
 -- Laws of narrowing by whole images: an edge narrowed is matched, and one node after the other holds what it is related to.
-use mathlib.Core.Path.{_≡_, sym, ap, subst, _∙_}
+use mathlib.Core.Path.{_≡_, sym, subst, _∙_}
 use mathlib.Core.Logic.{_⊎_, inl, inr}
 use mathlib.Core.Bool.{true, false}
 use mathlib.Core.List.{List}
@@ -63,13 +63,14 @@ module _ (G H : Graph) (fl : Flow G) (fk : Flow H) (fg : size G ≤ 256) (fh : s
           below k l t (yes q) = absurd ((one .1) (subst (λ (m : ℕ). T (rel (dropped w end ((edge G e) .from) h) ((edge G e) .from) m)) q t))
           below k l t (no q) = f k (omega arith) ((one .0) .rel-less ((edge G e) .from) k (omega (arith, from-in)) (omega arith) t)
 
-      -- a node that is stays
-      pub narrow-keep : image w ((edge G e) .label) h ≡ true → Narrowed G e w₀ w h → Narrowed G e w₀ w (h + 1)
-      narrow-keep n f k l t = go (ℕ-discrete k h)
+      -- nodes that are in it wherever they are related stay
+      pub narrow-keep : (n : ℕ) → h + n ≤ 256 → ((k : ℕ) → h ≤ k → k < h + n → T (rel w ((edge G e) .from) k) → T (image w ((edge G e) .label) k))
+          → Narrowed G e w₀ w h → Narrowed G e w₀ w (h + n)
+      narrow-keep n fits r f k l t = go (decLt k h)
         where
-          go : Dec (k ≡ h) → T (image w₀ ((edge G e) .label) k)
-          go (yes q) = subst T (sym (ap (image w₀ ((edge G e) .label)) q ∙ sym (x .images-kept ((edge G e) .label) h low (omega arith)) ∙ n)) tt
-          go (no q) = f k (omega arith) t
+          go : Dec (k < h) → T (image w₀ ((edge G e) .label) k)
+          go (yes q) = f k q t
+          go (no q) = subst T (x .images-kept ((edge G e) .label) k low (omega arith)) (r k (omega arith) l t)
 
     -- past the second graph's nodes nothing is related
     pub narrow-end : (k : ℕ) → size H ≤ k → Narrowed G e w₀ w k → Narrowed G e w₀ w 256

@@ -1,17 +1,19 @@
--- Laws of the relation at first: a bit and its byte, nodes that agree, and rows of bits as they are filled.
-use mathlib.Core.Path.{_≡_, refl, sym, ap, subst, _∙_}
+-- Laws of the relation at first: a bit and its byte, a byte of a row, nodes that agree, and rows of bits as they are filled.
+use mathlib.Core.Path.{_≡_, refl, sym, ap, ap₂, subst, _∙_}
 use mathlib.Core.Logic.{inl, inr}
 use mathlib.Core.Bool.{Bool, true, false, not, _&&_, _||_}
 use mathlib.Core.List.{List}
 use Prim.Native.Nat.{ℕ, _+_, _*_, _/_, _%_, _^_, _≤_, _<_}
+use native.Mathlib.Nat.{zero-div}
 use native.Mathlib.Decide.{ℕ-discrete, decLt}
 use native.Mathlib.Omega.{arith}
+use lib.Bits.{bitOr, or-shr, or-mod, or-zero-r}
 use lib.Dec.{T, eqb, eqb→eq, ltb}
 use lib.ListN.{length, getD}
 use borrow.Author.Tests.{eq-eqb, ne-eqb, lt-ltb, le-ltb}
-use Rattle.files.specs.Basics.Tests.{same-test, same, same-refl, same→eq, and-l, and-r, and-i, T-eq, eq-eqb as T-eqb}
-use Rattle.files.specs.Cells.{has-bit, put-bit}
-use Rattle.files.specs.Cells.Laws.{bit-same, bit-other, bit-outside, has-bit-is}
+use Rattle.files.specs.Basics.Tests.{same-test, same, same-refl, same→eq, and-l, and-r, and-i, eq-eqb as T-eqb}
+use Rattle.files.specs.Cells.{cell, has-bit, put-bit}
+use Rattle.files.specs.Cells.Laws.{bit-same, bit-other, bit-outside, has-bit-is, cell-one}
 use Rattle.files.specs.Graph.{Graph, Node, size, node}
 use Rattle.judging.specs.Chains.{Outside}
 use Rattle.judging.specs.Refinement.{code, rel, row-related}
@@ -21,14 +23,53 @@ use Rattle.judging.specs.Simulation.Laws.{alike-e, alike-i}
 -- ---- bits
 
 -- row g of the relation
-pub row-bit : (w : List ℕ) (g h : ℕ) → h < 256 → has-bit w (32 * g) h ≡ rel w g h
-row-bit w g h l =
+pub row-bit : (w : List ℕ) (g h : ℕ) → has-bit w (32 * g) h ≡ rel w g h
+row-bit w g h =
     let a : 32 * g + h / 8 ≡ 0 + (256 * g + h) / 8 = omega arith in
     let b : h % 8 ≡ (256 * g + h) % 8 = omega arith in
     has-bit-is w (32 * g) h
     ∙ ap (λ (n : ℕ). eqb (getD w n 0 / 2 ^ (h % 8) % 2) 1) a
     ∙ ap (λ (n : ℕ). eqb (getD w (0 + (256 * g + h) / 8) 0 / 2 ^ n % 2) 1) b
     ∙ sym (has-bit-is w 0 (256 * g + h))
+
+-- a number that adds no digit to another has none that the other has not
+digit-within : (x y j : ℕ) → bitOr x y ≡ y → x / 2 ^ j % 2 ≡ 1 → y / 2 ^ j % 2 ≡ 1
+digit-within x y j e d = go (ℕ-discrete (y / 2 ^ j % 2) 1)
+  where
+    joined : y / 2 ^ j % 2 ≡ bitOr (x / 2 ^ j % 2) (y / 2 ^ j % 2)
+    joined = ap (λ (n : ℕ). n / 2 ^ j % 2) (sym e) ∙ ap (λ (n : ℕ). n % 2) (or-shr x y j) ∙ or-mod (x / 2 ^ j) (y / 2 ^ j) 1
+
+    go : Dec (y / 2 ^ j % 2 ≡ 1) → y / 2 ^ j % 2 ≡ 1
+    go (yes q) = q
+    go (no q) =
+        let z : y / 2 ^ j % 2 ≡ 0 = omega arith in
+        joined ∙ ap (bitOr (x / 2 ^ j % 2)) z ∙ or-zero-r (x / 2 ^ j % 2) ∙ d
+
+-- the eight bits of row g from h on, where h starts a byte
+module _ (w : List ℕ) (g h : ℕ) (starts : h % 8 ≡ 0) where
+  bit-here : (base k : ℕ) → h ≤ k → k < h + 8 → has-bit w base k ≡ eqb (getD w (base + h / 8) 0 / 2 ^ (k % 8) % 2) 1
+  bit-here base k a b =
+      let e : k / 8 ≡ h / 8 = omega arith in
+      has-bit-is w base k ∙ ap (λ (n : ℕ). eqb (getD w (base + n) 0 / 2 ^ (k % 8) % 2) 1) e
+
+  -- a byte that adds nothing to that of another row
+  pub byte-within : (base row over : ℕ) → row ≡ cell w (32 * g) 1 (h / 8) → over ≡ cell w base 1 (h / 8) → T (eqb (bitOr row over) over)
+      → (k : ℕ) → h ≤ k → k < h + 8 → T (rel w g k) → T (has-bit w base k)
+  byte-within base row over r o t k a b s =
+      let x : row ≡ getD w (32 * g + h / 8) 0 = r ∙ cell-one w (32 * g) (h / 8) in
+      let y : over ≡ getD w (base + h / 8) 0 = o ∙ cell-one w base (h / 8) in
+      subst T (sym (bit-here base k a b))
+      (T-eqb (getD w (base + h / 8) 0 / 2 ^ (k % 8) % 2) 1
+      (digit-within (getD w (32 * g + h / 8) 0) (getD w (base + h / 8) 0) (k % 8) (ap₂ bitOr (sym x) (sym y) ∙ eqb→eq (bitOr row over) over t ∙ y)
+      (eqb→eq (getD w (32 * g + h / 8) 0 / 2 ^ (k % 8) % 2) 1 (subst T (sym (row-bit w g k) ∙ bit-here (32 * g) k a b) s))))
+
+  -- a byte that is 0
+  pub byte-empty : (row : ℕ) → row ≡ cell w (32 * g) 1 (h / 8) → T (eqb row 0) → (k : ℕ) → h ≤ k → k < h + 8 → rel w g k ≡ false
+  byte-empty row r t k a b =
+      sym (row-bit w g k)
+      ∙ bit-here (32 * g) k a b
+      ∙ ap (λ (x : ℕ). eqb (x / 2 ^ (k % 8) % 2) 1) (sym (r ∙ cell-one w (32 * g) (h / 8)) ∙ eqb→eq row 0 t)
+      ∙ ap (λ (x : ℕ). eqb (x % 2) 1) (zero-div (2 ^ (k % 8)))
 
 -- ---- nodes that agree
 

@@ -13,7 +13,6 @@ use lib.Seq.{take-at}
 use borrow.Author.Tests.{le-ltb}
 use Rattle.files.specs.Basics.First.{whole}
 use Rattle.files.specs.Basics.Tests.{or-l, or-r, at-most}
-use Rattle.files.specs.Checking.{checked}
 use Rattle.files.specs.Decode.{decode-graph, decode-interface, decode-property, decode-rules, graph-bytes}
 use Rattle.files.specs.Decode.Accepted.{accepted-bytes}
 use Rattle.files.specs.Decode.Graphs.{decoded-filed, decoded-size, decoded-edges}
@@ -25,16 +24,13 @@ use Rattle.files.specs.Limits.{desk}
 use Rattle.files.specs.Outcome.{Said, Outcome, refuses, says, Answer, Answers, Does, answer, out-after, verdict-answer, refused-answer, Check, whole-check, file-checks, graph-said, first-refusal, answered, refusal-at}
 use Rattle.files.specs.Outcome.{no-start, short, too-large, out-check, work-after}
 use Rattle.files.specs.Outcome.Laws.{small-enough, says-too-large}
-use Rattle.files.specs.Outcome.Steps.{whole-refuses, whole-passes, scan-refuses, scan-passes, answers-refused, answers-same, answers-file-refused, answers-file-passed, Low}
+use Rattle.files.specs.Outcome.Steps.{whole-refuses, whole-passes, scan-refuses, scan-passes, answers-refused, answers-same, Low}
 use Rattle.files.specs.Outcome.Steps.{accepted-passes, file-low, check-low, out-low, does-cleared, out-passes}
 use Rattle.files.specs.Record.{count}
 use Rattle.files.specs.Refusal.{graph, property, rules, interface, refusal, nodes-of}
 use Rattle.files.specs.Rules.{watch}
 use Rattle.files.specs.Sides.{first-foreign, first-foreign-record, shares, unprovided}
 use Rattle.files.specs.Sides.Reads.{record-found, none-found}
-use Rattle.files.specs.declared.check.Checked.{Checked}
-use Rattle.files.specs.declared.check.Checked.the-variants.{Accepted}
-use Rattle.files.specs.declared.check.Checked.the-variants as checked-as
 use Rattle.files.specs.declared.record.Limits.{Limits}
 use Rattle.files.specs.declared.refusal.Refusal.{Refusal}
 use Rattle.judging.specs.Judge.{GraphWithin}
@@ -69,54 +65,6 @@ module _ (L : Limits) (ki kg oi p r : List ℕ) (m : ℕ) (out : List ℕ) where
 
   abbrev on-start : List Check
   on-start = from-start L ki kg oi p r m (length out)
-
-  abbrev on-rules : List Check
-  on-rules = from-rules L ki kg oi p r m (length out)
-
-  abbrev on-property : List Check
-  on-property = from-property L ki kg oi p r m (length out)
-
-  abbrev on-other : List Check
-  on-other = from-other L ki kg oi p r m (length out)
-
-  abbrev on-graph : List Check
-  on-graph = from-graph L ki kg oi p r m (length out)
-
-  abbrev on-known : List Check
-  on-known = from-known L ki kg oi p r m (length out)
-
-  -- ---- the files, as checking answers
-
-  module _ (x : Checked) where
-    pub known-refused : x ≡ checked L interface ki 1 → (f : Refusal) → x ≡ checked-as.Refused f → Answers (answered on-known said) out out (refused-answer f)
-    known-refused is f d = answers-file-refused L 1 interface ki on-graph said out x is f d
-
-    pub known-passed : x ≡ checked L interface ki 1 → (n c : ℕ) (out′ : List ℕ) (a : Answer) → x ≡ Accepted n c → Answers (answered on-graph said) out out′ a → Answers (answered on-known said) out out′ a
-    known-passed is n c out′ a d = answers-file-passed L 1 interface ki on-graph said out x is n c out′ a d
-
-    pub graph-refused : x ≡ checked L graph kg 2 → (f : Refusal) → x ≡ checked-as.Refused f → Answers (answered on-graph said) out out (refused-answer f)
-    graph-refused is f d = answers-file-refused L 2 graph kg on-other said out x is f d
-
-    pub graph-passed : x ≡ checked L graph kg 2 → (n c : ℕ) (out′ : List ℕ) (a : Answer) → x ≡ Accepted n c → Answers (answered on-other said) out out′ a → Answers (answered on-graph said) out out′ a
-    graph-passed is n c out′ a d = answers-file-passed L 2 graph kg on-other said out x is n c out′ a d
-
-    pub other-refused : x ≡ checked L interface oi 3 → (f : Refusal) → x ≡ checked-as.Refused f → Answers (answered on-other said) out out (refused-answer f)
-    other-refused is f d = answers-file-refused L 3 interface oi on-property said out x is f d
-
-    pub other-passed : x ≡ checked L interface oi 3 → (n c : ℕ) (out′ : List ℕ) (a : Answer) → x ≡ Accepted n c → Answers (answered on-property said) out out′ a → Answers (answered on-other said) out out′ a
-    other-passed is n c out′ a d = answers-file-passed L 3 interface oi on-property said out x is n c out′ a d
-
-    pub property-refused : x ≡ checked L property p 4 → (f : Refusal) → x ≡ checked-as.Refused f → Answers (answered on-property said) out out (refused-answer f)
-    property-refused is f d = answers-file-refused L 4 property p on-rules said out x is f d
-
-    pub property-passed : x ≡ checked L property p 4 → (n c : ℕ) (out′ : List ℕ) (a : Answer) → x ≡ Accepted n c → Answers (answered on-rules said) out out′ a → Answers (answered on-property said) out out′ a
-    property-passed is n c out′ a d = answers-file-passed L 4 property p on-rules said out x is n c out′ a d
-
-    pub rules-refused : x ≡ checked L rules r 5 → (f : Refusal) → x ≡ checked-as.Refused f → Answers (answered on-rules said) out out (refused-answer f)
-    rules-refused is f d = answers-file-refused L 5 rules r on-start said out x is f d
-
-    pub rules-passed : x ≡ checked L rules r 5 → (n c : ℕ) (out′ : List ℕ) (a : Answer) → x ≡ Accepted n c → Answers (answered on-start said) out out′ a → Answers (answered on-rules said) out out′ a
-    rules-passed is n c out′ a d = answers-file-passed L 5 rules r on-start said out x is n c out′ a d
 
   -- ---- the start method, 9 and 10
 

@@ -2,7 +2,7 @@
 -- summaries are found.
 use mathlib.Core.Path.{_≡_, refl, sym, ap, ap₂, subst, _∙_}
 use mathlib.Core.Logic.{_⊎_, inl, inr}
-use mathlib.Core.Bool.{Bool, true, false, not, cond}
+use mathlib.Core.Bool.{Bool, true, false, not, cond, _&&_}
 use mathlib.Core.List.{List, List·Memᴰ}
 use Prim.Native.Nat.{ℕ, zero, suc, _+_, _*_, _/_, _%_, _≤_, _<_}
 use native.Mathlib.Nat.{eq-or-lt-of-le, le-trans}
@@ -12,7 +12,8 @@ use lib.Bits.{bitOr}
 use lib.Dec.{T, T-not, eqb, eqb→eq}
 use lib.ListN.{length}
 use borrow.Author.Tests.{ne-eqb}
-use Rattle.files.specs.Basics.Tests.{or-l, or-r, or-e}
+use Rattle.files.specs.Basics.Lists.{span, span-i, span-e}
+use Rattle.files.specs.Basics.Tests.{any, any-i, any-e, and-i, and-e, eq-eqb, or-l, or-r, or-e}
 use Rattle.files.specs.Basics.Tables.{tally-le, tally-same}
 use Rattle.files.specs.Cells.{cell, put-cell}
 use Rattle.files.specs.Cells.Laws.{length-put-cell, byte-outside, cell-same, cell-apart, cell-other, cell-agree}
@@ -24,7 +25,7 @@ use Rattle.runs.specs.Prepared.Files.{tables-kept}
 use Rattle.runs.specs.Runs.{meth, Runs}
 use Rattle.runs.specs.Summary.{Inside, enter, inner, over, Yields}
 use Rattle.runs.specs.Summary.Spots.{inside-now}
-use Rattle.runs.specs.Worklist.{passed, point, reach, waits, sums, queue, reached, after-edge, Queued, Holding, Grew, Covered, Summed, SpreadBut, Spread, SummariesIn}
+use Rattle.runs.specs.Worklist.{passed, point, reach, waits, sums, queue, reached, after-edge, Queued, Holding, Grew, Covered, Summed, SpreadBut, Spread, EntersIn, SummariesIn}
 use Rattle.runs.specs.Worklist.Unions.{passed-e, passed-i}
 
 module _ (G : Graph) (mon : Monitor) (flow : Flow G) (labels-small : (e : Edge) → List·Memᴰ e (G .edges) → e .label < 9)
@@ -268,6 +269,23 @@ module _ (G : Graph) (mon : Monitor) (flow : Flow G) (labels-small : (e : Edge) 
     hm : m < 9
     hm = methods-small g hg
 
+    abbrev Enters : Edge → ℕ → Type 0
+    Enters e y = EntersIn G mon p e y
+
+    enters? : (e : Edge) (y : ℕ) → Dec (Enters e y)
+    enters? e y = go (any into (span 0 8)) refl
+      where
+        into : ℕ → Bool
+        into q = member y q && eqb (mon q (calls (meth G (e .from)) (e .label))) p
+
+        go : (b : Bool) → any into (span 0 8) ≡ b → Dec (Enters e y)
+        go true d =
+            let a = any-e into (span 0 8) (subst T (sym d) tt) in
+            let b = and-e (member y (a .0)) (eqb (mon (a .0) (calls (meth G (e .from)) (e .label))) p) (a .2) in
+            yes (a .0, omega (arith, (span-e 8 0 (a .0) (a .1)) .1), b .0, eqb→eq _ p (b .1))
+        go false d = no (λ a. subst T d (any-i into (span 0 8) (a .0) (span-i 8 0 (a .0) (omega arith) (omega (arith, a .1)))
+            (and-i (member y (a .0)) (eqb (mon (a .0) (calls (meth G (e .from)) (e .label))) p) (a .2) (eq-eqb _ p (a .3)))))
+
     due-none : (e : Edge) → T (not ((node G (e .from)) .ret)) → (r : ℕ) → ((e .from ≡ g) × (r ≡ p)) ⊎ Covered G mon w e r → Covered G mon w e r
     due-none e n r (inl d) = absurd (T-not ((node G g) .ret) (subst (λ (h : ℕ). T (not ((node G h) .ret))) (d .0) n) returns)
     due-none e n r (inr c) = c
@@ -327,10 +345,10 @@ module _ (G : Graph) (mon : Monitor) (flow : Flow G) (labels-small : (e : Edge) 
               (here (or-e (member (sums w m p) q) (member (reach w g p) q)
               (subst T (ap (λ (k : ℕ). member k q) sum-here ∙ member-or (sums w m p) (reach w g p) q) (subst (λ (l : ℕ). T (member (sums raised l p) q)) (e .0) (subst (λ (r : ℕ). T (member (sums raised l r) q)) (e .1) t))))))
 
-      -- a call of another method yields what it did
-      after-raised : (e : Edge) → List·Memᴰ e (G .edges) → (e .label ≡ m → ⊥) → (y q : ℕ) → q < 8
+      -- a call of another method, or one that does not enter it in state p, yields what it did
+      after-raised : (e : Edge) → List·Memᴰ e (G .edges) → (y : ℕ) → (e .label ≡ m → Enters e y → ⊥) → (q : ℕ) → q < 8
           → T (member (after-edge G mon (sums raised) e y) q) → T (member (after-edge G mon (sums w) e y) q)
-      after-raised e k n y q hq t = go (eqb (e .label) 0) t
+      after-raised e k y n q hq t = go (eqb (e .label) 0) t
         where
           go : (b : Bool) → T (member (cond b y (passed mon (sums raised) (meth G (e .from)) (e .label) y)) q) → T (member (cond b y (passed mon (sums w) (meth G (e .from)) (e .label) y)) q)
           go true u = u
@@ -338,16 +356,16 @@ module _ (G : Graph) (mon : Monitor) (flow : Flow G) (labels-small : (e : Edge) 
               let a = passed-e mon small-event (sums raised) (meth G (e .from)) (e .label) y q hq u in
               let into = mon (a .0) (calls (meth G (e .from)) (e .label)) in
               let hi : into < 8 = mon-small (a .0) _ (a .2) in
-              let same : sums raised (e .label) into ≡ sums w (e .label) into = sum-other (e .label) into (labels-small e k) hi (λ d. n (omega (arith, d, hi))) in
+              let same : sums raised (e .label) into ≡ sums w (e .label) into = sum-other (e .label) into (labels-small e k) hi (λ d. n (omega (arith, d, hi)) (a .0, a .2, a .4, omega (arith, d, hi))) in
               subst (λ (c : ℕ). T (member (passed mon (sums w) (meth G (e .from)) (e .label) y) c)) (a .6)
               (passed-i mon small-event (sums w) (meth G (e .from)) (e .label) y (a .0) (a .1) (a .2) (a .3) (a .4) (subst (λ (c : ℕ). T (member c (a .1))) same (a .5)))
 
-      covered-raised : (e : Edge) → List·Memᴰ e (G .edges) → (r : ℕ) → r < 8 → (e .label ≡ m → ⊥) → Covered G mon w e r → Covered G mon raised e r
+      covered-raised : (e : Edge) → List·Memᴰ e (G .edges) → (r : ℕ) → r < 8 → (e .label ≡ m → Enters e (reach w (e .from) r) → ⊥) → Covered G mon w e r → Covered G mon raised e r
       unfolding Covered
       covered-raised e k r hr n (inl d) = inl (waits-same (e .from) r (flow .from-node e k) hr ∙ d)
       covered-raised e k r hr n (inr f) =
           inr (λ q hq t. subst (λ (y : ℕ). T (member y q)) (sym (reach-kept (e .to) r (flow .to-node e k) hr))
-          (f q hq (subst (λ (y : ℕ). T (member (after-edge G mon (sums w) e y) q)) (reach-kept (e .from) r (flow .from-node e k) hr) (after-raised e k n _ q hq t))))
+          (f q hq (after-raised e k (reach w (e .from) r) n q hq (subst (λ (y : ℕ). T (member (after-edge G mon (sums raised) e y) q)) (reach-kept (e .from) r (flow .from-node e k) hr) t))))
 
       summed-raised : (h r : ℕ) → h < size G → r < 8 → Summed G mon w h r → Summed G mon raised h r
       unfolding Summed
@@ -374,21 +392,23 @@ module _ (G : Graph) (mon : Monitor) (flow : Flow G) (labels-small : (e : Edge) 
             is-there = cell-apart w 46612 1 (8 * m + p) _ 0 2 i (inl (omega (arith, le-trans (s .holding .few) (reached-most w)))) ∙ a .is-there;
           }
 
-      -- every call of its method is due
-      pub raised-due : SpreadBut G mon (λ e r. e .label ≡ m) (λ h r. ⊥) head tail raised
+      -- every call that enters its method in state p is due
+      pub raised-due : SpreadBut G mon (λ e r. (e .label ≡ m) × Enters e (reach w (e .from) r)) (λ h r. ⊥) head tail raised
       raised-due = record {
         holding = raised-holds;
         waiting = λ h r hh hr d.
             let a = s .waiting h r hh hr (sym (waits-same h r hh hr) ∙ d) in
             (a .0, a .1, a .2, cell-apart w 46612 1 (8 * m + p) _ 0 2 (a .0) (inl (omega (arith, a .2, le-trans (s .holding .few) (reached-most w)))) ∙ a .3);
-        edges-done = λ e k n r hr. edge e k r hr (ℕ-discrete (e .label) m) (due-none e n r (s .edges-done e k n r hr));
+        edges-done = λ e k n r hr. edge e k r hr (ℕ-discrete (e .label) m) (enters? e (reach w (e .from) r)) (due-none e n r (s .edges-done e k n r hr));
         returns-done = λ h r hh hr t. inr (node-on h r hh hr (s .returns-done h r hh hr t));
         entries-in = λ h r hh hr t. subst (λ (k : ℕ). T (member k r)) (sym (reach-kept h r hh hr)) (s .entries-in h r hh hr t);
       }
         where
-          edge : (e : Edge) → List·Memᴰ e (G .edges) → (r : ℕ) → r < 8 → Dec (e .label ≡ m) → Covered G mon w e r → (e .label ≡ m) ⊎ Covered G mon raised e r
-          edge e k r hr (yes d) c = inl d
-          edge e k r hr (no n) c = inr (covered-raised e k r hr n c)
+          edge : (e : Edge) → List·Memᴰ e (G .edges) → (r : ℕ) → r < 8 → Dec (e .label ≡ m) → Dec (Enters e (reach w (e .from) r)) → Covered G mon w e r
+              → ((e .label ≡ m) × Enters e (reach w (e .from) r)) ⊎ Covered G mon raised e r
+          edge e k r hr (yes d) (yes i) c = inl (d, i)
+          edge e k r hr (yes d) (no n) c = inr (covered-raised e k r hr (λ q i. n i) c)
+          edge e k r hr (no n) i c = inr (covered-raised e k r hr (λ q j. n q) c)
 
           node-on : (h r : ℕ) → h < size G → r < 8 → ((h ≡ g) × (r ≡ p)) ⊎ Summed G mon w h r → Summed G mon raised h r
           node-on h r hh hr (inl d) =

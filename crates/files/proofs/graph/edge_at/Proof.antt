@@ -12,8 +12,8 @@ use Rattle.files.proofs.graph.edge_at.Tie as tie
 add-i : tie.Need-add-i
 add-i c = search needs
 
-parse-requires : tie.Need-parse-requires
-parse-requires c κs = search needs
+parse-edge-requires : tie.Need-parse-edge-requires
+parse-edge-requires c κs = search needs
 
 enum-known-from : tie.Need-enum-known-from
 enum-known-from c = search needs
@@ -24,13 +24,13 @@ at-requires c κs = search needs
 returns : tie.Need-returns
 returns c =
     let s = c .before .before .before .before in
-    absurd (never-edge _ _ _ _ (c .before .before .parse .ensures ∙ edge-parsed (s .args .graph .now) (s .pre .0) (s .args .nodes) (s .args .j) (s .pre .1) (s .pre .2)) (c .before .match .keys2))
+    absurd (never-edge _ _ _ _ (c .before .before .parse-edge .ensures ∙ edge-parsed (s .args .graph .now) (s .pre .0) (s .args .nodes) (s .args .j) (s .pre .1) (s .pre .2)) (c .before .match .keys2))
 
 returns-2 : tie.Need-returns-2
 returns-2 c =
     let s = c .before .before .before .before .before in
-    same-edge (c .before .before .before .parse .result) _ _ _ (getD ((decode-graph (s .args .graph .now)) .edges) (s .args .j) no-edge) (c .before .from .given .1) (c .before .before .before .parse .ensures ∙ edge-parsed (s .args .graph .now) (s .pre .0) (s .args .nodes) (s .args .j) (s .pre .1) (s .pre .2))
+    same-edge (c .before .before .before .parse-edge .result) _ _ _ (getD ((decode-graph (s .args .graph .now)) .edges) (s .args .j) no-edge) (c .before .from .given .1) (c .before .before .before .parse-edge .ensures ∙ edge-parsed (s .args .graph .now) (s .pre .0) (s .args .nodes) (s .args .j) (s .pre .1) (s .pre .2))
 
 pub edge-at-spec : {M : Type 1} → statement M
 edge-at-spec =
-    tie.close (tie.spec add-i parse-requires enum-known-from at-requires returns returns-2)
+    tie.close (tie.spec add-i parse-edge-requires enum-known-from at-requires returns returns-2)

@@ -10,8 +10,8 @@ use borrow.Author.Needs.{needs}
 use Rattle.files.proofs.interface.provides.Statement.{statement}
 use Rattle.files.proofs.interface.provides.Tie as tie
 
-parse-requires : tie.Need-parse-requires
-parse-requires c κs = omega (arith, interface-count (c .before .args .interface .now) (c .before .pre))
+parse-interface-requires : tie.Need-parse-interface-requires
+parse-interface-requires c κs = omega (arith, interface-count (c .before .args .interface .now) (c .before .pre))
 
 enum-known-provided : tie.Need-enum-known-provided
 enum-known-provided c = search needs
@@ -19,7 +19,7 @@ enum-known-provided c = search needs
 returns : tie.Need-returns
 returns c =
     let s = c .before .before .before in
-    absurd (never-interface _ _ _ (c .before .parse .ensures ∙ interface-parsed (s .args .interface .now) (s .pre)) (c .match .keys2))
+    absurd (never-interface _ _ _ (c .before .parse-interface .ensures ∙ interface-parsed (s .args .interface .now) (s .pre)) (c .match .keys2))
 
 in-set-requires : tie.Need-in-set-requires
 in-set-requires c κs = search needs
@@ -27,8 +27,8 @@ in-set-requires c κs = search needs
 returns-2 : tie.Need-returns-2
 returns-2 c =
     let s = c .before .before .before .before .before .before in
-    c .in-set .ensures ∙ ap (λ (x : ℕ). in-set x (s .args .m)) (same-provided (c .before .before .before .before .parse .result) _ _ (decode-interface (s .args .interface .now)) (c .before .before .provided .given .1) (c .before .before .before .before .parse .ensures ∙ interface-parsed (s .args .interface .now) (s .pre)))
+    c .in-set .ensures ∙ ap (λ (x : ℕ). in-set x (s .args .m)) (same-provided (c .before .before .before .before .parse-interface .result) _ _ (decode-interface (s .args .interface .now)) (c .before .before .provided .given .1) (c .before .before .before .before .parse-interface .ensures ∙ interface-parsed (s .args .interface .now) (s .pre)))
 
 pub provides-spec : {M : Type 1} → statement M
 provides-spec =
-    tie.close (tie.spec parse-requires enum-known-provided returns in-set-requires returns-2)
+    tie.close (tie.spec parse-interface-requires enum-known-provided returns in-set-requires returns-2)

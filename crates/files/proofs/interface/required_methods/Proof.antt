@@ -8,8 +8,8 @@ use borrow.Author.Needs.{needs}
 use Rattle.files.proofs.interface.required_methods.Statement.{statement}
 use Rattle.files.proofs.interface.required_methods.Tie as tie
 
-parse-requires : tie.Need-parse-requires
-parse-requires c κs = omega (arith, interface-count (c .before .args .interface .now) (c .before .pre))
+parse-interface-requires : tie.Need-parse-interface-requires
+parse-interface-requires c κs = omega (arith, interface-count (c .before .args .interface .now) (c .before .pre))
 
 enum-known-required : tie.Need-enum-known-required
 enum-known-required c = search needs
@@ -17,13 +17,13 @@ enum-known-required c = search needs
 returns : tie.Need-returns
 returns c =
     let s = c .before .before .before in
-    absurd (never-interface _ _ _ (c .before .parse .ensures ∙ interface-parsed (s .args .interface .now) (s .pre)) (c .match .keys2))
+    absurd (never-interface _ _ _ (c .before .parse-interface .ensures ∙ interface-parsed (s .args .interface .now) (s .pre)) (c .match .keys2))
 
 returns-2 : tie.Need-returns-2
 returns-2 c =
     let s = c .before .before .before .before .before in
-    same-required (c .before .before .before .parse .result) _ _ (decode-interface (s .args .interface .now)) (c .before .required .given .1)
-    (c .before .before .before .parse .ensures ∙ interface-parsed (s .args .interface .now) (s .pre))
+    same-required (c .before .before .before .parse-interface .result) _ _ (decode-interface (s .args .interface .now)) (c .before .required .given .1)
+    (c .before .before .before .parse-interface .ensures ∙ interface-parsed (s .args .interface .now) (s .pre))
 
 pub required-methods-spec : {M : Type 1} → statement M
-required-methods-spec = tie.close (tie.spec parse-requires enum-known-required returns returns-2)
+required-methods-spec = tie.close (tie.spec parse-interface-requires enum-known-required returns returns-2)

@@ -1,4 +1,5 @@
-use Rattle.files.proofs.Tags.{no-crossing}
+use Rattle.files.proofs.Tags.{no-crossing, crossing-as}
+use Rattle.files.specs.Checking.{crossing-of}
 use mathlib.Core.Path.{_≡_, refl, sym, ap, ap₂, _∙_}
 use borrow.Author.Tests.{lt-ltb, le-ltb}
 use borrow.Author.Needs.{needs}
@@ -7,11 +8,11 @@ use Rattle.files.proofs.offence.crossing.Tie as tie
 use Rattle.files.proofs.offence.crossing.Reads as reads
 use Rattle.files.proofs.offence.crossing.Lts as lts
 use Rattle.files.proofs.offence.method_of.Reads as method-of-reads
-use Rattle.files.proofs.parse.parse.Reads as parse-reads
+use Rattle.files.proofs.parse.parse_edge.Reads as parse-edge-reads
 
 -- src/offence.rt:179:41
-parse-requires : tie.Need-parse-requires
-parse-requires c κs = search needs
+parse-edge-requires : tie.Need-parse-edge-requires
+parse-edge-requires c κs = search needs
 
 -- src/offence.rt:179:24
 enum-known-from : tie.Need-enum-known-from
@@ -19,15 +20,17 @@ enum-known-from c = search needs
 
 -- src/offence.rt:180:9
 returns : tie.Need-returns
-returns c = rw (← c .before .parse .ensures) (no-crossing (c .before .before .before .args .records .now) (c .before .before .before .args .n) (c .before .parse .result) (c .match .keys2))
+returns c =
+    let s = c .before .before .before .args in
+    no-crossing (s .records .now) (s .n) (c .before .parse-edge .result) (c .match .keys2) ∙ ap (crossing-of (s .records .now) (s .n)) (c .before .parse-edge .ensures) ∙ crossing-as (s .records .now) (s .n) _
 
 -- src/offence.rt:183:9
 returns-2 : tie.Need-returns-2
-returns-2 c = rw (← c .before .before .before .before .parse .ensures, c .before .before .from .given .1, le-ltb _ _ (c .if1 .taken)) refl
+returns-2 c = rw (← crossing-as, ← c .before .before .before .before .parse-edge .ensures, c .before .before .from .given .1, le-ltb _ _ (c .if1 .taken)) refl
 
 -- src/offence.rt:186:9
 returns-3 : tie.Need-returns-3
-returns-3 c = rw (← c .before .before .before .before .before .parse .ensures, c .before .before .before .from .given .1, lt-ltb _ _ (c .before .if1 .left), le-ltb _ _ (c .if2 .taken)) refl
+returns-3 c = rw (← crossing-as, ← c .before .before .before .before .before .parse-edge .ensures, c .before .before .before .from .given .1, lt-ltb _ _ (c .before .if1 .left), le-ltb _ _ (c .if2 .taken)) refl
 
 -- src/offence.rt:188:9
 method-of-requires : tie.Need-method-of-requires
@@ -39,13 +42,13 @@ method-of-requires-2 c κs = search needs
 
 -- src/offence.rt:175:1
 returns-4 : tie.Need-returns-4
-returns-4 c = rw (← c .before .before .before .before .before .before .before .parse .ensures, c .before .before .before .before .before .from .given .1, lt-ltb _ _ (c .before .before .before .if1 .left), lt-ltb _ _ (c .before .before .if2 .left), ← c .method-of2 .ensures, ← c .before .method-of .ensures) refl
+returns-4 c = rw (← crossing-as, ← c .before .before .before .before .before .before .before .parse-edge .ensures, c .before .before .before .before .before .from .given .1, lt-ltb _ _ (c .before .before .before .if1 .left), lt-ltb _ _ (c .before .before .if2 .left), ← c .method-of2 .ensures, ← c .before .method-of .ensures) refl
 
 pub crossing-spec : {M : Type 1} → statement M
 crossing-spec =
     tie.close
     (tie.spec
-    parse-requires
+    parse-edge-requires
     enum-known-from
     returns
     returns-2

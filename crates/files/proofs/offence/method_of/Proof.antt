@@ -1,15 +1,16 @@
-use Rattle.files.proofs.Tags.{no-method}
+use Rattle.files.proofs.Tags.{no-method, method-as}
+use Rattle.files.specs.Checking.{method-of}
 use mathlib.Core.Path.{_≡_, refl, sym, ap, ap₂, _∙_}
 use borrow.Author.Needs.{needs}
 use Rattle.files.proofs.offence.method_of.Statement.{statement}
 use Rattle.files.proofs.offence.method_of.Tie as tie
 use Rattle.files.proofs.offence.method_of.Reads as reads
 use Rattle.files.proofs.offence.method_of.Lts as lts
-use Rattle.files.proofs.parse.parse.Reads as parse-reads
+use Rattle.files.proofs.parse.parse_node.Reads as parse-node-reads
 
 -- src/offence.rt:168:39
-parse-requires : tie.Need-parse-requires
-parse-requires c κs = search needs
+parse-node-requires : tie.Need-parse-node-requires
+parse-node-requires c κs = search needs
 
 -- src/offence.rt:168:24
 enum-known-method : tie.Need-enum-known-method
@@ -17,11 +18,11 @@ enum-known-method c = search needs
 
 -- src/offence.rt:169:9
 returns : tie.Need-returns
-returns c = rw (← c .before .parse .ensures) (no-method (c .before .parse .result) (c .match .keys2))
+returns c = no-method (c .before .parse-node .result) (c .match .keys2) ∙ ap method-of (c .before .parse-node .ensures) ∙ method-as _
 
 -- src/offence.rt:164:1
 returns-2 : tie.Need-returns-2
-returns-2 c = rw (← c .before .before .before .parse .ensures, c .before .method .given .1) refl
+returns-2 c = sym (ap method-of (c .before .method .given .1)) ∙ ap method-of (c .before .before .before .parse-node .ensures) ∙ method-as _
 
 pub method-of-spec : {M : Type 1} → statement M
-method-of-spec = tie.close (tie.spec parse-requires enum-known-method returns returns-2)
+method-of-spec = tie.close (tie.spec parse-node-requires enum-known-method returns returns-2)

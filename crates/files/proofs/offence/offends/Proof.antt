@@ -1,6 +1,5 @@
-use Rattle.files.specs.Checking.Laws.{offends-is}
-use mathlib.Core.Path.{_≡_, refl, sym, ap, ap₂, _∙_}
 use borrow.Author.Tests.{ne-eqb}
+use Rattle.files.specs.Checking.Laws.{offends-is}
 use borrow.Author.Needs.{needs}
 use Rattle.files.proofs.offence.offends.Statement.{statement}
 use Rattle.files.proofs.offence.offends.Tie as tie
@@ -13,51 +12,47 @@ use Rattle.files.proofs.offence.misplaced.Reads as misplaced-reads
 use Rattle.files.proofs.offence.past.Reads as past-reads
 use Rattle.files.proofs.parse.parse.Reads as parse-reads
 
--- src/offence.rt:209:9
+-- src/offence.rt:225:9
 misplaced-requires : tie.Need-misplaced-requires
 misplaced-requires c κs = search needs
 
--- src/offence.rt:209:9
+-- src/offence.rt:225:9
 returns : tie.Need-returns
 returns c = rw (offends-is, c .before .if1 .taken) (c .misplaced .ensures)
 
--- src/offence.rt:212:13
+-- src/offence.rt:228:13
 parse-requires : tie.Need-parse-requires
 parse-requires c κs = search needs
 
--- src/offence.rt:213:9
+-- src/offence.rt:229:9
 is-wrong-requires : tie.Need-is-wrong-requires
 is-wrong-requires c κs = search needs
 
--- src/offence.rt:213:9
+-- src/offence.rt:229:9
 returns-2 : tie.Need-returns-2
 returns-2 c = rw (offends-is, c .before .before .if2 .taken, ← c .before .parse .ensures) (c .is-wrong .ensures)
 
--- src/offence.rt:216:9
+-- src/offence.rt:232:9
 disordered-requires : tie.Need-disordered-requires
 disordered-requires c κs = search needs
 
--- src/offence.rt:216:9
+-- src/offence.rt:232:9
 returns-3 : tie.Need-returns-3
 returns-3 c = rw (offends-is, c .before .if3 .taken) (c .disordered .ensures)
 
--- src/offence.rt:219:13
-parse-requires-2 : tie.Need-parse-requires-2
-parse-requires-2 c κs = search needs
-
--- src/offence.rt:220:9
+-- src/offence.rt:235:9
 past-requires : tie.Need-past-requires
 past-requires c κs = search needs
 
--- src/offence.rt:220:9
+-- src/offence.rt:235:9
 returns-4 : tie.Need-returns-4
-returns-4 c = rw (offends-is, c .before .before .if4 .taken, ← c .before .parse2 .ensures) (c .past .ensures)
+returns-4 c = rw (offends-is, c .before .if4 .taken) (c .past .ensures)
 
--- src/offence.rt:222:5
+-- src/offence.rt:237:5
 crossing-requires : tie.Need-crossing-requires
 crossing-requires c κs = search needs
 
--- src/offence.rt:204:1
+-- src/offence.rt:220:1
 returns-5 : tie.Need-returns-5
 returns-5 c = rw (offends-is, ne-eqb _ _ (c .before .before .before .before .if1 .left), ne-eqb _ _ (c .before .before .before .if2 .left), ne-eqb _ _ (c .before .before .if3 .left), ne-eqb _ _ (c .before .if4 .left)) (c .crossing .ensures)
 
@@ -72,7 +67,6 @@ offends-spec =
     returns-2
     disordered-requires
     returns-3
-    parse-requires-2
     past-requires
     returns-4
     crossing-requires

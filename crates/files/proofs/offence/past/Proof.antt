@@ -1,4 +1,7 @@
-use mathlib.Core.Path.{refl}
+use mathlib.Core.Path.{ap, ap₂, _∙_}
+use mathlib.Core.Bool.{_||_}
+use Rattle.files.specs.Checking.{edge-past, row-past}
+use Rattle.files.proofs.Tags.{edge-past-as, row-past-as}
 use borrow.Author.Needs.{needs}
 use Rattle.files.proofs.offence.past.Statement.{statement}
 use Rattle.files.proofs.offence.past.Tie as tie
@@ -6,18 +9,30 @@ use Rattle.files.proofs.offence.past.Reads as reads
 use Rattle.files.proofs.offence.past.Lts as lts
 use Rattle.files.proofs.offence.edge_past.Reads as edge-past-reads
 use Rattle.files.proofs.offence.row_past.Reads as row-past-reads
+use Rattle.files.proofs.parse.parse_edge.Reads as parse-edge-reads
+use Rattle.files.proofs.parse.parse_row.Reads as parse-row-reads
 
--- src/offence.rt:167:5
+-- src/offence.rt:174:9
+parse-edge-requires : tie.Need-parse-edge-requires
+parse-edge-requires c κs = search needs
+
+-- src/offence.rt:175:9
+parse-row-requires : tie.Need-parse-row-requires
+parse-row-requires c κs = search needs
+
+-- src/offence.rt:176:5
 edge-past-requires : tie.Need-edge-past-requires
 edge-past-requires c κs = search needs
 
--- src/offence.rt:167:25
+-- src/offence.rt:176:26
 row-past-requires : tie.Need-row-past-requires
 row-past-requires c κs = search needs
 
--- src/offence.rt:164:1
+-- src/offence.rt:170:1
 returns : tie.Need-returns
-returns c = rw (c .row-past .ensures, c .before .edge-past .ensures) refl
+returns c = ap₂ _||_ (c .before .edge-past .ensures ∙ ap (edge-past _) (c .before .before .before .parse-edge .ensures) ∙ edge-past-as _ _) (c .row-past .ensures ∙ ap (row-past _) (c .before .before .parse-row .ensures) ∙ row-past-as _ _)
 
 pub past-spec : {M : Type 1} → statement M
-past-spec = tie.close (tie.spec edge-past-requires row-past-requires returns)
+past-spec =
+    tie.close
+    (tie.spec parse-edge-requires parse-row-requires edge-past-requires row-past-requires returns)

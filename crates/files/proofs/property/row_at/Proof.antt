@@ -8,8 +8,8 @@ use borrow.Author.Needs.{needs}
 use Rattle.files.proofs.property.row_at.Statement.{statement}
 use Rattle.files.proofs.property.row_at.Tie as tie
 
-parse-requires : tie.Need-parse-requires
-parse-requires c κs = search needs
+parse-row-requires : tie.Need-parse-row-requires
+parse-row-requires c κs = search needs
 
 enum-known-operator : tie.Need-enum-known-operator
 enum-known-operator c = search needs
@@ -20,12 +20,12 @@ at-requires c κs = search needs
 returns : tie.Need-returns
 returns c =
     let s = c .before .before .before .before in
-    absurd (never-row _ _ _ _ (c .before .before .parse .ensures ∙ row-parsed (s .args .property .now) (s .pre .0) (s .args .r) (s .pre .1)) (c .before .match .keys2))
+    absurd (never-row _ _ _ _ (c .before .before .parse-row .ensures ∙ row-parsed (s .args .property .now) (s .pre .0) (s .args .r) (s .pre .1)) (c .before .match .keys2))
 
 returns-2 : tie.Need-returns-2
 returns-2 c =
     let s = c .before .before .before .before .before in
-    same-row (c .before .before .before .parse .result) _ _ _ (row (decode-property (s .args .property .now)) (s .args .r)) (c .before .operator .given .1) (c .before .before .before .parse .ensures ∙ row-parsed (s .args .property .now) (s .pre .0) (s .args .r) (s .pre .1))
+    same-row (c .before .before .before .parse-row .result) _ _ _ (row (decode-property (s .args .property .now)) (s .args .r)) (c .before .operator .given .1) (c .before .before .before .parse-row .ensures ∙ row-parsed (s .args .property .now) (s .pre .0) (s .args .r) (s .pre .1))
 
 pub row-at-spec : {M : Type 1} → statement M
-row-at-spec = tie.close (tie.spec parse-requires enum-known-operator at-requires returns returns-2)
+row-at-spec = tie.close (tie.spec parse-row-requires enum-known-operator at-requires returns returns-2)

@@ -9,8 +9,8 @@ use borrow.Author.Needs.{needs}
 use Rattle.files.proofs.rules.rule_at.Statement.{statement}
 use Rattle.files.proofs.rules.rule_at.Tie as tie
 
-parse-requires : tie.Need-parse-requires
-parse-requires c κs = search needs
+parse-rule-requires : tie.Need-parse-rule-requires
+parse-rule-requires c κs = search needs
 
 enum-known-state : tie.Need-enum-known-state
 enum-known-state c = search needs
@@ -21,12 +21,12 @@ at-requires c κs = search needs
 returns : tie.Need-returns
 returns c =
     let s = c .before .before .before .before in
-    absurd (never-rule _ _ _ _ _ _ (c .before .before .parse .ensures ∙ rule-parsed (s .args .rules .now) (s .pre .0) (s .args .j) (s .pre .1)) (c .before .match .keys2))
+    absurd (never-rule _ _ _ _ _ _ (c .before .before .parse-rule .ensures ∙ rule-parsed (s .args .rules .now) (s .pre .0) (s .args .j) (s .pre .1)) (c .before .match .keys2))
 
 returns-2 : tie.Need-returns-2
 returns-2 c =
     let s = c .before .before .before .before .before in
-    same-rule (c .before .before .before .parse .result) _ _ _ _ _ (getD (decode-rules (s .args .rules .now)) (s .args .j) no-rule) (c .before .state .given .1) (c .before .before .before .parse .ensures ∙ rule-parsed (s .args .rules .now) (s .pre .0) (s .args .j) (s .pre .1))
+    same-rule (c .before .before .before .parse-rule .result) _ _ _ _ _ (getD (decode-rules (s .args .rules .now)) (s .args .j) no-rule) (c .before .state .given .1) (c .before .before .before .parse-rule .ensures ∙ rule-parsed (s .args .rules .now) (s .pre .0) (s .args .j) (s .pre .1))
 
 pub rule-at-spec : {M : Type 1} → statement M
-rule-at-spec = tie.close (tie.spec parse-requires enum-known-state at-requires returns returns-2)
+rule-at-spec = tie.close (tie.spec parse-rule-requires enum-known-state at-requires returns returns-2)

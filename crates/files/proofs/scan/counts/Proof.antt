@@ -2,6 +2,7 @@ use mathlib.Core.Path.{ap, _∙_}
 use Prim.Native.Nat.{ℕ}
 use lib.Dec.{eqb}
 use Rattle.files.specs.Checking.{is-or-of}
+use Rattle.files.proofs.Tags.{or-as}
 use borrow.Author.Needs.{needs}
 use Rattle.files.proofs.scan.counts.Statement.{statement}
 use Rattle.files.proofs.scan.counts.Tie as tie
@@ -9,7 +10,7 @@ use Rattle.files.proofs.scan.counts.Reads as reads
 use Rattle.files.proofs.scan.counts.Lts as lts
 use Rattle.files.proofs.offence.is_or.Reads as is-or-reads
 use Rattle.files.proofs.parse.kind_at.Reads as kind-at-reads
-use Rattle.files.proofs.parse.parse.Reads as parse-reads
+use Rattle.files.proofs.parse.parse_row.Reads as parse-row-reads
 
 -- src/scan.rt:69:28
 enum-told : tie.Need-enum-told
@@ -24,8 +25,8 @@ enum-told-2 : tie.Need-enum-told-2
 enum-told-2 c = search needs
 
 -- src/scan.rt:71:17
-parse-requires : tie.Need-parse-requires
-parse-requires c κs = search needs
+parse-row-requires : tie.Need-parse-row-requires
+parse-row-requires c κs = search needs
 
 -- src/scan.rt:72:13
 is-or-requires : tie.Need-is-or-requires
@@ -45,7 +46,7 @@ returns c = rw (c .before .enum-told .given .1) (ap (λ (x : ℕ). eqb x 1) (c .
 
 -- src/scan.rt:64:1
 returns-2 : tie.Need-returns-2
-returns-2 c = rw (c .before .before .enum-told2 .given .1) (c .is-or .ensures ∙ ap is-or-of (c .before .parse .ensures))
+returns-2 c = rw (c .before .before .enum-told2 .given .1) (c .is-or .ensures ∙ ap is-or-of (c .before .parse-row .ensures) ∙ or-as _)
 
 -- src/scan.rt:64:1
 returns-3 : tie.Need-returns-3
@@ -62,7 +63,7 @@ counts-spec =
     enum-told
     kind-at-requires
     enum-told-2
-    parse-requires
+    parse-row-requires
     is-or-requires
     enum-told-3
     enum-told-4

@@ -1,28 +1,43 @@
+use mathlib.Core.Path.{ap, ap₂, _∙_}
+use mathlib.Core.Bool.{_||_}
+use Rattle.files.specs.Sides.{foreign-node, foreign-call}
+use Rattle.files.proofs.Tags.{foreign-node-as, foreign-call-as}
 use borrow.Author.Needs.{needs}
 use Rattle.files.proofs.sides.foreign.Statement.{statement}
 use Rattle.files.proofs.sides.foreign.Tie as tie
 use Rattle.files.proofs.sides.foreign.Reads as reads
 use Rattle.files.proofs.sides.foreign.Lts as lts
-use Rattle.files.proofs.parse.parse.Reads as parse-reads
+use Rattle.files.proofs.parse.parse_edge.Reads as parse-edge-reads
+use Rattle.files.proofs.parse.parse_node.Reads as parse-node-reads
 use Rattle.files.proofs.sides.foreign_call.Reads as foreign-call-reads
 use Rattle.files.proofs.sides.foreign_node.Reads as foreign-node-reads
 
--- src/sides.rt:42:9
-parse-requires : tie.Need-parse-requires
-parse-requires c κs = search needs
+-- src/sides.rt:45:9
+parse-node-requires : tie.Need-parse-node-requires
+parse-node-requires c κs = search needs
 
--- src/sides.rt:43:5
+-- src/sides.rt:46:9
+parse-edge-requires : tie.Need-parse-edge-requires
+parse-edge-requires c κs = search needs
+
+-- src/sides.rt:47:5
 foreign-node-requires : tie.Need-foreign-node-requires
 foreign-node-requires c κs = search needs
 
--- src/sides.rt:43:34
+-- src/sides.rt:47:37
 foreign-call-requires : tie.Need-foreign-call-requires
 foreign-call-requires c κs = search needs
 
--- src/sides.rt:38:1
+-- src/sides.rt:41:1
 returns : tie.Need-returns
-returns c = rw (c .foreign-call .ensures, c .before .foreign-node .ensures, c .before .before .parse .ensures)
+returns c = ap₂ _||_ (c .before .foreign-node .ensures ∙ ap (foreign-node _) (c .before .before .before .parse-node .ensures) ∙ foreign-node-as _ _) (c .foreign-call .ensures ∙ ap (foreign-call _) (c .before .before .parse-edge .ensures) ∙ foreign-call-as _ _)
 
 pub foreign-spec : {M : Type 1} → statement M
 foreign-spec =
-    tie.close (tie.spec parse-requires foreign-node-requires foreign-call-requires returns)
+    tie.close
+    (tie.spec
+    parse-node-requires
+    parse-edge-requires
+    foreign-node-requires
+    foreign-call-requires
+    returns)

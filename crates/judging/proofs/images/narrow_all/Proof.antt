@@ -19,42 +19,42 @@ Inv-loop first second s work₀ tail v at₀ end₀ work at end = (length work �
 abbrev μ-loop : tie.MeasureT-loop
 μ-loop first second s work₀ tail v at₀ end₀ work at end = at
 
--- src/images.rt:96:18
+-- src/images.rt:128:18
 get16-requires : tie.Need-get16-requires Inv-loop μ-loop
 get16-requires c κs = let k = c .before .before .before .before in omega (arith, k .pre .1 .0, k .pre .0 .few-first-nodes, k .pre .1 .1 .0 .room)
 
--- src/images.rt:96:18
+-- src/images.rt:128:18
 cast-at : tie.Need-cast-at Inv-loop μ-loop
 cast-at c = search needs
 
--- src/images.rt:98:5
+-- src/images.rt:130:5
 loop-holds : tie.Need-loop-holds Inv-loop μ-loop
 loop-holds c = let k = c .before .before .before .before .before in
     (refl, shrank-none (decode-graph (k .args .first .now)) (decode-graph (k .args .second .now)) (k .args .tail) (k .args .work .now) (k .pre .1 .1 .0), walk-start (into (decode-graph (k .args .first .now)) (k .args .v)) (length ((decode-graph (k .args .first .now)) .edges)) (c .get16 .result) (EdgeMatched (k .args .s) (k .args .first .now) (k .args .second .now) (k .pre .0) (k .args .work .now)) (c .get16 .ensures ∙ k .pre .1 .1 .0 .by-first .heads-are (k .args .v) (omega (arith, k .pre .1 .0, first-size (k .args .s) (k .args .first .now) (k .args .second .now) (k .pre .0)))))
 
--- src/images.rt:99:17
+-- src/images.rt:131:17
 sub-e : tie.Need-sub-e Inv-loop μ-loop
 sub-e c = search needs
 
--- src/images.rt:100:9
+-- src/images.rt:132:9
 narrow-requires : tie.Need-narrow-requires Inv-loop μ-loop
 narrow-requires c κs = let k = c .before .before .before .before .before .before .before .before in
     let l = c .before .before .loop in
     let i = (walk-item (into (decode-graph (k .args .first .now)) (k .args .v)) (length ((decode-graph (k .args .first .now)) .edges)) (l .at) (EdgeMatched (k .args .s) (k .args .first .now) (k .args .second .now) (k .pre .0) (l .work)) (l .inv .2) (c .before .loop-test .taken)) in
     (k .pre .0, may-narrow-by (k .args .s) (k .args .first .now) (k .args .second .now) (k .pre .0) (k .args .tail) (l .end) (k .args .work .now) (l .work) (l .inv .1) (k .args .v) (l .at - 1) (k .pre .1 .1 .1 .0) (i .1) (i .0))
 
--- src/images.rt:101:14
+-- src/images.rt:133:14
 get16-requires-2 : tie.Need-get16-requires-2 Inv-loop μ-loop
 get16-requires-2 c κs = let k = c .before .before .before .before .before .before .before .before .before .before .before .before in
     let l = c .before .before .before .before .before .before .loop in
     let i = (walk-item (into (decode-graph (k .args .first .now)) (k .args .v)) (length ((decode-graph (k .args .first .now)) .edges)) (l .at) (EdgeMatched (k .args .s) (k .args .first .now) (k .args .second .now) (k .pre .0) (l .work)) (l .inv .2) (c .before .before .before .before .before .loop-test .taken)) in
     omega (arith, i .1, first-edges-fit (k .args .s) (k .args .first .now) (k .args .second .now) (k .pre .0), c .before .before .before .narrow .ensures .0 .refining .room)
 
--- src/images.rt:101:14
+-- src/images.rt:133:14
 cast-at-2 : tie.Need-cast-at-2 Inv-loop μ-loop
 cast-at-2 c = search needs
 
--- src/images.rt:98:5
+-- src/images.rt:130:5
 loop-less : tie.Need-loop-less Inv-loop μ-loop
 loop-less c = let k = c .before .before .before .before .before .before .before .before .before .before .before .before .before in
     let l = c .before .before .before .before .before .before .before .loop in
@@ -62,7 +62,7 @@ loop-less c = let k = c .before .before .before .before .before .before .before 
     let i = (walk-item (into (decode-graph (k .args .first .now)) (k .args .v)) (length ((decode-graph (k .args .first .now)) .edges)) (l .at) (EdgeMatched (k .args .s) (k .args .first .now) (k .args .second .now) (k .pre .0) (l .work)) (l .inv .2) (c .before .before .before .before .before .before .loop-test .taken)) in
     walk-less (into (decode-graph (k .args .first .now)) (k .args .v)) (l .at) (c .get162 .result) (c .before .before .before .before .before .before .loop-test .taken) (c .get162 .ensures ∙ x .ensures .0 .refining .by-first .nexts-are (k .args .v) (l .at - 1) (omega (arith, k .pre .1 .0, first-size (k .args .s) (k .args .first .now) (k .args .second .now) (k .pre .0))) (i .1) (i .0))
 
--- src/images.rt:98:5
+-- src/images.rt:130:5
 loop-again : tie.Need-loop-again Inv-loop μ-loop
 loop-again c = let k = c .before .before .before .before .before .before .before .before .before .before .before .before .before in
     let l = c .before .before .before .before .before .before .before .loop in
@@ -75,11 +75,11 @@ loop-again c = let k = c .before .before .before .before .before .before .before
           (narrowed-by (k .args .s) (k .args .first .now) (k .args .second .now) (k .pre .0) (k .args .tail) (l .end) (k .args .work .now) (l .work) (l .inv .1) (k .args .v) (l .at - 1) (k .pre .1 .1 .1 .0) (i .1) (i .0) (k .pre .1 .1 .1 .1) (x .result) (x .last .1 .1 .1 .0) (x .ensures .0) (x .ensures .1)),
     )
 
--- src/images.rt:85:1
+-- src/images.rt:117:1
 same-length : tie.Need-same-length Inv-loop μ-loop
 same-length c = c .before .loop .inv .0
 
--- src/images.rt:85:1
+-- src/images.rt:117:1
 returns : tie.Need-returns Inv-loop μ-loop
 returns c = let k = c .before .before .before .before .before .before .before in
     let l = c .before .loop in

@@ -1,3 +1,5 @@
+use mathlib.Core.Path.{sym, _∙_}
+use mathlib.Core.Logic.{⊎-elim}
 use mathlib.Core.Bool.{not}
 use Prim.Native.Nat.{ℕ, _-_, _≤_, _<_}
 use native.Mathlib.Omega.{arith}
@@ -13,43 +15,40 @@ Inv-loop work bytes sets n byte set i₀ i = (i ≤ n) × ((j : ℕ) → j < i �
 abbrev μ-loop : tie.MeasureT-loop
 μ-loop work bytes sets n byte set i₀ i = n - i
 
--- src/states.rt:27:5
+-- src/states.rt:34:5
 loop-holds : tie.Need-loop-holds Inv-loop μ-loop
 loop-holds c = (omega arith, λ j h. absurd (omega arith))
 
--- src/states.rt:28:13
+-- src/states.rt:35:12
 get8-requires : tie.Need-get8-requires Inv-loop μ-loop
 get8-requires c κs = let k = c .before .before .before in omega (arith, k .pre .0, k .pre .1, c .loop-test .taken)
 
--- src/states.rt:28:54
+-- src/states.rt:36:16
 get32-requires : tie.Need-get32-requires Inv-loop μ-loop
-get32-requires c κs = let k = c .before .before .before .before in omega (arith, k .pre .0, k .pre .1, c .before .loop-test .taken)
+get32-requires c κs = let k = c .before .before .before .before .before in omega (arith, k .pre .0, k .pre .1, c .before .before .loop-test .taken)
 
--- src/states.rt:29:13
+-- src/states.rt:37:17
 returns : tie.Need-returns Inv-loop μ-loop
 returns c =
-    let a = c .before .before .before .before .before .before .args in
-    let l = c .before .before .before .before .loop in
-    let x = c .before .before .get8 in
-    let y = c .before .get32 in
-    pair-at (a .work .now) (a .bytes) (a .sets) (a .byte) (a .set) (a .n) (l .i) (l .inv .1) (x .result) (y .result) (x .ensures) (y .ensures) (c .if1 .taken) (c .before .before .before .loop-test .taken)
+    let a = c .before .before .before .before .before .before .before .args in
+    let l = c .before .before .before .before .before .loop in
+    pair-at (a .work .now) (a .bytes) (a .sets) (a .byte) (a .set) (a .n) (l .i) (l .inv .1) (sym (c .before .before .before .get8 .ensures) ∙ c .before .before .if1 .taken) (sym (c .before .get32 .ensures) ∙ c .if2 .taken) (c .before .before .before .before .loop-test .taken)
 
--- src/states.rt:31:9
+-- src/states.rt:40:9
 add-i : tie.Need-add-i Inv-loop μ-loop
-add-i c = omega (arith, c .before .before .before .loop-test .taken)
+add-i c = omega (arith, c .before .before .loop-test .taken)
 
--- src/states.rt:27:5
+-- src/states.rt:34:5
 loop-less : tie.Need-loop-less Inv-loop μ-loop
-loop-less c = omega (arith, c .before .before .before .loop-test .taken)
+loop-less c = omega (arith, c .before .before .loop-test .taken)
 
--- src/states.rt:27:5
+-- src/states.rt:34:5
 loop-again : tie.Need-loop-again Inv-loop μ-loop
 loop-again c =
-    let a = c .before .before .before .before .before .before .args in
-    let l = c .before .before .before .before .loop in
-    let x = c .before .before .get8 in
-    let y = c .before .get32 in
-    (omega (arith, c .before .before .before .loop-test .taken), pair-past (a .work .now) (a .bytes) (a .sets) (a .byte) (a .set) (a .n) (l .i) (l .inv .1) (x .result) (y .result) (x .ensures) (y .ensures) (c .if1 .left))
+    let a = c .before .before .before .before .before .args in
+    let l = c .before .before .before .loop in
+    let past = pair-past (a .work .now) (a .bytes) (a .sets) (a .byte) (a .set) (a .n) (l .i) (l .inv .1) in
+    (omega (arith, c .before .before .loop-test .taken), ⊎-elim (λ u. past (λ e f. u .2 .left (u .1 .ensures ∙ f))) (λ u. past (λ e f. u .left (c .before .get8 .ensures ∙ e))) (c .if1 .came))
 
 -- src/states.rt:22:1
 returns-2 : tie.Need-returns-2 Inv-loop μ-loop

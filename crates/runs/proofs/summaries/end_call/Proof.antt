@@ -1,6 +1,6 @@
 use mathlib.Core.Path.{refl}
 use native.Mathlib.Omega.{arith}
-use Rattle.runs.proofs.SummaryLaws.{method-fits, sum-same, sum-holds, sum-spreads}
+use Rattle.runs.proofs.SummaryLaws.{method-fits, method-small, sum-same, sum-holds, sum-spreads}
 use borrow.Author.Needs.{needs}
 use Rattle.runs.proofs.summaries.end_call.Statement.{statement}
 use Rattle.runs.proofs.summaries.end_call.Tie as tie
@@ -75,39 +75,53 @@ put8-requires c κs =
     let a = k .args in
     omega (arith, method-fits (a .s) (a .graph .now) (a .rules .now) (k .pre .0) (a .g) (a .m) (k .pre .1 .0) (k .pre .1 .1 .1 .0), k .pre .1 .1 .0, k .pre .1 .1 .1 .1 .1 .2 .holding .room)
 
--- src/summaries.rt:193:5
-run-calls-requires : tie.Need-run-calls-requires
-run-calls-requires c κs =
+cast-entering-by : tie.Need-cast-entering-by
+cast-entering-by c =
+    let k = c .before .before .before .before .before .before .before .before .before .before .before .before .before in
+    let a = k .args in
+    omega (arith, (method-small (a .s) (a .graph .now) (a .rules .now) (k .pre .0) (a .g) (a .m) (k .pre .1 .0) (k .pre .1 .1 .1 .0)) .1)
+
+entering-by-requires : tie.Need-entering-by-requires
+entering-by-requires c κs =
     let get8 = c .before .before .before .before .before .before .before .before .get8 in
     let get82 = c .before .before .before .before .before .before .get82 in
     let put8 = c .before .before .before .put8 in
     let k = c .before .before .before .before .before .before .before .before .before .before .before .before .before in
-    let a = k .args in (
-      k .pre .0,
-      (
-        method-fits (a .s) (a .graph .now) (a .rules .now) (k .pre .0) (a .g) (a .m) (k .pre .1 .0) (k .pre .1 .1 .1 .0),
-        sum-holds (a .s) (a .graph .now) (a .rules .now) (k .pre .0) (a .g)
-            (a .p) (a .m) (k .pre .1 .0) (k .pre .1 .1 .0) (k .pre .1 .1 .1 .0) (k .pre .1 .1 .1 .1 .0) (a .tail) (a .work .now) (get8 .result) (get82 .result) (omega (arith, get8 .ok))
-            (omega (arith, get82 .ok)) (get8 .ensures) (get82 .ensures) (put8 .last .0) (put8 .ensures) (k .pre .1 .1 .1 .1 .1),
-      ),
-    )
+    let a = k .args in
+    let h = sum-holds (a .s) (a .graph .now) (a .rules .now) (k .pre .0) (a .g) (a .p) (a .m) (k .pre .1 .0) (k .pre .1 .1 .0) (k .pre .1 .1 .1 .0) (k .pre .1 .1 .1 .1 .0) (a .tail) (a .work .now) (get8 .result) (get82 .result)
+    (omega (arith, get8 .ok)) (omega (arith, get82 .ok)) (get8 .ensures) (get82 .ensures) (put8 .last .0) (put8 .ensures) (k .pre .1 .1 .1 .1 .1) in
+    (h .tables .steps, (h .room, method-small (a .s) (a .graph .now) (a .rules .now) (k .pre .0) (a .g) (a .m) (k .pre .1 .0) (k .pre .1 .1 .1 .0)))
 
--- src/summaries.rt:173:1
-same-length-2 : tie.Need-same-length-2
-same-length-2 c = search needs
-
--- src/summaries.rt:173:1
-returns-2 : tie.Need-returns-2
-returns-2 c =
+run-calls-requires : tie.Need-run-calls-requires
+run-calls-requires c κs =
     let get8 = c .before .before .before .before .before .before .before .before .before .before .before .get8 in
     let get82 = c .before .before .before .before .before .before .before .before .before .get82 in
     let put8 = c .before .before .before .before .before .before .put8 in
     let k = c .before .before .before .before .before .before .before .before .before .before .before .before .before .before .before .before in
+    let a = k .args in (
+      k .pre .0,
+      (
+        method-fits (a .s) (a .graph .now) (a .rules .now) (k .pre .0) (a .g) (a .m) (k .pre .1 .0) (k .pre .1 .1 .1 .0),
+        sum-holds (a .s) (a .graph .now) (a .rules .now) (k .pre .0) (a .g) (a .p) (a .m) (k .pre .1 .0) (k .pre .1 .1 .0) (k .pre .1 .1 .1 .0) (k .pre .1 .1 .1 .1 .0) (a .tail) (a .work .now) (get8 .result) (get82 .result)
+            (omega (arith, get8 .ok)) (omega (arith, get82 .ok)) (get8 .ensures) (get82 .ensures) (put8 .last .0) (put8 .ensures) (k .pre .1 .1 .1 .1 .1),
+      ),
+    )
+
+same-length-2 : tie.Need-same-length-2
+same-length-2 c = search needs
+
+returns-2 : tie.Need-returns-2
+returns-2 c =
+    let get8 = c .before .before .before .before .before .before .before .before .before .before .before .before .before .before .get8 in
+    let get82 = c .before .before .before .before .before .before .before .before .before .before .before .before .get82 in
+    let put8 = c .before .before .before .before .before .before .before .before .before .put8 in
+    let k = c .before .before .before .before .before .before .before .before .before .before .before .before .before .before .before .before .before .before .before in
     let a = k .args in
     let x = c .before .before .run-calls in
+    let y = c .before .before .before .before .before .entering-by in
     sum-spreads (a .s) (a .graph .now) (a .rules .now) (k .pre .0) (a .g) (a .p) (a .m) (k .pre .1 .0) (k .pre .1 .1 .0) (k .pre .1 .1 .1 .0) (k .pre .1 .1 .1 .1 .0) (a .tail) (a .work .now)
-    (get8 .result) (get82 .result) (omega (arith, get8 .ok)) (omega (arith, get82 .ok)) (get8 .ensures) (get82 .ensures) (put8 .last .0) (put8 .ensures) (x .result) (x .last .1 .1 .1 .0)
-    (x .ensures .0) (x .ensures .1)
+    (get8 .result) (get82 .result) (omega (arith, get8 .ok)) (omega (arith, get82 .ok)) (get8 .ensures) (get82 .ensures) (put8 .last .0) (put8 .ensures) (y .result) (y .ensures) (x .result)
+    (x .last .1 .1 .1 .1 .0) (x .ensures .0) (x .ensures .1)
 
 pub end-call-spec : {M : Type 1} → statement M
 end-call-spec =
@@ -124,6 +138,8 @@ end-call-spec =
     mul-put8
     add-put8
     put8-requires
+    cast-entering-by
+    entering-by-requires
     run-calls-requires
     same-length-2
     returns-2)

@@ -1,78 +1,121 @@
-use mathlib.Core.Path.{_≡_, refl, _∙_}
-use Prim.Native.Nat.{ℕ, _-_, _≤_, _<_}
-use native.Mathlib.Nat.{lt-trans}
+use mathlib.Core.Path.{subst, sym, ap, _∙_}
+use Prim.Native.Nat.{ℕ}
 use native.Mathlib.Omega.{arith}
-use lib.ListN.{length}
+use lib.ListN.{getD}
 use Rattle.files.specs.Decode.{decode-graph, decode-rules}
+use Rattle.files.specs.Graph.{node, no-edge}
 use Rattle.files.specs.Rules.{watch}
-use Rattle.judging.proofs.LevelLaws.{below-more}
-use Rattle.runs.specs.Worklist.{Grew}
-use Rattle.runs.specs.Worklist.Growth.{grew-none, grew-on}
-use Rattle.runs.proofs.SummaryLaws.{Ran, ran-kept}
+use Rattle.judging.proofs.HeldLaws.{held-node, held-edge}
+use Rattle.judging.proofs.LevelLaws.{edge-read}
+use Rattle.runs.specs.Worklist.{StartsIn}
+use Rattle.runs.proofs.SummaryLaws.{node-read, node-readable, node-of, from-is, from-in, caller-in, caller-is}
+use borrow.Author.Needs.{needs}
 use Rattle.runs.proofs.summaries.run_call.Statement.{statement}
 use Rattle.runs.proofs.summaries.run_call.Tie as tie
+use Rattle.runs.proofs.summaries.run_call.Reads as reads
+use Rattle.runs.proofs.summaries.run_call.Lts as lts
+use Rattle.files.proofs.graph.edge_at.Reads as edge-at-reads
+use Rattle.files.proofs.graph.node_at.Reads as node-at-reads
+use Rattle.runs.proofs.summaries.run_where.Reads as run-where-reads
 
-abbrev Inv-loop : tie.InvT-loop
-Inv-loop graph rules s work₀ tail j p₀ end₀ work p end =
-    (p ≤ 8) × (length work ≡ length work₀) × (Grew (decode-graph graph) (watch (decode-rules rules)) tail end work₀ work)
-    × ((i : ℕ) → i < p → Ran (decode-graph graph) (watch (decode-rules rules)) work j i)
+-- src/summaries.rt:238:25
+edge-at-requires : tie.Need-edge-at-requires
+edge-at-requires c κs = search needs
 
-abbrev μ-loop : tie.MeasureT-loop
-μ-loop graph rules s work₀ tail j p₀ end₀ work p end = 8 - p
+-- src/summaries.rt:238:20
+enum-known-e : tie.Need-enum-known-e
+enum-known-e c = search needs
 
--- src/summaries.rt:150:5
-loop-holds : tie.Need-loop-holds Inv-loop μ-loop
-loop-holds c =
-    let k = c .before .before .before in
+-- src/summaries.rt:239:9
+enum-told : tie.Need-enum-told
+enum-told c = search needs
+
+-- src/summaries.rt:239:9
+returns : tie.Need-returns
+returns c = absurd (edge-read (c .before .before .edge-at .result) _ _ (c .before .before .edge-at .ensures) (c .enum-told .given .1))
+
+-- src/summaries.rt:241:25
+node-at-requires : tie.Need-node-at-requires
+node-at-requires c κs =
+    let k = c .before .before .before .before .before .before .before in
     let a = k .args in
-    (omega arith, refl, grew-none (decode-graph (a .graph .now)) (watch (decode-rules (a .rules .now))) (a .tail) (a .work .now) (k .pre .1 .1), λ i h. absurd (omega arith))
+    let h = held-edge (c .before .before .before .edge-at .result) _ (getD ((decode-graph (a .graph .now)) .edges) (a .j) no-edge) (c .before .e .given .1) (c .before .before .before .edge-at .ensures) in
+    (k .pre .0 .graph-file, node-readable (a .s) (a .graph .now) (a .rules .now) (k .pre .0) (c .before .e .given .0 .0 .from) (from-in (a .s) (a .graph .now) (a .rules .now) (k .pre .0) (a .j) (k .pre .1 .0) _ h))
 
--- src/summaries.rt:151:9
-run-edge-requires : tie.Need-run-edge-requires Inv-loop μ-loop
-run-edge-requires c κs = let k = c .before .before .before .before .before .before in (k .pre .0, (k .pre .1 .0, (c .before .loop-test .taken, c .before .before .loop .inv .2 .holding)))
+-- src/summaries.rt:241:20
+enum-known-v : tie.Need-enum-known-v
+enum-known-v c = search needs
 
--- src/summaries.rt:152:9
-add-p : tie.Need-add-p Inv-loop μ-loop
-add-p c = omega (arith, c .before .before .before .before .loop-test .taken)
+-- src/summaries.rt:242:9
+enum-told-2 : tie.Need-enum-told-2
+enum-told-2 c = search needs
 
--- src/summaries.rt:150:5
-loop-less : tie.Need-loop-less Inv-loop μ-loop
-loop-less c = omega (arith, c .before .before .before .before .loop-test .taken)
+-- src/summaries.rt:242:9
+returns-2 : tie.Need-returns-2
+returns-2 c = absurd (node-read (c .before .before .node-at .result) _ _ (c .before .before .node-at .ensures) (c .enum-told2 .given .1))
 
--- src/summaries.rt:150:5
-loop-again : tie.Need-loop-again Inv-loop μ-loop
-loop-again c =
-    let loop-test = c .before .before .before .before .loop-test in
-    let k = c .before .before .before .before .before .before .before .before .before in
+-- src/summaries.rt:244:24
+sub-set : tie.Need-sub-set
+sub-set c =
+    let k = c .before .before .before .before .before .before .before .before .before .before .before .before in
     let a = k .args in
-    let l = c .before .before .before .before .before .loop in
-    let x = c .before .before .run-edge in (
-      omega (arith, loop-test .taken),
-      x .kept .1 .1 .1 .0 ∙ l .inv .1,
-      grew-on (decode-graph (a .graph .now)) (watch (decode-rules (a .rules .now))) (a .tail) (l .end) (x .result) (a .work .now) (l .work) (x .last .1 .1 .1 .0) (l .inv .2) (x .ensures .0),
-      below-more (Ran (decode-graph (a .graph .now)) (watch (decode-rules (a .rules .now))) (x .last .1 .1 .1 .0) (a .j)) (l .p)
-          (λ i h. ran-kept (a .s) (a .graph .now) (a .rules .now) (k .pre .0) (l .end) (x .result) (l .work) (x .last .1 .1 .1 .0) (x .ensures .0) (a .j) (k .pre .1 .0) i
-          (lt-trans h (loop-test .taken)) (l .inv .3 i h)) (x .ensures .1),
+    let h = held-edge (c .before .before .before .before .before .before .before .before .edge-at .result) _ (getD ((decode-graph (a .graph .now)) .edges) (a .j) no-edge) (c .before .before .before .before .before .before .e .given .1) (c .before .before .before .before .before .before .before .before .edge-at .ensures) in
+    let v = held-node (c .before .before .before .before .node-at .result) _ (node (decode-graph (a .graph .now)) (c .before .before .before .before .before .before .e .given .0 .0 .from)) (c .before .before .v .given .1) (c .before .before .before .before .node-at .ensures) in
+    omega (arith, (caller-in (a .s) (a .graph .now) (a .rules .now) (k .pre .0) (a .j) (k .pre .1 .0) _ h _ v) .0)
+
+-- src/summaries.rt:244:23
+cast-set : tie.Need-cast-set
+cast-set c = search needs
+
+-- src/summaries.rt:244:15
+element-copy-out-set : tie.Need-element-copy-out-set
+element-copy-out-set c =
+    let k = c .before .before .before .before .before .before .before .before .before .before .before .before in
+    let a = k .args in
+    let h = held-edge (c .before .before .before .before .before .before .before .before .edge-at .result) _ (getD ((decode-graph (a .graph .now)) .edges) (a .j) no-edge) (c .before .before .before .before .before .before .e .given .1) (c .before .before .before .before .before .before .before .before .edge-at .ensures) in
+    let v = held-node (c .before .before .before .before .node-at .result) _ (node (decode-graph (a .graph .now)) (c .before .before .before .before .before .before .e .given .0 .0 .from)) (c .before .before .v .given .1) (c .before .before .before .before .node-at .ensures) in
+    omega (arith, (caller-in (a .s) (a .graph .now) (a .rules .now) (k .pre .0) (a .j) (k .pre .1 .0) _ h _ v) .0, (caller-in (a .s) (a .graph .now) (a .rules .now) (k .pre .0) (a .j) (k .pre .1 .0) _ h _ v) .1)
+
+-- src/summaries.rt:245:5
+run-where-requires : tie.Need-run-where-requires
+run-where-requires c κs =
+    let k = c .before .before .before .before .before .before .before .before .before .before .before .before .before .before in
+    let a = k .args in
+    let h = held-edge (c .before .before .before .before .before .before .before .before .before .before .edge-at .result) _ (getD ((decode-graph (a .graph .now)) .edges) (a .j) no-edge) (c .before .before .before .before .before .before .before .before .e .given .1) (c .before .before .before .before .before .before .before .before .before .before .edge-at .ensures) in
+    (k .pre .0, (k .pre .1 .0, (from-is (a .s) (a .graph .now) (a .rules .now) (k .pre .0) (a .j) (k .pre .1 .0) _ h, (node-of (a .s) (a .graph .now) (a .rules .now) (k .pre .0) (c .before .before .before .before .before .before .before .before .e .given .0 .0 .from) (from-in (a .s) (a .graph .now) (a .rules .now) (k .pre .0) (a .j) (k .pre .1 .0) _ h), k .pre .1 .1))))
+
+-- src/summaries.rt:226:1
+same-length : tie.Need-same-length
+same-length c = search needs
+
+-- src/summaries.rt:226:1
+returns-3 : tie.Need-returns-3
+returns-3 c =
+    let k = c .before .before .before .before .before .before .before .before .before .before .before .before .before .before .before .before .before in
+    let a = k .args in
+    let x = c .before .before .run-where in
+    let h = held-edge (c .before .before .before .before .before .before .before .before .before .before .before .before .before .edge-at .result) _ (getD ((decode-graph (a .graph .now)) .edges) (a .j) no-edge) (c .before .before .before .before .before .before .before .before .before .before .before .e .given .1) (c .before .before .before .before .before .before .before .before .before .before .before .before .before .edge-at .ensures) in
+    let v = held-node (c .before .before .before .before .before .before .before .before .before .node-at .result) _ (node (decode-graph (a .graph .now)) (c .before .before .before .before .before .before .before .before .before .before .before .e .given .0 .0 .from)) (c .before .before .before .before .before .before .before .v .given .1) (c .before .before .before .before .before .before .before .before .before .node-at .ensures) in (
+      x .ensures .0,
+      λ n p hp y. x .ensures .1 n p hp (subst (λ (i : ℕ). StartsIn (decode-graph (a .graph .now)) (watch (decode-rules (a .rules .now))) (getD (a .callers .now) i 0) (a .work .now)
+          (getD ((decode-graph (a .graph .now)) .edges) (a .j) no-edge) p) (sym (caller-is (a .s) (a .graph .now) (a .rules .now) (k .pre .0) (a .j) (k .pre .1 .0) _ h _ v)) y),
     )
-
--- src/summaries.rt:144:1
-same-length : tie.Need-same-length Inv-loop μ-loop
-same-length c = c .before .loop .inv .1
-
--- src/summaries.rt:144:1
-returns : tie.Need-returns Inv-loop μ-loop
-returns c = let l = c .before .loop in (l .inv .2, λ t i h. l .inv .3 i (omega (arith, c .loop-test .left, h)) t)
 
 pub run-call-spec : {M : Type 1} → statement M
 run-call-spec =
     tie.close
     (tie.spec
-    Inv-loop
-    μ-loop
-    loop-holds
-    run-edge-requires
-    add-p
-    loop-less
-    loop-again
+    edge-at-requires
+    enum-known-e
+    enum-told
+    returns
+    node-at-requires
+    enum-known-v
+    enum-told-2
+    returns-2
+    sub-set
+    cast-set
+    element-copy-out-set
+    run-where-requires
     same-length
-    returns)
+    returns-3)

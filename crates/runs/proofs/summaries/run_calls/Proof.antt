@@ -10,18 +10,18 @@ use Rattle.runs.specs.Prepared.Files.{edges-is, edges-fit}
 use Rattle.runs.specs.Worklist.{Grew}
 use Rattle.runs.specs.Worklist.Growth.{grew-none, grew-on}
 use Rattle.runs.specs.Worklist.Loops.{calls-run}
-use Rattle.runs.proofs.SummaryLaws.{RanAll, ran-all-kept}
+use Rattle.runs.proofs.SummaryLaws.{RanAll, ran-all-kept, starts-kept}
 use borrow.Author.Needs.{needs}
 use Rattle.runs.proofs.summaries.run_calls.Statement.{statement}
 use Rattle.runs.proofs.summaries.run_calls.Tie as tie
 
 abbrev Inv-loop : tie.InvT-loop
-Inv-loop graph rules s work₀ tail m at₀ end₀ work at end =
+Inv-loop graph rules s callers work₀ tail m at₀ end₀ work at end =
     (length work ≡ length work₀) × (Grew (decode-graph graph) (watch (decode-rules rules)) tail end work₀ work)
-    × (Walk (labelled (decode-graph graph) m) (length ((decode-graph graph) .edges)) at (RanAll (decode-graph graph) (watch (decode-rules rules)) work))
+    × (Walk (labelled (decode-graph graph) m) (length ((decode-graph graph) .edges)) at (RanAll (decode-graph graph) (watch (decode-rules rules)) callers work₀ work))
 
 abbrev μ-loop : tie.MeasureT-loop
-μ-loop graph rules s work₀ tail m at₀ end₀ work at end = at
+μ-loop graph rules s callers work₀ tail m at₀ end₀ work at end = at
 
 -- src/summaries.rt:162:18
 get16-requires : tie.Need-get16-requires Inv-loop μ-loop
@@ -39,7 +39,7 @@ loop-holds c =
       refl,
       grew-none (decode-graph (a .graph .now)) (watch (decode-rules (a .rules .now))) (a .tail) (a .work .now) (k .pre .1 .1),
       walk-start (labelled (decode-graph (a .graph .now)) (a .m)) (length ((decode-graph (a .graph .now)) .edges)) (c .get16 .result)
-          (RanAll (decode-graph (a .graph .now)) (watch (decode-rules (a .rules .now))) (a .work .now)) (c .get16 .ensures ∙ k .pre .1 .1 .tables .by-label .heads-are (a .m) (k .pre .1 .0)),
+          (RanAll (decode-graph (a .graph .now)) (watch (decode-rules (a .rules .now))) (a .callers .now) (a .work .now) (a .work .now)) (c .get16 .ensures ∙ k .pre .1 .1 .tables .by-label .heads-are (a .m) (k .pre .1 .0)),
     )
 
 -- src/summaries.rt:165:17
@@ -54,7 +54,7 @@ run-call-requires c κs =
     let a = k .args in
     let l = c .before .before .loop in
     let i = walk-item (labelled (decode-graph (a .graph .now)) (a .m)) (length ((decode-graph (a .graph .now)) .edges)) (l .at)
-    (RanAll (decode-graph (a .graph .now)) (watch (decode-rules (a .rules .now))) (l .work)) (l .inv .2) (loop-test .taken) in
+    (RanAll (decode-graph (a .graph .now)) (watch (decode-rules (a .rules .now))) (a .callers .now) (a .work .now) (l .work)) (l .inv .2) (loop-test .taken) in
     (k .pre .0, (omega (arith, i .1, edges-is (a .s) (a .graph .now) (a .rules .now) (k .pre .0)), l .inv .1 .holding))
 
 -- src/summaries.rt:167:14
@@ -66,7 +66,7 @@ get16-requires-2 c κs =
     let a = k .args in
     let l = c .before .before .before .before .before .before .loop in
     let i = walk-item (labelled (decode-graph (a .graph .now)) (a .m)) (length ((decode-graph (a .graph .now)) .edges)) (l .at)
-    (RanAll (decode-graph (a .graph .now)) (watch (decode-rules (a .rules .now))) (l .work)) (l .inv .2) (loop-test .taken) in
+    (RanAll (decode-graph (a .graph .now)) (watch (decode-rules (a .rules .now))) (a .callers .now) (a .work .now) (l .work)) (l .inv .2) (loop-test .taken) in
     omega (arith, i .1, edges-fit (a .s) (a .graph .now) (a .rules .now) (k .pre .0), run-call .ensures .0 .holding .room)
 
 -- src/summaries.rt:167:14
@@ -83,7 +83,7 @@ loop-less c =
     let l = c .before .before .before .before .before .before .before .loop in
     let t = loop-test .taken in
     let i = walk-item (labelled (decode-graph (a .graph .now)) (a .m)) (length ((decode-graph (a .graph .now)) .edges)) (l .at)
-    (RanAll (decode-graph (a .graph .now)) (watch (decode-rules (a .rules .now))) (l .work)) (l .inv .2) (loop-test .taken) in
+    (RanAll (decode-graph (a .graph .now)) (watch (decode-rules (a .rules .now))) (a .callers .now) (a .work .now) (l .work)) (l .inv .2) (loop-test .taken) in
     walk-less (labelled (decode-graph (a .graph .now)) (a .m)) (l .at) (c .get162 .result) t
     (c .get162 .ensures ∙ run-call .ensures .0 .holding .tables .by-label .nexts-are (a .m) (l .at - 1) (k .pre .1 .0) (i .1) (i .0))
 
@@ -97,15 +97,17 @@ loop-again c =
     let x = c .before .before .before .before .run-call in
     let t = loop-test .taken in
     let i = walk-item (labelled (decode-graph (a .graph .now)) (a .m)) (length ((decode-graph (a .graph .now)) .edges)) (l .at)
-    (RanAll (decode-graph (a .graph .now)) (watch (decode-rules (a .rules .now))) (l .work)) (l .inv .2) (loop-test .taken) in
+    (RanAll (decode-graph (a .graph .now)) (watch (decode-rules (a .rules .now))) (a .callers .now) (a .work .now) (l .work)) (l .inv .2) (loop-test .taken) in
     let n = c .get162 .ensures ∙ x .ensures .0 .holding .tables .by-label .nexts-are (a .m) (l .at - 1) (k .pre .1 .0) (i .1) (i .0) in (
-      x .kept .1 .1 .1 .0 ∙ l .inv .0,
-      grew-on (decode-graph (a .graph .now)) (watch (decode-rules (a .rules .now))) (a .tail) (l .end) (x .result) (a .work .now) (l .work) (x .last .1 .1 .1 .0) (l .inv .1) (x .ensures .0),
+      x .kept .1 .1 .1 .1 .0 ∙ l .inv .0,
+      grew-on (decode-graph (a .graph .now)) (watch (decode-rules (a .rules .now))) (a .tail) (l .end) (x .result) (a .work .now) (l .work) (x .last .1 .1 .1 .1 .0) (l .inv .1) (x .ensures .0),
       walk-turn (labelled (decode-graph (a .graph .now)) (a .m)) (length ((decode-graph (a .graph .now)) .edges)) (l .at) (c .get162 .result)
-          (RanAll (decode-graph (a .graph .now)) (watch (decode-rules (a .rules .now))) (l .work)) (RanAll (decode-graph (a .graph .now)) (watch (decode-rules (a .rules .now))) (x .last .1 .1 .1 .0))
+          (RanAll (decode-graph (a .graph .now)) (watch (decode-rules (a .rules .now))) (a .callers .now) (a .work .now) (l .work)) (RanAll (decode-graph (a .graph .now)) (watch (decode-rules (a .rules .now))) (a .callers .now) (a .work .now) (x .last .1 .1 .1 .1 .0))
           (l .inv .2) t n
-          (λ j h. ran-all-kept (a .s) (a .graph .now) (a .rules .now) (k .pre .0) (l .end) (x .result) (l .work) (x .last .1 .1 .1 .0) (x .ensures .0) j
-          (omega (arith, h, edges-is (a .s) (a .graph .now) (a .rules .now) (k .pre .0)))) (x .ensures .1),
+          (λ j h. ran-all-kept (a .s) (a .graph .now) (a .rules .now) (k .pre .0) (l .end) (x .result) (l .work) (x .last .1 .1 .1 .1 .0) (x .ensures .0) j
+          (omega (arith, h, edges-is (a .s) (a .graph .now) (a .rules .now) (k .pre .0))) (a .callers .now) (a .work .now)) (λ u p hp y. x .ensures .1 u p hp
+          (starts-kept (a .s) (a .graph .now) (a .rules .now) (k .pre .0) (a .tail) (l .end) (a .work .now) (l .work) (l .inv .1) (l .at - 1)
+          (omega (arith, i .1, edges-is (a .s) (a .graph .now) (a .rules .now) (k .pre .0))) _ p hp y)),
     )
 
 -- src/summaries.rt:158:1
@@ -118,7 +120,7 @@ returns c =
     let k = c .before .before .before .before .before .before .before in
     let a = k .args in
     let l = c .before .loop in
-    (l .inv .1, calls-run (decode-graph (a .graph .now)) (watch (decode-rules (a .rules .now))) (l .work) (a .m) (λ j h t. l .inv .2 .3 j h t (omega (arith, c .loop-test .left))))
+    (l .inv .1, calls-run (decode-graph (a .graph .now)) (watch (decode-rules (a .rules .now))) (a .callers .now) (a .work .now) (l .work) (a .m) (λ j h t. l .inv .2 .3 j h t (omega (arith, c .loop-test .left))))
 
 pub run-calls-spec : {M : Type 1} → statement M
 run-calls-spec =

@@ -1,0 +1,29 @@
+use mathlib.Core.Path.{sym, ap, _∙_}
+use Rattle.files.specs.Record.{parsed-as}
+use Rattle.files.specs.Record.Laws.{as-kind, as-other}
+use borrow.Author.Needs.{needs}
+use Rattle.files.proofs.parse.parse_edge.Statement.{statement}
+use Rattle.files.proofs.parse.parse_edge.Tie as tie
+use Rattle.files.proofs.parse.parse_edge.Reads as reads
+use Rattle.files.proofs.parse.parse_edge.Lts as lts
+use Rattle.files.proofs.parse.read.Reads as read-reads
+use Rattle.files.proofs.parse.read_edge.Reads as read-edge-reads
+
+-- src/parse.rt:197:9
+read-requires : tie.Need-read-requires
+read-requires c κs = search needs
+
+-- src/parse.rt:199:9
+read-edge-requires : tie.Need-read-edge-requires
+read-edge-requires c κs = search needs
+
+-- src/parse.rt:199:9
+returns : tie.Need-returns
+returns c = c .read-edge .ensures ∙ sym (as-kind 2 _ (c .before .if1 .taken)) ∙ ap (parsed-as 2) (c .before .before .before .read .ensures)
+
+-- src/parse.rt:193:1
+returns-2 : tie.Need-returns-2
+returns-2 c = sym (as-other 2 _ (c .if1 .left)) ∙ ap (parsed-as 2) (c .before .before .read .ensures)
+
+pub parse-edge-spec : {M : Type 1} → statement M
+parse-edge-spec = tie.close (tie.spec read-requires read-edge-requires returns returns-2)

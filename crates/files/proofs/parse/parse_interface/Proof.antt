@@ -1,0 +1,29 @@
+use mathlib.Core.Path.{sym, ap, _∙_}
+use Rattle.files.specs.Record.{parsed-as}
+use Rattle.files.specs.Record.Laws.{as-kind, as-other}
+use borrow.Author.Needs.{needs}
+use Rattle.files.proofs.parse.parse_interface.Statement.{statement}
+use Rattle.files.proofs.parse.parse_interface.Tie as tie
+use Rattle.files.proofs.parse.parse_interface.Reads as reads
+use Rattle.files.proofs.parse.parse_interface.Lts as lts
+use Rattle.files.proofs.parse.read.Reads as read-reads
+use Rattle.files.proofs.parse.read_interface.Reads as read-interface-reads
+
+-- src/parse.rt:230:9
+read-requires : tie.Need-read-requires
+read-requires c κs = search needs
+
+-- src/parse.rt:232:9
+read-interface-requires : tie.Need-read-interface-requires
+read-interface-requires c κs = search needs
+
+-- src/parse.rt:232:9
+returns : tie.Need-returns
+returns c = c .read-interface .ensures ∙ sym (as-kind 5 _ (c .before .if1 .taken)) ∙ ap (parsed-as 5) (c .before .before .before .read .ensures)
+
+-- src/parse.rt:226:1
+returns-2 : tie.Need-returns-2
+returns-2 c = sym (as-other 5 _ (c .if1 .left)) ∙ ap (parsed-as 5) (c .before .before .read .ensures)
+
+pub parse-interface-spec : {M : Type 1} → statement M
+parse-interface-spec = tie.close (tie.spec read-requires read-interface-requires returns returns-2)

@@ -1,0 +1,29 @@
+use mathlib.Core.Path.{sym, ap, _∙_}
+use Rattle.files.specs.Record.{parsed-as}
+use Rattle.files.specs.Record.Laws.{as-kind, as-other}
+use borrow.Author.Needs.{needs}
+use Rattle.files.proofs.parse.parse_rule.Statement.{statement}
+use Rattle.files.proofs.parse.parse_rule.Tie as tie
+use Rattle.files.proofs.parse.parse_rule.Reads as reads
+use Rattle.files.proofs.parse.parse_rule.Lts as lts
+use Rattle.files.proofs.parse.read.Reads as read-reads
+use Rattle.files.proofs.parse.read_rule.Reads as read-rule-reads
+
+-- src/parse.rt:219:9
+read-requires : tie.Need-read-requires
+read-requires c κs = search needs
+
+-- src/parse.rt:221:9
+read-rule-requires : tie.Need-read-rule-requires
+read-rule-requires c κs = search needs
+
+-- src/parse.rt:221:9
+returns : tie.Need-returns
+returns c = c .read-rule .ensures ∙ sym (as-kind 4 _ (c .before .if1 .taken)) ∙ ap (parsed-as 4) (c .before .before .before .read .ensures)
+
+-- src/parse.rt:215:1
+returns-2 : tie.Need-returns-2
+returns-2 c = sym (as-other 4 _ (c .if1 .left)) ∙ ap (parsed-as 4) (c .before .before .read .ensures)
+
+pub parse-rule-spec : {M : Type 1} → statement M
+parse-rule-spec = tie.close (tie.spec read-requires read-rule-requires returns returns-2)
