@@ -22,7 +22,12 @@ fn takes(given: usize, wanted: usize) -> bool {
         say_argument(1);
         say(b" takes");
         say_number(wanted as u64);
-        say(b" arguments; checker help tells which\n");
+        if wanted == 1 {
+            say(b" argument");
+        } else {
+            say(b" arguments");
+        }
+        say(b"; checker help tells which\n");
     }
     given == wanted
 }

@@ -12,7 +12,7 @@ ghost use Rattle.runs.specs.Joining.{joined, joined-answer};
 ghost use Rattle.runs.specs.Showing.{shown};
 ghost use Rattle.runs.specs.Answer.{watched-answer};
 ghost use Rattle.runs.specs.Watching.{watched};
-ghost use Rattle.exports.specs.Boundary.{refused-numbers, verdict-numbers, checked-numbers, answer-numbers, Gives, GivesBoth, GivesOut, fitting, work-lengths};
+ghost use Rattle.exports.specs.Boundary.{refused-numbers, checked-numbers, answer-numbers, Gives, GivesBoth, GivesOut, fitting, work-lengths};
 use files::cells::copy_at;
 use files::check::Checked;
 use files::record::Limits;

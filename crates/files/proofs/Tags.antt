@@ -1,6 +1,6 @@
 -- A record that does not read as an edge, a rule, a node or a wrong one: what each test then says. The tags are those of the enum's variants, in order.
 use mathlib.Core.Path.{_≡_, refl, subst, _∙_}
-use mathlib.Core.Bool.{Bool, true, false}
+use mathlib.Core.Bool.{Bool, false}
 use mathlib.Core.List.{List, [], _∷_}
 use Prim.Native.Nat.{ℕ}
 use native.Mathlib.Omega.{arith}

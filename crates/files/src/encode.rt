@@ -1,6 +1,6 @@
 // Writing into a lent buffer: records of six bytes, of files, trails, sheets and what is shown; and lines of a relation.
 ghost use mathlib.Core.Path.{_≡_};
-ghost use mathlib.Core.List.{List, [], _∷_};
+ghost use mathlib.Core.List.{[], _∷_};
 ghost use Prim.Native.Nat.{_+_, _*_, _≤_};
 ghost use lib.ListN.{length};
 ghost use Rattle.files.specs.Record.{six};

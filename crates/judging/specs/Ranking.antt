@@ -9,7 +9,6 @@ use lib.ListN.{length}
 use Rattle.files.specs.Access.{GraphFile, PropertyFile}
 use Rattle.files.specs.Basics.Tables.{tally}
 use Rattle.files.specs.Cells.{cell, put-cell}
-use Rattle.files.specs.Decode.{decode-graph, decode-property}
 use Rattle.files.specs.Graph.{Graph, size}
 use Rattle.files.specs.Property.{Row, row}
 use Rattle.files.specs.Record.{count}

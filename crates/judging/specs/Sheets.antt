@@ -1,10 +1,10 @@
 -- The fault sheet in a lent buffer, once all ranks are found: the first edges of the nodes, the causes of a pair, and a queue of the pairs listed, with a mark for each.
 use mathlib.Core.Path.{_≡_}
-use mathlib.Core.Bool.{Bool, false, not, cond, _&&_}
-use mathlib.Core.List.{List, [], _∷_, _++_, List·Memᴰ}
+use mathlib.Core.Bool.{Bool, not, cond, _&&_}
+use mathlib.Core.List.{List, [], _∷_, List·Memᴰ}
 use mathlib.Core.Option.{Option, none, some}
-use Prim.Native.Nat.{ℕ, zero, suc, _*_, _/_, _%_, _≤_, _<_}
-use lib.Dec.{T, eqb, ltb}
+use Prim.Native.Nat.{ℕ, zero, suc, _/_, _%_, _≤_, _<_}
+use lib.Dec.{eqb, ltb}
 use lib.ListN.{length, getD}
 use Rattle.files.specs.Access.{first-edge}
 use Rattle.files.specs.Basics.Queue.{Once}
@@ -15,7 +15,7 @@ use Rattle.files.specs.Graph.{Graph, size, node, no-edge}
 use Rattle.files.specs.Property.{Row}
 use Rattle.judging.specs.declared.causes.Cause.{Cause}
 use Rattle.judging.specs.Levels.{holds}
-use Rattle.judging.specs.Levels.Sheet.{same-pair, ahead, causes}
+use Rattle.judging.specs.Levels.Sheet.{same-pair, ahead}
 use Rattle.judging.specs.Ranking.{pair, queue-at, Ranked}
 pub mod Laws
 pub mod Queue

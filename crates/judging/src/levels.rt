@@ -1,17 +1,17 @@
 // Levels on lent bytes: what is false by itself has rank 1; each next level pops the pairs of the level before from a queue and gives the next rank to what
 // turns false with them. `levels` states that all ranks are found. One level is one call of `level`.
 ghost use mathlib.Core.Path.{_≡_};
-ghost use mathlib.Core.Bool.{not, cond, _&&_};
+ghost use mathlib.Core.Bool.{not, _&&_};
 ghost use Prim.Native.Nat.{ℕ, suc, _+_, _*_, _≤_, _<_};
-ghost use lib.Dec.{T, eqb, leb};
+ghost use lib.Dec.{T, leb};
 ghost use lib.ListN.{length, getD};
 ghost use Rattle.files.specs.Cells.{cell};
-ghost use Rattle.files.specs.Graph.{size, node, no-edge};
+ghost use Rattle.files.specs.Graph.{no-edge};
 ghost use Rattle.files.specs.Property.{row};
 ghost use Rattle.files.specs.Decode.{decode-graph, decode-property};
 ghost use Rattle.judging.specs.Chains.{into};
 ghost use Rattle.judging.specs.Levels.{level};
-ghost use Rattle.judging.specs.Ranking.{Ready, pair, rank-at, queue-at, Given, given, tail-after, Finding, Grew, RowDone, Done, Found, Ranked, Names, leaf-false};
+ghost use Rattle.judging.specs.Ranking.{Ready, pair, rank-at, Given, given, tail-after, Finding, Grew, RowDone, Done, Found, Ranked, Names, leaf-false};
 use crate::shape::Shape;
 use files::cells::get16;
 use files::cells::put16;

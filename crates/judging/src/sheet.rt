@@ -3,7 +3,7 @@
 ghost use mathlib.Core.Path.{_≡_};
 ghost use mathlib.Core.Logic.{_⊎_};
 ghost use mathlib.Core.Bool.{false, not};
-ghost use mathlib.Core.List.{List, [], _∷_, _++_};
+ghost use mathlib.Core.List.{_++_};
 ghost use Prim.Native.Nat.{ℕ, _+_, _*_, _≤_, _<_};
 ghost use lib.Dec.{T};
 ghost use lib.ListN.{length, drop};
@@ -12,7 +12,7 @@ ghost use Rattle.files.specs.Cells.{has-bit, put-at};
 ghost use Rattle.files.specs.Decode.{decode-graph, decode-property};
 ghost use Rattle.judging.specs.Levels.{satisfies};
 ghost use Rattle.judging.specs.Levels.Sheet.{same-pair, causes, failing, pairs, fault, fault-bytes, sheet-bytes};
-ghost use Rattle.judging.specs.Ranking.{Ready, pair, queue-at};
+ghost use Rattle.judging.specs.Ranking.{Ready, queue-at};
 ghost use Rattle.judging.specs.Sheets.{Settled, Listed, listed, cause-list, pair-of};
 use crate::causes::Cause;
 use crate::causes::first_cause;

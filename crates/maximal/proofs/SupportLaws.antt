@@ -1,7 +1,7 @@
 -- For the code that collects minimal supports: the tables of all rows, the lowest open row, and the branches of the search.
 use mathlib.Core.Path.{_≡_, refl, sym, ap, ap₂, subst, _∙_}
 use mathlib.Core.Logic.{_⊎_, inl, inr, ⊎-elim}
-use mathlib.Core.Bool.{Bool, true, false, not, _&&_, _||_}
+use mathlib.Core.Bool.{Bool, true, false, not, cond, _&&_, _||_}
 use mathlib.Core.List.{List}
 use Prim.Native.Nat.{ℕ, suc, _+_, _*_, _-_, _^_, _≤_, _<_}
 use native.Mathlib.Nat.{two-pow-succ}
@@ -29,8 +29,8 @@ use Rattle.maximal.specs.Charting.Kept.{tables-same}
 use Rattle.maximal.specs.Charting.Files.{file-named}
 use Rattle.maximal.specs.Masks.{member, apart, completion}
 use Rattle.maximal.specs.Masks.Laws.{member-one, member-two, apart-e, apart-i}
-use Rattle.maximal.specs.Collected.{unsettled, settlers, first-open, operand-a, operand-b, collected, Tables}
-use Rattle.maximal.specs.Collected.Rows.{open-row}
+use Rattle.maximal.specs.Collected.{unsettled, settlers, first-open, operand-a, operand-b, first-named, second-named, collected, Tables}
+use Rattle.maximal.specs.Collected.Rows.{open-row, named-rows}
 use Rattle.maximal.specs.Collected.Search.{open-at, first-open-is, open-le, collected-split}
 use Rattle.maximal.proofs.RowLaws.{rows-are, names-rows}
 
@@ -110,6 +110,10 @@ row-settled k n (either a b) s r h l t =
     ap (λ (c : Bool). member s r && c) (either-settled k s a b h (omega (arith, ltb→lt a n (and-l (ltb a n) (ltb b n) t))) (omega (arith, ltb→lt b n (and-r (ltb a n) (ltb b n) t))))
 row-settled k n (box m b) s r h l t = alone-settled s r
 
+picked-below : {n : ℕ} (b : Bool) (x y c : ℕ) → c ≡ cond b x y → x < n → y < n → c < n
+picked-below true x y c e h k = omega (arith, e, h)
+picked-below false x y c e h k = omega (arith, e, k)
+
 module _ (p : List ℕ) (file : PropertyFile p) (n : ℕ) (n-is : n ≡ count p) (few : n ≤ 32) where
   abbrev P : List Row
   P = decode-property p
@@ -153,10 +157,11 @@ module _ (p : List ℕ) (file : PropertyFile p) (n : ℕ) (n-is : n ≡ count p)
       b-is : u .b ≡ operand-b P (first-open P s)
       b-is = ap (λ (y : PropertyRow). y .b) held
 
+      open-lt : first-open P s < length P
+      open-lt = omega (arith, is, open-below split, rows-are p file n n-is)
+
       operands-below : (operand-a P (first-open P s) < length P) × (operand-b P (first-open P s) < length P)
-      operands-below =
-          let y = open-row P (file-named p file) s (omega (arith, is, open-below split, rows-are p file n n-is)) in
-          (y .4, y .5)
+      operands-below = let y = open-row P (file-named p file) s open-lt in (y .4, y .5)
 
       pub a-row : u .a < n
       a-row = omega (arith, a-is, operands-below .0, rows-are p file n n-is)
@@ -164,19 +169,40 @@ module _ (p : List ℕ) (file : PropertyFile p) (n : ℕ) (n-is : n ≡ count p)
       pub b-row : u .b < n
       b-row = omega (arith, b-is, operands-below .1, rows-are p file n n-is)
 
-      -- the branch that names the first operand, and then the one that names the second and forbids the first
-      pub both-collected : (w : List ℕ) → Tables P w → (left f with-a with-b without : ℕ) (A B C : List ℕ) → (left ≡ 0 → ⊥) → apart s f ≡ true
-          → with-a ≡ cell w 0 4 (u .a) → with-b ≡ cell w 0 4 (u .b) → without ≡ 2 ^ u .a
-          → B ≡ collected P (left - 1) (bitOr s with-a) f A → C ≡ collected P (left - 1) (bitOr s with-b) (bitOr f without) B → C ≡ collected P left s f A
-      both-collected w t left f with-a with-b without A B C some e ea eb eo p q =
-          let k : suc (left - 1) ≡ left = omega arith in
-          let da : with-a ≡ completion P (2 ^ operand-a P (first-open P s)) = closed (u .a) (operand-a P (first-open P s)) with-a ea a-is (operands-below .0) in
-          let db : with-b ≡ completion P (2 ^ operand-b P (first-open P s)) = closed (u .b) (operand-b P (first-open P s)) with-b eb b-is (operands-below .1) in
-          let dw : without ≡ 2 ^ operand-a P (first-open P s) = eo ∙ ap (λ (i : ℕ). 2 ^ i) a-is in
-          q ∙ rw (p, da, db, dw) (sym (collected-split P s f A (left - 1) e (at-split split))) ∙ ap (λ (i : ℕ). collected P i s f A) k
+      -- whichever is picked
+      pub first-row : (b : Bool) (c : ℕ) → c ≡ cond b (u .b) (u .a) → c < n
+      first-row b c e = picked-below b (u .b) (u .a) c e b-row a-row
+
+      pub second-row : (b : Bool) (c : ℕ) → c ≡ cond b (u .a) (u .b) → c < n
+      second-row b c e = picked-below b (u .a) (u .b) c e a-row b-row
+
+      -- the operands in the order in which they are named; c is the completion of a
+      module _ (w : List ℕ) (t : Tables P w) (c : ℕ) (b : Bool) (first second : ℕ) (completed : c ≡ cell w 0 4 (u .a)) (b-first : b ≡ member c (u .b))
+          (first-picked : first ≡ cond b (u .b) (u .a)) (second-picked : second ≡ cond b (u .a) (u .b))
         where
-          closed : (i j c : ℕ) → c ≡ cell w 0 4 i → i ≡ j → j < length P → c ≡ completion P (2 ^ j)
-          closed i j c d m h = d ∙ ap (λ (k : ℕ). cell w 0 4 k) m ∙ t .closed-are j h
+          closed : (i j d : ℕ) → d ≡ cell w 0 4 i → i ≡ j → j < length P → d ≡ completion P (2 ^ j)
+          closed i j d e m h = e ∙ ap (λ (k : ℕ). cell w 0 4 k) m ∙ t .closed-are j h
+
+          test-is : b ≡ member (completion P (2 ^ operand-a P (first-open P s))) (operand-b P (first-open P s))
+          test-is = b-first ∙ ap₂ member (closed (u .a) (operand-a P (first-open P s)) c completed a-is (operands-below .0)) b-is
+
+          first-is : first ≡ first-named P (first-open P s)
+          first-is = first-picked ∙ ap₂ (cond b) b-is a-is ∙ ap (λ (k : Bool). cond k (operand-b P (first-open P s)) (operand-a P (first-open P s))) test-is
+
+          second-is : second ≡ second-named P (first-open P s)
+          second-is = second-picked ∙ ap₂ (cond b) a-is b-is ∙ ap (λ (k : Bool). cond k (operand-a P (first-open P s)) (operand-b P (first-open P s))) test-is
+
+          -- the branch that names the first, and then the one that names the second and forbids the first
+          pub both-collected : (left f with-first with-second without : ℕ) (A B C : List ℕ) → (left ≡ 0 → ⊥) → apart s f ≡ true
+              → with-first ≡ cell w 0 4 first → with-second ≡ cell w 0 4 second → without ≡ 2 ^ first
+              → B ≡ collected P (left - 1) (bitOr s with-first) f A → C ≡ collected P (left - 1) (bitOr s with-second) (bitOr f without) B → C ≡ collected P left s f A
+          both-collected left f with-first with-second without A B C some e ef es eo bs cs =
+              let k : suc (left - 1) ≡ left = omega arith in
+              let y = named-rows P (file-named p file) s open-lt in
+              let df : with-first ≡ completion P (2 ^ first-named P (first-open P s)) = closed first (first-named P (first-open P s)) with-first ef first-is (y .0) in
+              let ds : with-second ≡ completion P (2 ^ second-named P (first-open P s)) = closed second (second-named P (first-open P s)) with-second es second-is (y .1) in
+              let dw : without ≡ 2 ^ first-named P (first-open P s) = eo ∙ ap (λ (i : ℕ). 2 ^ i) first-is in
+              cs ∙ rw (bs, df, ds, dw) (sym (collected-split P s f A (left - 1) e (at-split split))) ∙ ap (λ (i : ℕ). collected P i s f A) k
 
 -- two branches, each with one operand less to name
 pub twice-below : (k : ℕ) → (k ≡ 0 → ⊥) → 2 ^ k ≡ 2 ^ (k - 1) + 2 ^ (k - 1)

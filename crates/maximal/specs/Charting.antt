@@ -16,7 +16,7 @@ use Rattle.files.specs.Interface.{Interface}
 use Rattle.files.specs.Property.{Row}
 use Rattle.files.specs.Record.{count}
 use Rattle.maximal.specs.declared.places.Scope.{Scope}
-use Rattle.maximal.specs.Collected.{or-count, supports-of}
+use Rattle.maximal.specs.Collected.{or-count}
 use Rattle.maximal.specs.Masks.{rows, asked-of}
 use Rattle.maximal.specs.Model.{State, Entry, Next, Reached, is-entry, is-label, is-next, states}
 pub mod Files

@@ -1,7 +1,7 @@
 -- Minimal supports as the code finds them: each or-row is settled by naming one operand, the branch that names the second forbids the first, a branch with a forbidden
 -- row is cut, and a list of sets keeps none that another one is within. Laws says that what is collected are the minimal supports.
 use mathlib.Core.Path.{_≡_}
-use mathlib.Core.Bool.{Bool, true, false, not, cond, _&&_}
+use mathlib.Core.Bool.{Bool, false, not, cond, _&&_}
 use mathlib.Core.List.{List, [], _∷_, _++_}
 use Prim.Native.Nat.{ℕ, zero, suc, _^_, _<_}
 use lib.Bits.{bitOr}
@@ -54,18 +54,26 @@ operand-a P r = (row-rec (row P r)) .second
 abbrev pub operand-b : List Row → ℕ → ℕ
 operand-b P r = (row-rec (row P r)) .third
 
+-- the operand that is named first: b where completing a names b too, so that the branch of a is cut at once; else a
+abbrev pub first-named : List Row → ℕ → ℕ
+first-named P r = cond (member (completion P (2 ^ operand-a P r)) (operand-b P r)) (operand-b P r) (operand-a P r)
+
+-- the other one
+abbrev pub second-named : List Row → ℕ → ℕ
+second-named P r = cond (member (completion P (2 ^ operand-a P r)) (operand-b P r)) (operand-a P r) (operand-b P r)
+
 -- set s is added where no set of the list is within it; then the sets that it is within are dropped
 pub inserted : List ℕ → ℕ → List ℕ
 inserted A s = cond (any (λ u. within u s) A) A (keep (λ u. not (within s u)) A ++ s ∷ [])
 
--- the completed set s, free of the rows of x: added where all its or-rows are settled; otherwise one is settled by its first operand, then by its second without the first
+-- the completed set s, free of the rows of x: added where all its or-rows are settled; otherwise one is settled by the operand that is named first, then by the other without it
 pub collected : List Row → ℕ → ℕ → ℕ → List ℕ → List ℕ
 collected P zero s x A = cond (apart s x) (cond (eqb (first-open P s) (length P)) (inserted A s) A) A
 collected P (suc k) s x A =
     cond (apart s x)
     (cond (eqb (first-open P s) (length P)) (inserted A s)
-    (collected P k (bitOr s (completion P (2 ^ operand-b P (first-open P s)))) (bitOr x (2 ^ operand-a P (first-open P s)))
-    (collected P k (bitOr s (completion P (2 ^ operand-a P (first-open P s)))) x A)))
+    (collected P k (bitOr s (completion P (2 ^ second-named P (first-open P s)))) (bitOr x (2 ^ first-named P (first-open P s)))
+    (collected P k (bitOr s (completion P (2 ^ first-named P (first-open P s)))) x A)))
     A
 
 -- as many or-rows as the property has

@@ -1,7 +1,6 @@
 // A list of sets of rows in the lent buffer, none within another: a set is added where no listed one is within it, and the listed ones that it is within are dropped.
 ghost use mathlib.Core.Path.{_≡_};
 ghost use mathlib.Core.Bool.{not};
-ghost use mathlib.Core.List.{[], _∷_, _++_};
 ghost use Prim.Native.Nat.{_+_, _≤_, _<_};
 ghost use lib.ListN.{length};
 ghost use Rattle.files.specs.Basics.Lists.{keep};

@@ -1,7 +1,6 @@
 // Sets of rows as numbers: row r is in the set when its digit 2 ^ r is one. A set completed by what its "and" rows ask for, taken from the highest row downward; the
 // rows that are untrue at a method and flag; and what a state asks of its successors under a label.
 ghost use mathlib.Core.Path.{_≡_};
-ghost use mathlib.Core.Bool.{Bool};
 ghost use Prim.Native.Nat.{_+_, _^_, _≤_, _<_};
 ghost use Rattle.files.specs.Access.{PropertyFile};
 ghost use Rattle.files.specs.Decode.{decode-property};

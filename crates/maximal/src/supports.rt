@@ -1,9 +1,8 @@
 // The minimal supports of a set of rows at a method and return flag: each or-row is settled by naming one operand, by recursion with a falling count.
 // `supports` states that what it lists is what the definition collects.
 ghost use mathlib.Core.Path.{_≡_};
-ghost use mathlib.Core.Bool.{Bool};
-ghost use mathlib.Core.List.{[]};
-ghost use Prim.Native.Nat.{ℕ, _+_, _^_, _≤_, _<_};
+ghost use mathlib.Core.Bool.{cond};
+ghost use Prim.Native.Nat.{_+_, _^_, _≤_, _<_};
 ghost use lib.ListN.{length};
 ghost use Rattle.files.specs.Access.{PropertyFile};
 ghost use Rattle.files.specs.Decode.{decode-property};
@@ -64,6 +63,13 @@ fn first_open(property: &[u8], n: usize, work: &[u8], set: u32) -> usize
     r
 }
 
+// The one or the other.
+fn pick(test: bool, yes: u8, no: u8) -> u8
+    ensures { λ r. ⌜ r ≡ cond test yes no ⌝ }
+{
+    if test { yes } else { no }
+}
+
 // Collects the supports that contain a completed set, have no forbidden row, and name at most `left` operands more. How many are listed then.
 fn collect(
     property: &[u8],
@@ -90,11 +96,22 @@ fn collect(
     let RowAt::Is(x) = row_at(property, r, 2) else {
         return found;
     };
-    let with_a = set | get32(work, Places::CLOSED, x.a as usize);
-    let with_b = set | get32(work, Places::CLOSED, x.b as usize);
-    let without_a = forbidden | one_row(x.a as usize);
-    let first = collect(property, n, work, found, with_a, forbidden, left - 1);
-    collect(property, n, work, first, with_b, without_a, left - 1)
+    let b_first = has_row(get32(work, Places::CLOSED, x.a as usize), x.b as usize);
+    let first = pick(b_first, x.b, x.a);
+    let second = pick(b_first, x.a, x.b);
+    let with_first = set | get32(work, Places::CLOSED, first as usize);
+    let with_second = set | get32(work, Places::CLOSED, second as usize);
+    let without_first = forbidden | one_row(first as usize);
+    let listed = collect(property, n, work, found, with_first, forbidden, left - 1);
+    collect(
+        property,
+        n,
+        work,
+        listed,
+        with_second,
+        without_first,
+        left - 1,
+    )
 }
 
 // Lists the minimal supports of a set of rows. How many there are.

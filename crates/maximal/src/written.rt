@@ -1,7 +1,7 @@
 // A model that is found, counted and written: its nodes in order, then its edges by state, label and state. `write_model` states that its bytes are those of the
 // definition's graph.
 ghost use mathlib.Core.Path.{_≡_};
-ghost use mathlib.Core.Bool.{Bool, false};
+ghost use mathlib.Core.Bool.{false};
 ghost use mathlib.Core.List.{_++_};
 ghost use Prim.Native.Nat.{ℕ, _+_, _*_, _≤_, _<_};
 ghost use lib.Dec.{T};

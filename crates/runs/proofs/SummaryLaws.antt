@@ -15,7 +15,7 @@ use lib.Seq.{getD-set-same, getD-set-other}
 use borrow.Author.Tests.{ne-eqb, eq-eqb as eqb-same}
 use Rattle.files.specs.Access.{node-held, edge-held, first-edge}
 use Rattle.files.specs.Access.Laws.{first-edge-le, leaves-in}
-use Rattle.files.specs.Basics.Tests.{eq-eqb, or-r, not-not}
+use Rattle.files.specs.Basics.Tests.{eq-eqb, or-r, not-not, or-l}
 use Rattle.files.specs.Cells.{cell, put-cell}
 use Rattle.files.specs.Cells.Laws.{byte-outside, cell-apart}
 use Rattle.files.specs.Decode.{decode-graph, decode-rules}
@@ -100,6 +100,24 @@ pub step-held : (mon : Monitor) (w : List ℕ) (at q k a b r : ℕ) → Stepped 
     → (1 ≤ k) × ((k ≤ 2) × ((1 ≤ a) × ((a ≤ 8) × ((1 ≤ b) × (b ≤ 8))))) → at ≡ slot k a b → r ≡ cell w 32768 1 (at + q) → r ≡ mon q (record { kind = k; m1 = a; m2 = b })
 step-held mon w at q k a b r s h v e d =
     d ∙ ap (λ (i : ℕ). cell w 32768 1 (i + q)) e ∙ s q k a b h (v .0) (v .1 .0) (v .1 .1 .0) (v .1 .1 .1 .0) (v .1 .1 .1 .1 .0) (v .1 .1 .1 .1 .1)
+
+-- ---- the states in which a node is reached with any entry state below n
+
+abbrev pub ReachedTo : List ℕ → ℕ → ℕ → ℕ → Type 0
+ReachedTo w g y n = (p q : ℕ) → p < n → T (member (reach w g p) q) → T (member y q)
+
+pub reached-more : (w : List ℕ) (g y n x : ℕ) → x ≡ reach w g n → ReachedTo w g y n → ReachedTo w g (bitOr y x) (n + 1)
+reached-more w g y n x e f p q h t = subst T (sym (member-or y x q)) (go (ℕ-discrete p n))
+  where
+    go : Dec (p ≡ n) → T (member y q || member x q)
+    go (yes d) = or-r (member y q) (member x q) (subst (λ (k : ℕ). T (member k q)) (ap (reach w g) d ∙ sym e) t)
+    go (no d) = or-l (member y q) (member x q) (f p q (omega arith) t)
+
+-- an edge whose source is reached in no state of the set starts in none
+pub starts-none : (G : Graph) (mon : Monitor) (w : List ℕ) (e : Edge) (n y set p : ℕ) → n ≡ e .from → ((p q : ℕ) → p < 8 → T (member (reach w n p) q) → T (member y q))
+    → bitAnd y set ≤ 0 → p < 8 → StartsIn G mon set w e p → ⊥
+starts-none G mon w e n y set p d f h hp z =
+    apart-e y set (eq-eqb (bitAnd y set) 0 (omega (arith, h))) (z .0) (f p (z .0) hp (subst (λ (k : ℕ). T (member (reach w k p) (z .0))) (sym d) (z .2))) (z .3)
 
 -- ---- the states from which each caller enters a method
 

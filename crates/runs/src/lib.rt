@@ -15,10 +15,15 @@ use files::record::Limits;
 
 pub mod answers;
 pub mod composing;
+pub mod entered;
+pub mod internal;
+pub mod items;
 pub mod joining;
+pub mod passed;
 pub mod prepare;
 pub mod regions;
 pub mod search;
+pub mod sets;
 pub mod showing;
 pub mod summaries;
 pub mod trail;

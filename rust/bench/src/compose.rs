@@ -1,8 +1,9 @@
 //! What the composed verdict is timed on.
 
-use crate::inputs::{timed, Timed};
+use crate::growth::{series, Series, NODES, ROWS};
+use crate::inputs::{exactly, timed, Timed};
 use crate::model::{interface_and_property, DEAR, FULL, PAST_STATES};
-use crate::watch::{all_rules, TYPICAL_RULES};
+use crate::watch::{all_rules, clean_rules, TYPICAL_RULES};
 use compare::Input;
 use course::Study;
 use generator::generate::{scattered, Random};
@@ -39,6 +40,21 @@ pub fn inputs() -> io::Result<Vec<Timed>> {
         composed("model of 257 states, refused", beside(PAST_STATES, &[5], 1, &never_bad), 5),
     ]);
     Ok(inputs)
+}
+
+pub fn growth() -> Vec<Series> {
+    let composed = |nodes, rows| {
+        let labels = [0, 1, 2, 3, 4];
+        let graph = exactly(&mut Random::new(1), &labels[1..4], &labels, nodes, 4 * nodes);
+        let [known, other] = [[5, 7, 15, 0, 0, 0], [5, 8, 15, 0, 0, 0]].map(Vec::from);
+        Input { files: vec![known, graph, other, chain(rows), clean_rules(896)], number: 1 }
+    };
+    let nodes = |nodes| composed(nodes, 8);
+    let rows = |rows| composed(64, rows);
+    vec![
+        series("4 edges a node, 8 rows", "known nodes", &NODES[..4], nodes),
+        series("64 known nodes, 256 edges", "rows", &ROWS[..4], rows),
+    ]
 }
 
 fn composed(name: &str, files: [Vec<u8>; 5], start: u8) -> Timed {
@@ -78,10 +94,14 @@ fn large_graph(random: &mut Random, nodes: usize) -> Vec<u8> {
 
 /// Beside a method of which after each of 14 internal steps another row is demanded: its model has 32 states and 576 edges.
 fn beside_chain(graph: &[u8], rules: &[u8]) -> [Vec<u8>; 5] {
-    let boxes = (1..15).map(|next| [3, 9, 0, next, 0, 0]);
-    let property = boxes.chain([[3, 1, 0, 0, 0, 0]]).flatten().collect();
     let [known, other] = [[5, 127, 255, 0, 0, 0], [5, 128, 255, 0, 0, 0]].map(Vec::from);
-    [known, graph.to_vec(), other, property, rules.to_vec()]
+    [known, graph.to_vec(), other, chain(15), rules.to_vec()]
+}
+
+/// Boxes of internal steps, each over the next row, and "true" at the end: for each provided method the model has two states for each row and two more.
+fn chain(rows: usize) -> Vec<u8> {
+    let boxes = (1..rows as u8).map(|next| [3, 9, 0, next, 0, 0]);
+    boxes.chain([[3, 1, 0, 0, 0, 0]]).flatten().collect()
 }
 
 /// So many nodes of these methods, which the interface does not provide, beside a model; each node steps to itself under labels 0 to 4.

@@ -29,6 +29,24 @@ pub fn largest_graph(random: &mut Random) -> Vec<u8> {
     scattered(random, &[1, 2, 3, 4, 5, 6, 7, 8], &[0, 1, 2, 3, 4, 5, 6, 7, 8], 256, 4096)
 }
 
+/// So many nodes of four methods and so many edges.
+pub fn graph(random: &mut Random, nodes: usize, edges: usize) -> Vec<u8> {
+    exactly(random, &[1, 2, 3, 4], &[0, 1, 2, 3, 4], nodes, edges)
+}
+
+/// Nodes and edges anywhere, none fewer.
+pub fn exactly(
+    random: &mut Random,
+    methods: &[u8],
+    labels: &[u8],
+    nodes: usize,
+    edges: usize,
+) -> Vec<u8> {
+    let graph = scattered(random, methods, labels, nodes, edges);
+    assert_eq!(graph.len(), 6 * (nodes + edges), "there is no room for all edges");
+    graph
+}
+
 /// A file of a case study, by its name there.
 type Named = (String, Vec<u8>);
 

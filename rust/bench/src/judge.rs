@@ -1,6 +1,7 @@
 //! What judging is timed on.
 
-use crate::inputs::{cases, largest_graph, pair, typical_graph, Timed};
+use crate::growth::{series, Series, EDGES, NODES, ROWS};
+use crate::inputs::{cases, graph, largest_graph, pair, typical_graph, Timed};
 use generator::extremes::{box_cycle, cycle, dense_cycle, row_cycle};
 use generator::generate::{any_rows, Random};
 use std::io;
@@ -26,6 +27,28 @@ pub fn inputs() -> io::Result<Vec<Timed>> {
     ];
     inputs.extend(cases("graph", "property")?);
     Ok(inputs)
+}
+
+pub fn growth() -> Vec<Series> {
+    let mut random = Random::new(1);
+    let mut judged = |nodes, edges| [graph(&mut random, nodes, edges), mixed(16)].into();
+    let nodes =
+        series("4 edges a node, 16 rows", "nodes", &NODES, |nodes| judged(nodes, 4 * nodes));
+    let edges = series("256 nodes, 16 rows", "edges", &EDGES, |edges| judged(256, edges));
+    let same = graph(&mut random, 256, 1024);
+    let rows = |rows| [same.clone(), mixed(rows)].into();
+    vec![nodes, edges, series("256 nodes, 1024 edges", "rows", &ROWS, rows)]
+}
+
+/// Boxes, "and" and "or" rows in turn, each over the next row; the "and" rows also demand the last one, "not return", so that every third row fails in many places.
+fn mixed(rows: usize) -> Vec<u8> {
+    let last = rows as u8 - 1;
+    let row = |at: u8| match at % 3 {
+        0 => [3, 9, at % 5, at + 1, 0, 0],
+        1 => [3, 7, at + 1, last, 0, 0],
+        _ => [3, 8, at + 1, last.min(at + 2), 0, 0],
+    };
+    (0..last).map(row).chain([[3, 6, 0, 0, 0, 0]]).flatten().collect()
 }
 
 const P6_GRAPH: [[u8; 6]; 3] = [[1, 1, 0, 1, 0, 0], [1, 1, 1, 0, 0, 0], [2, 0, 1, 1, 0, 0]];

@@ -1,7 +1,9 @@
 //! Prints the time of each call in both implementations, side by side on the same bytes, and their ratio: `cargo run --release -p bench`.
 //! With an argument, only the calls of that name; with a second one, only the inputs whose name has it as a part.
+//! With `growth` as the first argument, how the times grow with one size of the input at a time; with the name of a call after it, only for that call.
 
 mod compose;
+mod growth;
 mod inputs;
 mod join;
 mod judge;
@@ -22,6 +24,17 @@ second: takes its memory from the allocator in every call and clears nothing aft
 
 fn main() -> io::Result<()> {
     println!("{NOTE}");
+    let mut chosen = env::args().skip(1);
+    let (name, part) = (chosen.next(), chosen.next());
+    match name.as_deref() {
+        Some("growth") => growth::print(part.as_deref()),
+        name => print_calls(name, &part.unwrap_or_default())?,
+    }
+    Ok(())
+}
+
+/// All calls, or those of that name, on the inputs whose name has this part.
+fn print_calls(name: Option<&str>, part: &str) -> io::Result<()> {
     let judging = (compare::judge::CALL, judge::inputs()?);
     let comparing = (compare::simulation::CALL, simulation::inputs()?);
     let modelling = (compare::model::CALL, model::inputs()?);
@@ -30,14 +43,12 @@ fn main() -> io::Result<()> {
     let watching = (compare::watch::CALL, watch::inputs());
     let composing = (compare::compose::CALL, compose::inputs()?);
     let calls = [judging, comparing, modelling, joining, showing, watching, composing];
-    let mut chosen = env::args().skip(1);
-    let (name, part) = (chosen.next(), chosen.next().unwrap_or_default());
     for (call, rows) in calls {
-        if name.as_ref().is_some_and(|name| name != call.name) {
+        if name.is_some_and(|name| name != call.name) {
             continue;
         }
         print_header(call.name);
-        for row in rows.iter().filter(|row| row.name.contains(&part)) {
+        for row in rows.iter().filter(|row| row.name.contains(part)) {
             print_line(&call, row);
         }
     }

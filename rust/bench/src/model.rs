@@ -1,5 +1,6 @@
 //! What modelling is timed on: the first record of a list is the interface, the rest is the property.
 
+use crate::growth::{series, Series, ROWS};
 use crate::inputs::{cases, pair, Timed};
 use std::io;
 
@@ -11,6 +12,8 @@ pub fn inputs() -> io::Result<Vec<Timed>> {
         split("257 states, refused", PAST_STATES),
         split("4,098 edges, refused", include_str!("../data/past-4098-edges.txt")),
         split("242 states, 3,676 edges, dear", DEAR),
+        pair("1,024 supports, refused", vec![5, 1, 1, 0, 0, 0], two_ways_on()),
+        pair("12 detours, 8 methods", vec![5, 255, 255, 0, 0, 0], next_or_detour(12)),
     ];
     inputs.extend(cases("interface", "property")?);
     Ok(inputs)
@@ -33,4 +36,50 @@ pub fn interface_and_property(decimals: &str) -> [Vec<u8>; 2] {
         decimals.split_whitespace().map(|field| field.parse().expect("a byte")).collect();
     let (interface, property) = bytes.split_at(6);
     [interface.to_vec(), property.to_vec()]
+}
+
+const ORS: [usize; 7] = [0, 2, 4, 6, 8, 10, 12];
+
+pub fn growth() -> Vec<Series> {
+    let of = |methods, property| [vec![5, methods, methods, 0, 0, 0], property].into();
+    vec![
+        series("boxes and ands, 16 states", "rows", &ROWS, |rows| of(15, round(rows))),
+        series("32 rows, supports grow", "or-rows", &ORS, |ors| of(1, next_or_over(ors))),
+        series("32 rows, one support", "or-rows", &ORS, |ors| of(1, next_or_detour(ors))),
+    ]
+}
+
+/// "And" rows, each over a box and the next "and" row, and around: whatever is demanded demands all rows.
+fn round(rows: usize) -> Vec<u8> {
+    let rows = rows as u8;
+    let pair =
+        |at| [[3, 7, at + 1, (at + 2) % rows, 0, 0], [3, 9, at / 2 % 3, (at + 2) % rows, 0, 0]];
+    (0..rows).step_by(2).flat_map(pair).flatten().collect()
+}
+
+/// Each "or" row is settled by one of the next two rows; the last two are boxes.
+fn next_or_over(ors: usize) -> Vec<u8> {
+    let last = ors as u8;
+    let ors = (0..last).map(|at| [3, 8, at + 1, at + 2, 0, 0]);
+    filled(ors.chain([0, 1].map(|label| [3, 9, label, last, 0, 0])).collect())
+}
+
+/// Each "or" row is settled by an "and" row over the next one or by the next one itself: there are as many ways as sets of them, and one is within all others.
+fn next_or_detour(ors: usize) -> Vec<u8> {
+    let pair = |at: u8| [[3, 8, at + 1, at + 2, 0, 0], [3, 7, at + 2, at + 2, 0, 0]];
+    let pairs = (0..ors as u8).flat_map(|or| pair(2 * or));
+    filled(pairs.chain([[3, 9, 0, 0, 0, 0]]).collect())
+}
+
+/// Ten "or" rows, each settled by one of two "and" rows over the next one: every choice is a minimal support.
+fn two_ways_on() -> Vec<u8> {
+    let level =
+        |at: u8| [[3, 8, at + 1, at + 2, 0, 0], [3, 7, at + 3, 31, 0, 0], [3, 7, at + 3, 31, 0, 0]];
+    filled((0..10).flat_map(|or| level(3 * or)).collect())
+}
+
+/// With "true" up to 32 rows.
+fn filled(mut rows: Vec<[u8; 6]>) -> Vec<u8> {
+    rows.resize(32, [3, 1, 0, 0, 0, 0]);
+    rows.concat()
 }

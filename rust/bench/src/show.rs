@@ -1,6 +1,7 @@
 //! What showing is timed on: checking both graphs is nearly all of it.
 
-use crate::inputs::{largest_graph, timed, typical_graph, Timed};
+use crate::growth::{series, Series, EDGES};
+use crate::inputs::{graph, largest_graph, timed, typical_graph, Timed};
 use compare::Input;
 use generator::generate::Random;
 
@@ -18,4 +19,13 @@ pub fn inputs() -> Vec<Timed> {
 
 fn shown(name: &str, graphs: &[Vec<u8>; 2], number: usize) -> Timed {
     timed(name, Input { files: graphs.to_vec(), number })
+}
+
+pub fn growth() -> Vec<Series> {
+    let mut random = Random::new(1);
+    let last = |edges| {
+        let files = (0..2).map(|_| graph(&mut random, 128, edges)).collect();
+        Input { files, number: 255 }
+    };
+    vec![series("node 255 of 128 + 128", "edges each", &EDGES[..4], last)]
 }

@@ -1,6 +1,7 @@
 //! What comparing graphs is timed on.
 
-use crate::inputs::{cases, largest_graph, pair, typical_graph, Timed};
+use crate::growth::{series, Series, EDGES, NODES};
+use crate::inputs::{cases, graph, largest_graph, pair, typical_graph, Timed};
 use generator::generate::Random;
 use generator::relations::{backward, band, circulant, forward, hubs, loops, shuffled};
 use std::io;
@@ -22,4 +23,13 @@ pub fn inputs() -> io::Result<Vec<Timed>> {
     ];
     inputs.extend(cases("graph", "graph")?);
     Ok(inputs)
+}
+
+pub fn growth() -> Vec<Series> {
+    let mut random = Random::new(1);
+    let mut compared = |nodes, edges| [(); 2].map(|()| graph(&mut random, nodes, edges)).into();
+    vec![
+        series("4 edges a node", "nodes", &NODES, |nodes| compared(nodes, 4 * nodes)),
+        series("256 nodes", "edges", &EDGES, |edges| compared(256, edges)),
+    ]
 }

@@ -1,6 +1,7 @@
 //! What watching is timed on.
 
-use crate::inputs::{largest_graph, timed, typical_graph, Timed};
+use crate::growth::{series, Series, EDGES, NODES};
+use crate::inputs::{exactly, largest_graph, timed, typical_graph, Timed};
 use compare::Input;
 use generator::extremes::{longest_passing_trail, longest_trail, slow_summary};
 use generator::generate::Random;
@@ -21,6 +22,40 @@ pub fn inputs() -> Vec<Timed> {
         watched("trail of 1,793 records, entered", longest_trail()),
         watched("trail of 1,779 records, passed over", longest_passing_trail()),
     ]
+}
+
+pub fn growth() -> Vec<Series> {
+    let watched = |nodes, edges, rules| {
+        let files = [vec![5, 15, 15, 0, 0, 0], half_calls(nodes, edges), clean_rules(rules)];
+        Input { files: files.into(), number: 1 }
+    };
+    let nodes = |nodes| watched(nodes, 4 * nodes, 896);
+    let rules = |rules| watched(256, 1024, rules);
+    vec![
+        series("4 edges a node, 896 rules", "nodes", &NODES, nodes),
+        series("256 nodes, 896 rules", "edges", &EDGES, |edges| watched(256, edges, 896)),
+        series("256 nodes, 1024 edges", "rules", &[0, 8, 64, 256, 896], rules),
+    ]
+}
+
+/// So many nodes of four methods and so many edges, half of which are calls.
+fn half_calls(nodes: usize, edges: usize) -> Vec<u8> {
+    // The same seed gives the same nodes.
+    let methods = &[1, 2, 3, 4];
+    let with = |labels| exactly(&mut Random::new(1), methods, labels, nodes, edges / 2);
+    let [internal, calls] = [with(&[0]), with(methods)];
+    let (nodes, steps) = internal.split_at(6 * nodes);
+    let mut edges: Vec<&[u8]> = steps.chunks(6).chain(calls[nodes.len()..].chunks(6)).collect();
+    edges.sort_unstable();
+    [nodes, &edges.concat()].concat()
+}
+
+/// So many rules, spread over all states and events. They lead to any state but the bad one.
+pub fn clean_rules(count: usize) -> Vec<u8> {
+    let (mut all, mut random) = (all_rules(|_, _| 0), Random::new(1));
+    all.chunks_mut(6).for_each(|rule| rule[5] = random.below(7) as u8);
+    let rule = |at| &all[at * 896 / count * 6..][..6];
+    (0..count).flat_map(rule).copied().collect()
 }
 
 const P11: [[u8; 6]; 4] =

@@ -2,10 +2,6 @@ use Prim.Native.Nat.{_-_, _<_, _^_}
 use borrow.Author.Needs.{needs}
 use Rattle.course.proofs.main.Statement.{statement}
 use Rattle.course.proofs.main.Tie as tie
-use Rattle.course.proofs.main.Reads as reads
-use Rattle.course.proofs.main.Lts as lts
-use Rattle.course.proofs.one.Reads as one-reads
-use Rattle.os.proofs.arg_count.Reads as arg-count-reads
 
 abbrev Inv-loop : tie.InvT-loop
 Inv-loop n i₀ i = n < 2 ^ 64

@@ -1,9 +1,6 @@
 use borrow.Author.Needs.{needs}
 use Rattle.exports.proofs.checked_answer.Statement.{statement}
 use Rattle.exports.proofs.checked_answer.Tie as tie
-use Rattle.exports.proofs.checked_answer.Reads as reads
-use Rattle.exports.proofs.checked_answer.Lts as lts
-use Rattle.exports.proofs.refused.Reads as refused-reads
 
 -- src/lib.rt:39:29
 enum-known-c : tie.Need-enum-known-c

@@ -1,9 +1,6 @@
 use borrow.Author.Needs.{needs}
 use Rattle.exports.proofs.compared_answer.Statement.{statement}
 use Rattle.exports.proofs.compared_answer.Tie as tie
-use Rattle.exports.proofs.compared_answer.Reads as reads
-use Rattle.exports.proofs.compared_answer.Lts as lts
-use Rattle.exports.proofs.refused.Reads as refused-reads
 
 -- src/lib.rt:131:26
 enum-told : tie.Need-enum-told

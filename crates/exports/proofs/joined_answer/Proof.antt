@@ -1,9 +1,6 @@
 use borrow.Author.Needs.{needs}
 use Rattle.exports.proofs.joined_answer.Statement.{statement}
 use Rattle.exports.proofs.joined_answer.Tie as tie
-use Rattle.exports.proofs.joined_answer.Reads as reads
-use Rattle.exports.proofs.joined_answer.Lts as lts
-use Rattle.exports.proofs.refused.Reads as refused-reads
 
 -- src/lib.rt:207:13
 enum-known-j : tie.Need-enum-known-j

@@ -1,9 +1,6 @@
 use borrow.Author.Needs.{needs}
 use Rattle.exports.proofs.judged_answer.Statement.{statement}
 use Rattle.exports.proofs.judged_answer.Tie as tie
-use Rattle.exports.proofs.judged_answer.Reads as reads
-use Rattle.exports.proofs.judged_answer.Lts as lts
-use Rattle.exports.proofs.refused.Reads as refused-reads
 
 -- src/lib.rt:91:26
 enum-told : tie.Need-enum-told

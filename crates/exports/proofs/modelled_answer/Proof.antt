@@ -1,9 +1,6 @@
 use borrow.Author.Needs.{needs}
 use Rattle.exports.proofs.modelled_answer.Statement.{statement}
 use Rattle.exports.proofs.modelled_answer.Tie as tie
-use Rattle.exports.proofs.modelled_answer.Reads as reads
-use Rattle.exports.proofs.modelled_answer.Lts as lts
-use Rattle.exports.proofs.refused.Reads as refused-reads
 
 -- src/lib.rt:170:27
 enum-known-m : tie.Need-enum-known-m

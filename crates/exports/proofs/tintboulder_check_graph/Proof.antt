@@ -1,11 +1,6 @@
 use borrow.Author.Needs.{needs}
 use Rattle.exports.proofs.tintboulder_check_graph.Statement.{statement}
 use Rattle.exports.proofs.tintboulder_check_graph.Tie as tie
-use Rattle.exports.proofs.tintboulder_check_graph.Reads as reads
-use Rattle.exports.proofs.tintboulder_check_graph.Lts as lts
-use Rattle.exports.proofs.checked_answer.Reads as checked-answer-reads
-use Rattle.files.proofs.check.check_graph.Reads as check-graph-reads
-use Rattle.files.proofs.record.Limits.desk.Reads as desk-reads
 
 -- src/lib.rt:56:55
 desk-requires : tie.Need-desk-requires

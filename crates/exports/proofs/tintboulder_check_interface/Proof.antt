@@ -1,11 +1,6 @@
 use borrow.Author.Needs.{needs}
 use Rattle.exports.proofs.tintboulder_check_interface.Statement.{statement}
 use Rattle.exports.proofs.tintboulder_check_interface.Tie as tie
-use Rattle.exports.proofs.tintboulder_check_interface.Reads as reads
-use Rattle.exports.proofs.tintboulder_check_interface.Lts as lts
-use Rattle.exports.proofs.checked_answer.Reads as checked-answer-reads
-use Rattle.files.proofs.check.check_interface.Reads as check-interface-reads
-use Rattle.files.proofs.record.Limits.desk.Reads as desk-reads
 
 -- src/lib.rt:80:59
 desk-requires : tie.Need-desk-requires

@@ -1,11 +1,6 @@
 use borrow.Author.Needs.{needs}
 use Rattle.exports.proofs.tintboulder_check_property.Statement.{statement}
 use Rattle.exports.proofs.tintboulder_check_property.Tie as tie
-use Rattle.exports.proofs.tintboulder_check_property.Reads as reads
-use Rattle.exports.proofs.tintboulder_check_property.Lts as lts
-use Rattle.exports.proofs.checked_answer.Reads as checked-answer-reads
-use Rattle.files.proofs.check.check_property.Reads as check-property-reads
-use Rattle.files.proofs.record.Limits.desk.Reads as desk-reads
 
 -- src/lib.rt:64:58
 desk-requires : tie.Need-desk-requires

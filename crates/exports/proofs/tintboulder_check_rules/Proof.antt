@@ -1,11 +1,6 @@
 use borrow.Author.Needs.{needs}
 use Rattle.exports.proofs.tintboulder_check_rules.Statement.{statement}
 use Rattle.exports.proofs.tintboulder_check_rules.Tie as tie
-use Rattle.exports.proofs.tintboulder_check_rules.Reads as reads
-use Rattle.exports.proofs.tintboulder_check_rules.Lts as lts
-use Rattle.exports.proofs.checked_answer.Reads as checked-answer-reads
-use Rattle.files.proofs.check.check_rules.Reads as check-rules-reads
-use Rattle.files.proofs.record.Limits.desk.Reads as desk-reads
 
 -- src/lib.rt:72:55
 desk-requires : tie.Need-desk-requires

@@ -1,12 +1,8 @@
-use mathlib.Core.Path.{_≡_, refl, sym, ap, _∙_}
+use mathlib.Core.Path.{ap, _∙_}
 use Rattle.exports.specs.Boundary.{answer-numbers}
 use borrow.Author.Needs.{needs}
 use Rattle.exports.proofs.tintboulder_compare.Statement.{statement}
 use Rattle.exports.proofs.tintboulder_compare.Tie as tie
-use Rattle.exports.proofs.tintboulder_compare.Reads as reads
-use Rattle.exports.proofs.tintboulder_compare.Lts as lts
-use Rattle.exports.proofs.compared_answer.Reads as compared-answer-reads
-use Rattle.judging.proofs.compare.Reads as compare-reads
 
 -- src/lib.rt:161:21
 compare-requires : tie.Need-compare-requires

@@ -3,10 +3,6 @@ use Rattle.exports.specs.Boundary.{answer-numbers}
 use borrow.Author.Needs.{needs}
 use Rattle.exports.proofs.tintboulder_join.Statement.{statement}
 use Rattle.exports.proofs.tintboulder_join.Tie as tie
-use Rattle.exports.proofs.tintboulder_join.Reads as reads
-use Rattle.exports.proofs.tintboulder_join.Lts as lts
-use Rattle.exports.proofs.joined_answer.Reads as joined-answer-reads
-use Rattle.runs.proofs.join.Reads as join-reads
 
 -- src/lib.rt:234:19
 join-requires : tie.Need-join-requires

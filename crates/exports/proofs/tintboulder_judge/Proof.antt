@@ -1,12 +1,8 @@
-use mathlib.Core.Path.{_≡_, refl, sym, ap, _∙_}
+use mathlib.Core.Path.{ap, _∙_}
 use Rattle.exports.specs.Boundary.{answer-numbers}
 use borrow.Author.Needs.{needs}
 use Rattle.exports.proofs.tintboulder_judge.Statement.{statement}
 use Rattle.exports.proofs.tintboulder_judge.Tie as tie
-use Rattle.exports.proofs.tintboulder_judge.Reads as reads
-use Rattle.exports.proofs.tintboulder_judge.Lts as lts
-use Rattle.exports.proofs.judged_answer.Reads as judged-answer-reads
-use Rattle.judging.proofs.judge.Reads as judge-reads
 
 -- src/lib.rt:121:19
 judge-requires : tie.Need-judge-requires

@@ -1,12 +1,8 @@
-use mathlib.Core.Path.{_≡_, refl, sym, ap, _∙_}
+use mathlib.Core.Path.{ap, _∙_}
 use Rattle.exports.specs.Boundary.{answer-numbers}
 use borrow.Author.Needs.{needs}
 use Rattle.exports.proofs.tintboulder_model.Statement.{statement}
 use Rattle.exports.proofs.tintboulder_model.Tie as tie
-use Rattle.exports.proofs.tintboulder_model.Reads as reads
-use Rattle.exports.proofs.tintboulder_model.Lts as lts
-use Rattle.exports.proofs.modelled_answer.Reads as modelled-answer-reads
-use Rattle.maximal.proofs.model.Reads as model-reads
 
 -- src/lib.rt:121:19
 model-requires : tie.Need-model-requires

@@ -10,13 +10,6 @@ use Rattle.exports.proofs.ShowLaws.{refused-given, short-given, result-
 use borrow.Author.Needs.{needs}
 use Rattle.exports.proofs.tintboulder_show.Statement.{statement}
 use Rattle.exports.proofs.tintboulder_show.Tie as tie
-use Rattle.exports.proofs.tintboulder_show.Reads as reads
-use Rattle.exports.proofs.tintboulder_show.Lts as lts
-use Rattle.exports.proofs.refused.Reads as refused-reads
-use Rattle.files.proofs.cells.copy_at.Reads as copy-at-reads
-use Rattle.files.proofs.refusal.Refusal.whole.Reads as whole-reads
-use Rattle.runs.proofs.show.Reads as show-reads
-use Rattle.runs.proofs.show_refusal.Reads as show-refusal-reads
 
 -- src/lib.rt:247:11
 show-refusal-requires : tie.Need-show-refusal-requires

@@ -3,10 +3,6 @@ use Rattle.exports.specs.Boundary.{answer-numbers}
 use borrow.Author.Needs.{needs}
 use Rattle.exports.proofs.tintboulder_watch.Statement.{statement}
 use Rattle.exports.proofs.tintboulder_watch.Tie as tie
-use Rattle.exports.proofs.tintboulder_watch.Reads as reads
-use Rattle.exports.proofs.tintboulder_watch.Lts as lts
-use Rattle.exports.proofs.watched_answer.Reads as watched-answer-reads
-use Rattle.runs.proofs.watch.Reads as watch-reads
 
 -- src/lib.rt:306:20
 watch-requires : tie.Need-watch-requires

@@ -3,7 +3,7 @@ use mathlib.Core.Path.{_≡_, refl}
 use mathlib.Core.List.{[], map}
 use Prim.Native.Nat.{ℕ}
 use Rattle.files.specs.Decode.{decode-graph, decode-property, decode-rules, decode-interface, graph-bytes}
-use Rattle.files.specs.Course.{bytes, one-one-file, one-one, one-none-file, one-none, p1-file, p1-rows, or-file, or-rows, false-file, false-rows, return-file, return-rows, box-file, box-rows, entry-file, entry-graph, call-file, call-graph, returning-file, returning-graph, cycle-file, cycle-graph, loop-file, loop-graph, return-rule-file, return-rules, operator-files, operator-rows, p1-bytes, p1-graph, p2-bytes, p2-graph, gr}
+use Rattle.files.specs.Course.{one-one-file, one-one, one-none-file, one-none, p1-file, p1-rows, or-file, or-rows, false-file, false-rows, return-file, return-rows, box-file, box-rows, entry-file, entry-graph, call-file, call-graph, returning-file, returning-graph, cycle-file, cycle-graph, loop-file, loop-graph, return-rule-file, return-rules, operator-files, operator-rows, p1-bytes, p1-graph, p2-bytes, p2-graph, gr}
 
 pub one-one-is : decode-interface one-one-file ≡ one-one
 unfolding decode-interface

@@ -1,21 +1,21 @@
 -- From one level to the next: what turns false leans on what has just turned false, so a queue of what has just turned false tells all that turns false next;
 -- and where nothing turns false nothing ever will.
-use mathlib.Core.Path.{_≡_, refl, sym, ap, subst, _∙_}
+use mathlib.Core.Path.{_≡_, refl, sym, subst}
 use mathlib.Core.Logic.{_⊎_, inl, inr}
-use mathlib.Core.Bool.{Bool, true, false, not, cond, _&&_, _||_}
+use mathlib.Core.Bool.{Bool, true, false, not, cond}
 use mathlib.Core.List.{List, List·Memᴰ}
-use mathlib.Core.Option.{Option, none, some}
+use mathlib.Core.Option.{some}
 use Prim.Native.Nat.{ℕ, zero, suc, _≤_, _<_}
 use native.Mathlib.Nat.{eq-or-lt-of-le, le-of-suc-le-suc}
 use native.Mathlib.Decide.{decLe}
 use native.Mathlib.Omega.{arith}
 use lib.Dec.{T, T-not, not-T, eqb}
 use lib.ListN.{length}
-use Rattle.files.specs.Basics.Tests.{and-l, and-r, or-e, not-and, not-or, not-not, decide}
-use Rattle.files.specs.Graph.{Graph, Edge, size, node, Flow}
+use Rattle.files.specs.Basics.Tests.{and-l, and-r, or-e, not-and, not-or}
+use Rattle.files.specs.Graph.{Graph, Edge, size, Flow}
 use Rattle.files.specs.Property.{Row, always, never, returns, not-returns, in-method, not-in-method, both, either, box, row, obliged, Property}
-use Rattle.judging.specs.Levels.{truth, after, next, level, holds, rank}
-use Rattle.judging.specs.Levels.Laws.{after-e, after-no, level-zero, level-next, level-falls, next-mono, never-false, rank-false, holds-if}
+use Rattle.judging.specs.Levels.{truth, after, level, holds, rank}
+use Rattle.judging.specs.Levels.Laws.{after-e, after-no, level-next, level-falls, next-mono, rank-false, holds-if}
 use Rattle.judging.specs.Levels.Ranks.{rank-le, rank-step, false-if}
 
 -- ---- what a row leans on

@@ -2,28 +2,28 @@
 use mathlib.Core.Path.{_≡_, refl, sym, ap, subst, _∙_}
 use mathlib.Core.Logic.{_⊎_, inl, inr}
 use mathlib.Core.Bool.{Bool, true, false, not, cond, _&&_, _||_, or-false}
-use mathlib.Core.List.{List, List·Memᴰ}
-use mathlib.Core.Option.{none, some, Option·none-ne-some}
-use Prim.Native.Nat.{ℕ, zero, suc, _+_, _*_, _≤_, _<_}
+use mathlib.Core.List.{List}
+use mathlib.Core.Option.{none, some}
+use Prim.Native.Nat.{ℕ, suc, _+_, _≤_, _<_}
 use native.Mathlib.Omega.{arith}
 use native.Mathlib.Numerals.{add-one}
-use lib.Dec.{T, T-not, not-T, eqb, ltb, leb, eqb→eq, ltb→lt}
+use lib.Dec.{T, T-not, not-T, eqb, ltb, eqb→eq, ltb→lt}
 use lib.ListN.{length, getD}
 use Rattle.files.specs.Access.{row-held}
 use Rattle.files.specs.Basics.Lists.{index-e}
-use Rattle.files.specs.Basics.Tests.{decide, and-l, and-r, eq-eqb, T-eq, not-and, not-or}
-use Rattle.files.specs.Cells.{cell, put-cell}
+use Rattle.files.specs.Basics.Tests.{and-l, and-r, T-eq}
+use Rattle.files.specs.Cells.{put-cell}
 use Rattle.files.specs.Decode.{decode-graph, decode-property}
 use Rattle.files.specs.Decode.Graphs.{decoded-size, decoded-edges, decoded-flow}
 use Rattle.files.specs.Decode.Properties.{decoded-rows, decoded-property}
 use Rattle.files.specs.Graph.{Graph, Edge, size, node, no-edge, Flow}
-use Rattle.files.specs.Property.{Row, always, never, returns, not-returns, in-method, not-in-method, both, either, box, row, obliged, names, Property}
+use Rattle.files.specs.Property.{Row, always, never, returns, not-returns, in-method, not-in-method, both, either, box, row, names, Property}
 use Rattle.judging.specs.declared.shape.Shape.{Shape}
-use Rattle.judging.specs.Chains.{named, is-row, into}
+use Rattle.judging.specs.Chains.{is-row, into}
 use Rattle.judging.specs.Levels.{truth, after, level}
 use Rattle.judging.specs.Levels.Laws.{after-i, level-zero, level-next, box-obliges}
 use Rattle.judging.specs.Levels.Onward.{box-falls}
-use Rattle.judging.specs.Ranking.{Ready, pair, rank-at, queue-at, Given, given, tail-after, leaf-false, Names}
+use Rattle.judging.specs.Ranking.{Ready, pair, rank-at, given, tail-after, leaf-false, Names}
 
 -- ---- counts
 

@@ -2,26 +2,24 @@
 use mathlib.Core.Path.{_≡_, refl, sym, ap, subst, _∙_}
 use mathlib.Core.Logic.{_⊎_, inl, inr}
 use mathlib.Core.Bool.{Bool, true, false, not, cond, _&&_}
-use mathlib.Core.List.{List, List·Memᴰ}
+use mathlib.Core.List.{List}
 use mathlib.Core.Option.{Option, some}
-use Prim.Native.Nat.{ℕ, zero, suc, _+_, _*_, _/_, _%_, _≤_, _<_}
-use native.Mathlib.Decide.{decLe, decLt}
+use Prim.Native.Nat.{ℕ, suc, _+_, _*_, _/_, _%_, _≤_, _<_}
 use native.Mathlib.Omega.{arith}
-use lib.Dec.{T, T-not, not-T, eqb, ltb, leb, eqb→eq, eqb-refl, ltb→lt, leb→le, le→leb}
+use lib.Dec.{T, T-not, not-T, eqb, ltb, leb, ltb→lt, leb→le, le→leb}
 use lib.ListN.{length, getD}
 use Rattle.files.specs.Basics.Lists.{index-i}
-use Rattle.files.specs.Basics.Tables.{tally, tally-is}
-use Rattle.files.specs.Basics.Tests.{decide, and-l, and-r, and-i, eq-eqb, T-eq, not-or}
+use Rattle.files.specs.Basics.Tables.{tally-is}
+use Rattle.files.specs.Basics.Tests.{decide, and-l, and-r, and-i, eq-eqb, T-eq}
 use Rattle.files.specs.Cells.{cell}
-use Rattle.files.specs.Graph.{Graph, Edge, size, node, no-edge, Flow}
-use Rattle.files.specs.Property.{Row, always, never, returns, not-returns, in-method, not-in-method, both, either, box, row, obliged, names, Property}
+use Rattle.files.specs.Graph.{Graph, Edge, size, no-edge, Flow}
+use Rattle.files.specs.Property.{Row, always, never, returns, not-returns, in-method, not-in-method, both, either, box, row, names, Property}
 use Rattle.judging.specs.Chains.{Index, into, uses, named, is-row}
 use Rattle.judging.specs.Levels.{level, holds, rank}
-use Rattle.judging.specs.Levels.Laws.{level-zero, level-next, level-falls, obliged-named, obliged-box}
-use Rattle.judging.specs.Levels.Ranks.{rank-le, false-if}
-use Rattle.judging.specs.Levels.Onward.{Leans, first-false, first-true, first-rank, turned, down-true, rank-new, rank-within, steady}
-use Rattle.judging.specs.Ranking.{pair, rank-at, queue-at, Given, ranked, Queued, RankBy, Finding, Grew, RowDone, Done, Found, final-rank, Ranked}
-use Rattle.judging.specs.Ranking.Stores.{queued-same, pair-same}
+use Rattle.judging.specs.Levels.Laws.{level-zero, level-falls, obliged-named, obliged-box}
+use Rattle.judging.specs.Levels.Ranks.{false-if}
+use Rattle.judging.specs.Levels.Onward.{Leans, first-false, first-true, first-rank, turned, rank-new, rank-within, steady}
+use Rattle.judging.specs.Ranking.{pair, rank-at, queue-at, Given, RankBy, Finding, Grew, RowDone, Done, Found, final-rank, Ranked}
 
 module _ (G : Graph) (P : List Row) where
   -- ---- rows that lean on a popped pair

@@ -5,20 +5,20 @@ use mathlib.Core.Bool.{Bool, true, false, not, cond}
 use mathlib.Core.List.{List}
 use Prim.Native.Nat.{ℕ, zero, suc, _+_, _*_, _≤_, _<_}
 use native.Mathlib.Nat.{le-refl}
-use native.Mathlib.Decide.{ℕ-discrete, decLt}
+use native.Mathlib.Decide.{ℕ-discrete}
 use native.Mathlib.Omega.{arith}
 use lib.Dec.{T, T-not, not-T, eqb, eqb→eq}
 use lib.ListN.{length}
 use Rattle.files.specs.Basics.Tables.{tally, tally-le}
-use Rattle.files.specs.Basics.Tests.{one, one-le, one-true, one-false, decide, eq-eqb, T-eq}
+use Rattle.files.specs.Basics.Tests.{one, one-le, one-true, one-false, decide, eq-eqb}
 use Rattle.files.specs.Cells.{cell, put-cell}
 use Rattle.files.specs.Cells.Laws.{length-put-cell, cell-same, cell-apart, cell-other}
 use Rattle.files.specs.Graph.{Graph, size, Flow}
 use Rattle.files.specs.Property.{Row, Property}
 use Rattle.judging.specs.Chains.{Index, into, uses}
 use Rattle.judging.specs.Chains.Laws.{chained-same}
-use Rattle.judging.specs.Levels.{level, rank}
-use Rattle.judging.specs.Levels.Onward.{first-false, first-true, first-rank, rank-within}
+use Rattle.judging.specs.Levels.{level}
+use Rattle.judging.specs.Levels.Onward.{first-rank, rank-within}
 use Rattle.judging.specs.Ranking.{pair, rank-at, queue-at, Given, given, tail-after, ranked, Queued, RankBy, Finding, Grew}
 
 -- ---- tallies

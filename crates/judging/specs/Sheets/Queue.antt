@@ -1,28 +1,26 @@
 -- The queue of the fault sheet: one pair more, with its mark, keeps what is known of it; the causes of a pair put one after the other are what the breadth first list puts.
 use mathlib.Core.Path.{_≡_, refl, sym, ap, ap₂, subst, _∙_}
 use mathlib.Core.Logic.{_⊎_, inl, inr}
-use mathlib.Core.Bool.{Bool, true, false, not, cond, _&&_, _||_, or-false}
-use mathlib.Core.List.{List, [], _∷_, _++_, append-nil, List·Memᴰ, List·Memᴰ·head, List·Memᴰ·tail, List·Memᴰ·cases-cons, List·Memᴰ·not-nil, List·Memᴰ·append-cases, List·Memᴰ·eq-of-singleton}
+use mathlib.Core.Bool.{Bool, true, false, cond, _||_}
+use mathlib.Core.List.{List, [], _∷_, _++_, append-nil, List·Memᴰ, List·Memᴰ·not-nil, List·Memᴰ·append-cases, List·Memᴰ·eq-of-singleton}
 use Prim.Native.Nat.{ℕ, zero, suc, _+_, _*_, _/_, _%_, _^_, _≤_, _<_}
-use native.Mathlib.Nat.{add-zero, mul-le-mul-left, le-of-suc-le-suc}
+use native.Mathlib.Nat.{add-zero, mul-le-mul-left}
 use native.Mathlib.Decide.{ℕ-discrete}
 use native.Mathlib.Omega.{arith}
-use lib.Dec.{T, T-not, not-T, eqb, eqb→eq}
+use lib.Dec.{T, eqb}
 use lib.ListN.{length, getD, length-append}
-use Rattle.files.specs.Access.{first-edge}
 use Rattle.files.specs.Basics.Queue.{Once, once-append, room, fresh}
 use Rattle.files.specs.Basics.Tables.{table, length-table, getD-table}
-use Rattle.files.specs.Basics.Tests.{any, any-i, any-e, grid, grid-i, length-grid, T-eq}
+use Rattle.files.specs.Basics.Tests.{any, any-i, grid, grid-i, length-grid}
 use Rattle.files.specs.Cells.{cell, put-cell, has-bit, put-bit}
 use Rattle.files.specs.Cells.Laws.{length-put-cell, length-put-bit, byte-outside, bit-outside, cell-agree, cell-same, cell-other, bit-same, bit-other, has-bit-is}
-use Rattle.files.specs.Graph.{Graph, size, node}
+use Rattle.files.specs.Graph.{Graph, size}
 use Rattle.files.specs.Property.{Row}
-use Rattle.judging.specs.declared.causes.Cause.{Cause}
 use Rattle.judging.specs.Levels.Sheet.{same-pair}
 use Rattle.judging.specs.Levels.Sheet.Laws.{same-pair-e, same-pair-refl}
 use Rattle.judging.specs.Ranking.{pair, queue-at}
 use Rattle.judging.specs.Ranking.Laws.{ranked-kept}
-use Rattle.judging.specs.Sheets.{Settled, Listed, listed, pair-of, cause-list}
+use Rattle.judging.specs.Sheets.{Settled, Listed, listed, pair-of}
 
 -- ---- lists
 

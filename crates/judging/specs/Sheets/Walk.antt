@@ -1,7 +1,7 @@
 -- The walk that lists the fault sheet, and the bytes of what it lists: one turn, its end, and one record more.
 use mathlib.Core.Path.{_≡_, refl, sym, ap, ap₂, subst, _∙_}
-use mathlib.Core.Bool.{Bool, true, false, not, cond}
-use mathlib.Core.List.{List, [], _∷_, _++_, append-assoc, append-nil, List·Memᴰ, List·Memᴰ·head, List·Memᴰ·tail, List·Memᴰ·not-nil}
+use mathlib.Core.Bool.{Bool, false, not, cond}
+use mathlib.Core.List.{List, [], _∷_, _++_, append-assoc, List·Memᴰ, List·Memᴰ·head, List·Memᴰ·tail, List·Memᴰ·not-nil}
 use Prim.Native.Nat.{ℕ, zero, suc, _+_, _*_, _-_, _≤_, _<_}
 use native.Mathlib.Omega.{arith}
 use lib.Dec.{T, eqb}
@@ -9,7 +9,7 @@ use lib.ListN.{length, getD, drop, length-append}
 use lib.Seq.{drop-cons, drop-append-le, drop-length}
 use borrow.Author.Tests.{ne-eqb}
 use Rattle.files.specs.Basics.Lists.{each-append, each, index-e}
-use Rattle.files.specs.Basics.Queue.{Once, room, fresh, walk, breadth-first}
+use Rattle.files.specs.Basics.Queue.{Once, room, fresh, walk}
 use Rattle.files.specs.Basics.Tests.{any, grid, grid-i, length-grid}
 use Rattle.files.specs.Cells.{put-at, has-bit}
 use Rattle.files.specs.Cells.Laws.{put-at-is, put-front, put-after}
@@ -17,7 +17,7 @@ use Rattle.files.specs.Graph.{Graph, size, Flow}
 use Rattle.files.specs.Property.{Row, Property}
 use Rattle.judging.specs.Levels.{satisfies}
 use Rattle.judging.specs.Levels.Sheet.{same-pair, no-cause, causes, failing, pairs, fault, fault-bytes, sheet-bytes}
-use Rattle.judging.specs.Levels.Sheet.Causes.{Few, no-one, one-only, two-only, causes-few, causes-in, IsPair}
+use Rattle.judging.specs.Levels.Sheet.Causes.{Few, no-one, one-only, two-only, IsPair}
 use Rattle.judging.specs.Levels.Sheet.Laws.{pairs-some, sheet-bytes-are}
 use Rattle.judging.specs.Ranking.{queue-at, pair}
 use Rattle.judging.specs.Sheets.{Settled, Listed, listed, pair-of}

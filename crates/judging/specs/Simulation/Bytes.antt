@@ -1,16 +1,15 @@
 -- "These bytes are a simulation that covers every entry": as a fact and as a test, apart from the search for the largest one. What compare writes on "yes" passes.
 use mathlib.Core.Path.{_≡_, refl, sym, ap, subst, _∙_}
-use mathlib.Core.Logic.{_↔_}
 use mathlib.Core.Bool.{Bool, true, false, _&&_}
 use mathlib.Core.List.{List, List·Memᴰ}
 use Prim.Native.Nat.{ℕ, _+_, _*_, _/_, _%_, _<_}
 use native.Mathlib.Omega.{arith}
 use lib.Dec.{T, eqb, ltb, ltb→lt, lt→ltb}
-use lib.ListN.{length, getD}
+use lib.ListN.{getD}
 use Rattle.files.specs.Basics.Binary.{bit}
-use Rattle.files.specs.Basics.Tests.{imp, imp-i, imp-e, and-l, and-r, and-i, all, all-i, all-e, any, any-i, any-e, upto, upto-i, upto-e, one, eq-eqb}
+use Rattle.files.specs.Basics.Tests.{imp, imp-i, imp-e, and-l, and-r, and-i, all, all-i, all-e, any, any-i, any-e, upto, upto-i, upto-e, one}
 use Rattle.files.specs.Graph.{Graph, Edge, size, node, Flow}
-use Rattle.judging.specs.Simulation.{Simulation, keeps, related, covered, simulates, relation-bytes}
+use Rattle.judging.specs.Simulation.{Simulation, keeps, related, simulates, relation-bytes}
 use Rattle.judging.specs.Simulation.Laws.{Keeps, keeps-e, keeps-i, related-simulation, covered-e, simulates-covers, relation-bit}
 
 -- bit h of node g's line

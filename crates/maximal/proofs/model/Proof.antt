@@ -4,10 +4,6 @@ use Rattle.maximal.specs.Modelling.Steps.{does-desk}
 use borrow.Author.Needs.{needs}
 use Rattle.maximal.proofs.model.Statement.{statement}
 use Rattle.maximal.proofs.model.Tie as tie
-use Rattle.maximal.proofs.model.Reads as reads
-use Rattle.maximal.proofs.model.Lts as lts
-use Rattle.files.proofs.record.Limits.desk.Reads as desk-reads
-use Rattle.maximal.proofs.build.model_within.Reads as model-within-reads
 
 -- src/lib.rt:24:57
 desk-requires : tie.Need-desk-requires

@@ -1,9 +1,9 @@
 -- Kinds and sets as states: which state a kind and a set stand for, which sets are collected for the entries and for what follows a state, and that a buffer that
 -- has no room for one more state of the model shows that the model has more.
-use mathlib.Core.Path.{_≡_, refl, sym, ap, ap₂, subst, _∙_}
+use mathlib.Core.Path.{_≡_, refl, sym, ap, subst, _∙_}
 use mathlib.Core.Logic.{_⊎_, inl, inr}
 use mathlib.Core.Bool.{Bool, true, false, _&&_}
-use mathlib.Core.List.{List, [], _∷_, List·Memᴰ, List·Memᴰ·head, List·Memᴰ·tail, List·Memᴰ·cases-cons, List·Memᴰ·not-nil, Memᴰ·cast}
+use mathlib.Core.List.{List, _∷_, List·Memᴰ, List·Memᴰ·cases-cons, Memᴰ·cast}
 use Prim.Native.Nat.{ℕ, zero, suc, _+_, _*_, _/_, _%_, _^_, _≤_, _<_}
 use native.Mathlib.Decide.{decLt}
 use native.Mathlib.Omega.{arith}
@@ -14,7 +14,7 @@ use Rattle.files.specs.Basics.Binary.{value}
 use Rattle.files.specs.Basics.Least.{least-before}
 use Rattle.files.specs.Basics.Queue.{Once, room}
 use Rattle.files.specs.Basics.Tables.{table, table-e, length-table}
-use Rattle.files.specs.Basics.Tests.{same-test, one, one-le, T-eq, eq-eqb, and-l, and-r, and-i, any, any-i, any-e}
+use Rattle.files.specs.Basics.Tests.{same-test, one, one-le, eq-eqb, and-l, and-r, and-i, any, any-i, any-e}
 use Rattle.files.specs.Interface.{Interface, provides}
 use Rattle.files.specs.Interface.Laws.{in-set-small}
 use Rattle.files.specs.Property.{Row, Property}
@@ -22,7 +22,7 @@ use Rattle.maximal.specs.Collected.{or-count, supports-of}
 use Rattle.maximal.specs.Collected.Laws.{supports-are}
 use Rattle.maximal.specs.Charting.{flag-of, state-of, stored, kind-at, set-at, same-state, found, Known, Holds, Crowded}
 use Rattle.maximal.specs.Masks.{member, rows, asked-of}
-use Rattle.maximal.specs.Masks.Laws.{member-one, member-lt, value-lt, value-rows, rows-value, asked-lt, member-asked}
+use Rattle.maximal.specs.Masks.Laws.{member-one, member-lt, value-rows, rows-value, asked-lt, member-asked}
 use Rattle.maximal.specs.Model.{Rows, Minimal, root, asked, State, Entry, Next, Reached, is-entry, is-label, is-next, states}
 use Rattle.maximal.specs.Model.Computed.{asked-row, entry-e, entry-i, next-e, next-i, label-e, states-are}
 use Rattle.maximal.specs.Model.Maximal.{reached-provided}

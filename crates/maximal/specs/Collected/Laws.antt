@@ -1,7 +1,7 @@
 -- What is collected for a set o of rows, where as many operands may be named as there are or-rows, are its minimal supports: each leaf is a support, each minimal support
 -- is reached and kept, and no set of the list is within another. The list has at most 2 ^ k sets.
 use mathlib.Core.Path.{_≡_, refl, sym, ap, subst, _∙_}
-use mathlib.Core.Logic.{_⊎_, inl, inr, _↔_}
+use mathlib.Core.Logic.{_⊎_, inl, inr, ⊎-elim, _↔_}
 use mathlib.Core.Bool.{Bool, true, false, not, cond, _||_}
 use mathlib.Core.List.{List, [], _∷_, _++_, List·Memᴰ, List·Memᴰ·head, List·Memᴰ·not-nil, List·Memᴰ·eq-of-singleton, List·Memᴰ·append-cases, Memᴰ·cast, Memᴰ·append-left, Memᴰ·append-right}
 use Prim.Native.Nat.{ℕ, _+_, _^_, _≤_, _<_}
@@ -23,9 +23,9 @@ use Rattle.maximal.specs.Model.{Rows, Within, fulfilled, Support, Minima
 use Rattle.maximal.specs.Model.Supports.{length-tab, supported-e, supported-i, minimal-inside}
 use Rattle.maximal.specs.Masks.{member, rows, within, apart, joins, completion, untrue-at, untrue}
 use Rattle.maximal.specs.Masks.Laws.{member-or, member-one, member-lt, members-eq, within-e, within-i, apart-e, apart-i, value-lt, value-member, member-untrue, untrue-lt, has-rows, rows-member, rows-value, completion-lt, completion-contains, completion-joins, completion-least}
-use Rattle.maximal.specs.Collected.{unsettled, first-open, operand-a, operand-b, inserted, collected, or-count, supports-of}
+use Rattle.maximal.specs.Collected.{unsettled, first-open, operand-a, operand-b, first-named, second-named, inserted, collected, or-count, supports-of}
 use Rattle.maximal.specs.Collected.Search.{open-at, collected-ind, collected-incomparable, collected-length, collected-once}
-use Rattle.maximal.specs.Collected.Rows.{tally-falls, unsettled-e, unsettled-less, unsettled-either, joined, fulfilled-true, fulfils, open-row}
+use Rattle.maximal.specs.Collected.Rows.{tally-falls, unsettled-e, unsettled-less, unsettled-either, joined, fulfilled-true, fulfils, as-named, open-row, named-rows}
 
 -- ---- leaves are supports, and minimal supports are reached and kept
 
@@ -121,6 +121,14 @@ module _ (P : List Row) (wf : Property P) (m : ℕ) (f : Bool) (o : ℕ) (in-row
           pick (inl e) v = T-not (member u (v .0)) (v .3) (subst (λ (i : ℕ). T (member u i)) (e ∙ ap (λ (y : Row). (row-rec y) .second) (v .2)) has-c)
           pick (inr e) v = T-not (member u (v .1)) (v .4) (subst (λ (i : ℕ). T (member u i)) (e ∙ ap (λ (y : Row). (row-rec y) .third) (v .2)) has-c)
 
+  named-falls : (s : ℕ) → first-open P s < n
+      → (left-of (bitOr s (completion P (2 ^ first-named P (first-open P s)))) < left-of s) × (left-of (bitOr s (completion P (2 ^ second-named P (first-open P s)))) < left-of s)
+  named-falls s h =
+      let y = open-row P wf s h in
+      let a = left-falls s (operand-a P (first-open P s)) h (inl refl) (y .4) in
+      let b = left-falls s (operand-b P (first-open P s)) h (inr refl) (y .5) in
+      as-named P (first-open P s) (λ i j. (left-of (bitOr s (completion P (2 ^ i))) < left-of s) × (left-of (bitOr s (completion P (2 ^ j))) < left-of s)) (a, b) (b, a)
+
   -- ---- supports
 
   AllSupports : List ℕ → Type 0
@@ -143,8 +151,8 @@ module _ (P : List Row) (wf : Property P) (m : ℕ) (f : Bool) (o : ℕ) (in-row
   branch-supports = collected-ind P (λ k s x A B. Branch s x → AllSupports A → AllSupports B)
       (λ k s x A t b g. g) (λ k s x A t e b g. inserted-supports A s (leaf-support s x b t e) g) (λ s x A h b g. g)
       (λ k s x A B C t h p q b g.
-      let y = open-row P wf s h in
-      q (forbidden (bitOr s (completion P (2 ^ operand-b P (first-open P s)))) x (operand-a P (first-open P s)) (y .4) (named s x (operand-b P (first-open P s)) (y .5) b)) (p (named s x (operand-a P (first-open P s)) (y .4) b) g))
+      let y = named-rows P wf s h in
+      q (forbidden (bitOr s (completion P (2 ^ second-named P (first-open P s)))) x (first-named P (first-open P s)) (y .0) (named s x (second-named P (first-open P s)) (y .1) b)) (p (named s x (first-named P (first-open P s)) (y .0) b) g))
 
   -- ---- a minimal support
 
@@ -207,36 +215,42 @@ module _ (P : List Row) (wf : Property P) (m : ℕ) (f : Bool) (o : ℕ) (in-row
         (λ s x A h b g. record {
           supports = g;
           keeps = λ i. i;
-          finds = λ sub clear l. absurd (omega (arith, left-falls s (operand-a P (first-open P s)) h (inl refl) (open-row P wf s h .4)));
+          finds = λ sub clear l. absurd (omega (arith, named-falls s h .0));
         })
         (λ k s x A B C t h p q b g.
-        let a = operand-a P (first-open P s) in
-        let c = operand-b P (first-open P s) in
-        let y = open-row P wf s h in
-        let u = p (named s x a (y .4) b) g in
-        let v = q (forbidden (bitOr s (completion P (2 ^ c))) x a (y .4) (named s x c (y .5) b)) (u .supports) in record {
+        let a = first-named P (first-open P s) in
+        let c = second-named P (first-open P s) in
+        let y = named-rows P wf s h in
+        let d = named-falls s h in
+        let u = p (named s x a (y .0) b) g in
+        let v = q (forbidden (bitOr s (completion P (2 ^ c))) x a (y .0) (named s x c (y .1) b)) (u .supports) in record {
           supports = v .supports;
           keeps = λ i. v .keeps (u .keeps i);
           finds = λ sub clear l. settle (List·Memᴰ M C) s sub h
-              (λ k. v .keeps (u .finds (has-named s a sub k) clear (omega (arith, left-falls s a h (inl refl) (y .4)))))
-              (λ without k. v .finds (has-named s c sub k) (shut x a clear without) (omega (arith, left-falls s c h (inr refl) (y .5))));
+              (λ k. v .keeps (u .finds (has-named s a sub k) clear (omega (arith, d .0))))
+              (λ without k. v .finds (has-named s c sub k) (shut x a clear without) (omega (arith, d .1)));
         })
       where
-        -- the support has an operand of the open row, the first or else the second
+        -- the support has an operand of the open row, the one that is named first or else the other
         settle : (X : Type 0) (s : ℕ) → ((r : ℕ) → T (member s r) → T (member M r)) → first-open P s < n
-            → (T (member M (operand-a P (first-open P s))) → X) → (T (not (member M (operand-a P (first-open P s)))) → T (member M (operand-b P (first-open P s))) → X) → X
-        settle X s sub h by-a by-b = go (decide (member M (operand-a P (first-open P s))))
+            → (T (member M (first-named P (first-open P s))) → X) → (T (not (member M (first-named P (first-open P s)))) → T (member M (second-named P (first-open P s))) → X) → X
+        settle X s sub h by-first by-second = go (decide (member M (first-named P (first-open P s))))
           where
-            one-of : T (member M (operand-a P (first-open P s)) || member M (operand-b P (first-open P s)))
-            one-of = subst (λ (y : Row). T (fulfilled y m f (member M))) (open-row P wf s h .1) (fulfils-row (first-open P s) h (sub (first-open P s) (open-row P wf s h .0)))
+            one-of : T (member M (first-named P (first-open P s))) ⊎ T (member M (second-named P (first-open P s)))
+            one-of =
+                let a = operand-a P (first-open P s) in
+                let b = operand-b P (first-open P s) in
+                let y = open-row P wf s h in
+                let k = or-e (member M a) (member M b) (subst (λ (x : Row). T (fulfilled x m f (member M))) (y .1) (fulfils-row (first-open P s) h (sub (first-open P s) (y .0)))) in
+                as-named P (first-open P s) (λ i j. T (member M i) ⊎ T (member M j)) k (⊎-elim inr inl k)
 
-            go : T (member M (operand-a P (first-open P s))) ⊎ T (not (member M (operand-a P (first-open P s)))) → X
-            go (inl k) = by-a k
-            go (inr k) = pick (or-e (member M (operand-a P (first-open P s))) (member M (operand-b P (first-open P s))) one-of)
+            go : T (member M (first-named P (first-open P s))) ⊎ T (not (member M (first-named P (first-open P s)))) → X
+            go (inl k) = by-first k
+            go (inr k) = pick one-of
               where
-                pick : T (member M (operand-a P (first-open P s))) ⊎ T (member M (operand-b P (first-open P s))) → X
-                pick (inl i) = absurd (T-not (member M (operand-a P (first-open P s))) k i)
-                pick (inr i) = by-b k i
+                pick : T (member M (first-named P (first-open P s))) ⊎ T (member M (second-named P (first-open P s))) → X
+                pick (inl i) = absurd (T-not (member M (first-named P (first-open P s))) k i)
+                pick (inr i) = by-second k i
 
         shut : (x a : ℕ) → ((r : ℕ) → T (member x r) → T (member M r) → ⊥) → T (not (member M a)) → (r : ℕ) → T (member (bitOr x (2 ^ a)) r) → T (member M r) → ⊥
         shut x a clear without r t k = go (or-e (member x r) (member (2 ^ a) r) (subst T (member-or x (2 ^ a) r) t))

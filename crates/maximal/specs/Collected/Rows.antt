@@ -1,9 +1,9 @@
 -- Rows, case by case: or-rows that a set leaves unsettled, what "and" rows ask for, rows that are untrue for their own sake, and the open row with its operands.
 use mathlib.Core.Path.{_≡_, refl, sym, ap, subst, _∙_}
 use mathlib.Core.Logic.{_⊎_, inl, inr}
-use mathlib.Core.Bool.{Bool, true, false, not, _||_}
+use mathlib.Core.Bool.{Bool, true, false, not, cond, _||_}
 use mathlib.Core.List.{List}
-use Prim.Native.Nat.{ℕ, zero, suc, _≤_, _<_}
+use Prim.Native.Nat.{ℕ, zero, suc, _^_, _≤_, _<_}
 use native.Mathlib.Nat.{eq-or-lt-of-le}
 use native.Mathlib.Omega.{arith}
 use lib.Dec.{T, T-not, not-T, eqb, eqb→eq, ltb, ltb→lt}
@@ -15,8 +15,8 @@ use Rattle.files.specs.Decode.{row-rec}
 use Rattle.files.specs.Decode.Properties.{tally-mono}
 use Rattle.files.specs.Property.{Row, always, never, returns, not-returns, in-method, not-in-method, both, either, box, row, names, Property, is-either}
 use Rattle.maximal.specs.Model.{fulfilled}
-use Rattle.maximal.specs.Masks.{member, joins}
-use Rattle.maximal.specs.Collected.{unsettled, first-open, operand-a, operand-b}
+use Rattle.maximal.specs.Masks.{member, joins, completion}
+use Rattle.maximal.specs.Collected.{unsettled, first-open, operand-a, operand-b, first-named, second-named}
 use Rattle.maximal.specs.Collected.Search.{open-at}
 
 -- ---- rows, case by case
@@ -122,6 +122,14 @@ fulfils n (box l b) m f s i t u j = t
 
 -- ---- the open row
 
+-- what the operands have in either order, they have in the order in which they are named
+pub as-named : (P : List Row) (r : ℕ) (Q : ℕ → ℕ → Type 0) → Q (operand-a P r) (operand-b P r) → Q (operand-b P r) (operand-a P r) → Q (first-named P r) (second-named P r)
+as-named P r Q x y = go (member (completion P (2 ^ operand-a P r)) (operand-b P r))
+  where
+    go : (t : Bool) → Q (cond t (operand-b P r) (operand-a P r)) (cond t (operand-a P r) (operand-b P r))
+    go true = y
+    go false = x
+
 module _ (P : List Row) (wf : Property P) where
   -- the operands of an open row
   pub open-row : (s : ℕ) → first-open P s < length P → T (member s (first-open P s)) × (row P (first-open P s) ≡ either (operand-a P (first-open P s)) (operand-b P (first-open P s)))
@@ -141,3 +149,7 @@ module _ (P : List Row) (wf : Property P) where
         omega (arith, ea, ltb→lt (u .0) (length P) (and-l (ltb (u .0) (length P)) (ltb (u .1) (length P)) w)),
         omega (arith, eb, ltb→lt (u .1) (length P) (and-r (ltb (u .0) (length P)) (ltb (u .1) (length P)) w)),
       )
+
+  -- the two that are named are rows
+  pub named-rows : (s : ℕ) → first-open P s < length P → (first-named P (first-open P s) < length P) × (second-named P (first-open P s) < length P)
+  named-rows s h = let y = open-row s h in as-named P (first-open P s) (λ a b. (a < length P) × (b < length P)) (y .4, y .5) (y .5, y .4)

@@ -17,7 +17,7 @@ use Rattle.files.specs.Basics.Tables.{tally}
 use Rattle.files.specs.Basics.Tests.{eq-eqb, any, any-i}
 use Rattle.files.specs.Property.{Row, row, is-either}
 use Rattle.maximal.specs.Masks.{member, within, apart, completion, untrue}
-use Rattle.maximal.specs.Collected.{unsettled, first-open, operand-a, operand-b, inserted, collected, or-count, supports-of}
+use Rattle.maximal.specs.Collected.{unsettled, first-open, first-named, second-named, inserted, collected, or-count, supports-of}
 
 pub or-count-is : (P : List Row) → or-count P ≡ tally (λ r. is-either (row P r)) (length P)
 unfolding or-count
@@ -63,8 +63,8 @@ module _ (P : List Row) (s x : ℕ) (A : List ℕ) where
 
   pub collected-split : (k : ℕ) → apart s x ≡ true → eqb (first-open P s) (length P) ≡ false
       → collected P (suc k) s x A
-      ≡ collected P k (bitOr s (completion P (2 ^ operand-b P (first-open P s)))) (bitOr x (2 ^ operand-a P (first-open P s)))
-      (collected P k (bitOr s (completion P (2 ^ operand-a P (first-open P s)))) x A)
+      ≡ collected P k (bitOr s (completion P (2 ^ second-named P (first-open P s)))) (bitOr x (2 ^ first-named P (first-open P s)))
+      (collected P k (bitOr s (completion P (2 ^ first-named P (first-open P s)))) x A)
   unfolding collected
   collected-split k e d = rw (e, d)
 
@@ -78,8 +78,8 @@ module _ (P : List Row) (Q : ℕ → ℕ → ℕ → List ℕ → List ℕ → T
     (leaf : (k s x : ℕ) (A : List ℕ) → T (apart s x) → first-open P s ≡ length P → Q k s x A (inserted A s))
     (last : (s x : ℕ) (A : List ℕ) → first-open P s < length P → Q 0 s x A A)
     (split : (k s x : ℕ) (A B C : List ℕ) → T (apart s x) → first-open P s < length P
-    → Q k (bitOr s (completion P (2 ^ operand-a P (first-open P s)))) x A B
-    → Q k (bitOr s (completion P (2 ^ operand-b P (first-open P s)))) (bitOr x (2 ^ operand-a P (first-open P s))) B C → Q (suc k) s x A C)
+    → Q k (bitOr s (completion P (2 ^ first-named P (first-open P s)))) x A B
+    → Q k (bitOr s (completion P (2 ^ second-named P (first-open P s)))) (bitOr x (2 ^ first-named P (first-open P s))) B C → Q (suc k) s x A C)
   where
     open-lt : (s : ℕ) → eqb (first-open P s) (length P) ≡ false → first-open P s < length P
     open-lt s e = go (eq-or-lt-of-le (open-le P s))
@@ -97,17 +97,17 @@ module _ (P : List Row) (Q : ℕ → ℕ → ℕ → List ℕ → List ℕ → T
         go true e false d = last s x A (open-lt s d)
         go false e c d = cut 0 s x A (subst (λ (b : Bool). T (not b)) (sym e) tt)
     collected-ind (suc k) s x A =
-        go (apart s x) refl (eqb (first-open P s) (length P)) refl (collected-ind k (bitOr s (completion P (2 ^ operand-a P (first-open P s)))) x A)
-        (collected-ind k (bitOr s (completion P (2 ^ operand-b P (first-open P s)))) (bitOr x (2 ^ operand-a P (first-open P s))) (collected P k (bitOr s (completion P (2 ^ operand-a P (first-open P s)))) x A))
+        go (apart s x) refl (eqb (first-open P s) (length P)) refl (collected-ind k (bitOr s (completion P (2 ^ first-named P (first-open P s)))) x A)
+        (collected-ind k (bitOr s (completion P (2 ^ second-named P (first-open P s)))) (bitOr x (2 ^ first-named P (first-open P s))) (collected P k (bitOr s (completion P (2 ^ first-named P (first-open P s)))) x A))
       where
         first : List ℕ
-        first = collected P k (bitOr s (completion P (2 ^ operand-a P (first-open P s)))) x A
+        first = collected P k (bitOr s (completion P (2 ^ first-named P (first-open P s)))) x A
 
         second : List ℕ
-        second = collected P k (bitOr s (completion P (2 ^ operand-b P (first-open P s)))) (bitOr x (2 ^ operand-a P (first-open P s))) first
+        second = collected P k (bitOr s (completion P (2 ^ second-named P (first-open P s)))) (bitOr x (2 ^ first-named P (first-open P s))) first
 
-        go : (b : Bool) → apart s x ≡ b → (c : Bool) → eqb (first-open P s) (length P) ≡ c → Q k (bitOr s (completion P (2 ^ operand-a P (first-open P s)))) x A first
-            → Q k (bitOr s (completion P (2 ^ operand-b P (first-open P s)))) (bitOr x (2 ^ operand-a P (first-open P s))) first second → Q (suc k) s x A (cond b (cond c (inserted A s) second) A)
+        go : (b : Bool) → apart s x ≡ b → (c : Bool) → eqb (first-open P s) (length P) ≡ c → Q k (bitOr s (completion P (2 ^ first-named P (first-open P s)))) x A first
+            → Q k (bitOr s (completion P (2 ^ second-named P (first-open P s)))) (bitOr x (2 ^ first-named P (first-open P s))) first second → Q (suc k) s x A (cond b (cond c (inserted A s) second) A)
         go true e true d p q = leaf (suc k) s x A (subst T (sym e) tt) (eqb→eq (first-open P s) (length P) (subst T (sym d) tt))
         go true e false d p q = split k s x A first second (subst T (sym e) tt) (open-lt s d) p q
         go false e c d p q = cut (suc k) s x A (subst (λ (b : Bool). T (not b)) (sym e) tt)

@@ -14,7 +14,7 @@ use lib.ListN.{length}
 use Rattle.files.specs.Basics.Binary.{value, value-one}
 use Rattle.files.specs.Basics.Closure.{closed-ind, closed-rule}
 use Rattle.files.specs.Basics.Lists.{span, span-i}
-use Rattle.files.specs.Basics.Tests.{same-test, one, one-le, T-eq, same, eq-eqb, and-l, and-r, and-i, or-e, or-l, or-r, or-map, any, any-i, any-e, any-map}
+use Rattle.files.specs.Basics.Tests.{same-test, one, one-le, same, eq-eqb, and-l, and-r, and-i, or-e, or-l, or-r, or-map, any, any-i, any-e, any-map}
 use Rattle.files.specs.Property.{Row, row}
 use Rattle.maximal.specs.Model.{Rows, has, asked}
 use Rattle.maximal.specs.Model.Supports.{tab, length-tab, has-tab, has-lt}

@@ -1,12 +1,12 @@
 -- The theorem of the maximal model: it simulates a flow graph of the interface, of any size, exactly where the graph satisfies the property.
 use mathlib.Core.Path.{_≡_, refl, sym, ap, subst, subst₂, _∙_}
 use mathlib.Core.Logic.{_↔_}
-use mathlib.Core.Bool.{Bool, true}
+use mathlib.Core.Bool.{Bool}
 use mathlib.Core.List.{List, List·Memᴰ}
 use Prim.Native.Nat.{ℕ, zero, suc, _<_}
 use lib.Dec.{T, eqb→eq, ltb→lt, ltb}
 use lib.ListN.{length}
-use Rattle.files.specs.Basics.Tests.{and-l, and-r, and-map, or-map, all, eq-eqb}
+use Rattle.files.specs.Basics.Tests.{and-l, and-r, and-map, or-map, eq-eqb}
 use Rattle.files.specs.Graph.{Graph, Edge, size, node, Flow}
 use Rattle.files.specs.Interface.{Interface, provides, Of}
 use Rattle.files.specs.Property.{Row, always, never, returns, not-returns, in-method, not-in-method, both, either, box, row, names, Property}

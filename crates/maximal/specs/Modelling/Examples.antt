@@ -5,7 +5,7 @@ use mathlib.Core.List.{List, [], _∷_}
 use Prim.Native.Nat.{ℕ, _≤_}
 use native.Mathlib.Omega.{arith}
 use lib.ListN.{length}
-use Rattle.files.specs.Course.{bytes, gr, one-one-file, one-one, one-none-file, one-none, p1-file, p1-rows, or-file, or-rows, false-file, false-rows, p1-bytes, p2-bytes, p1-graph, p2-graph}
+use Rattle.files.specs.Course.{gr, one-one-file, one-one, one-none-file, one-none, p1-file, p1-rows, or-file, or-rows, false-file, false-rows, p1-bytes, p2-bytes, p1-graph, p2-graph}
 use Rattle.files.specs.Decode.Examples.{one-one-is, one-none-is, p1-is, or-is, false-is, p1-bytes-are, p2-bytes-are, p3-bytes-are}
 use Rattle.files.specs.Limits.{desk}
 use Rattle.files.specs.Outcome.{TooLarge, says}

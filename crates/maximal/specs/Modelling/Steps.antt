@@ -10,8 +10,8 @@ use Rattle.files.specs.Checking.{checked}
 use Rattle.files.specs.Decode.{decode-interface, decode-property}
 use Rattle.files.specs.Graph.{Graph}
 use Rattle.files.specs.Limits.{desk}
-use Rattle.files.specs.Outcome.{Said, Outcome, refuses, Answer, Answers, Does, refused-answer, Check, whole-check, out-check, file-checks, first-refusal, short, too-large, graph-said, refusal-at}
-use Rattle.files.specs.Outcome.Steps.{whole-refuses, whole-passes, answers-same, answers-file-refused, answers-file-passed, Low, file-low, out-low, does-left, does-cleared}
+use Rattle.files.specs.Outcome.{Said, Outcome, Answer, Answers, Does, refused-answer, Check, whole-check, out-check, file-checks, first-refusal, short, too-large, graph-said, refusal-at}
+use Rattle.files.specs.Outcome.Steps.{whole-refuses, whole-passes, answers-file-refused, answers-file-passed, Low, file-low, out-low, does-left, does-cleared}
 use Rattle.files.specs.Refusal.{property, interface}
 use Rattle.files.specs.declared.check.Checked.{Checked}
 use Rattle.files.specs.declared.check.Checked.the-variants.{Accepted, Refused}

@@ -28,7 +28,7 @@ use Rattle.runs.specs.Summary.{Place, clean}
 use Rattle.runs.specs.Summary.Places.{not-clean-bad, clean-no-bad}
 use Rattle.runs.specs.Summary.Trails.{Rec, trail-rec-bytes, Where, before, here, end, is-bad, leaving, trail}
 use Rattle.runs.specs.Summary.Trails.Laws.{leaves-e, leaves-i, leaving-return, path-iff-bad, trail-to, trail-fewest, trail-first}
-use Rattle.runs.specs.Searching.{item-end, seen, entered, places-seen, Sooner, edge-at, outgoing, starts-of, Searching, Here, May, Looked, Turn, Says}
+use Rattle.runs.specs.Searching.{item-end, places-seen, Sooner, edge-at, outgoing, starts-of, Searching, Here, May, Looked, Turn, Says}
 use Rattle.runs.specs.Searching.Outgoing.{outgoing-ascends, outgoing-is, outgoing-leaves, leaves-outgoing, starts-ascend, starts-leave}
 use Rattle.runs.specs.Searching.Pushes.{one-record, same-size, places-most, few-by}
 

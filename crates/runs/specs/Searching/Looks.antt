@@ -10,7 +10,7 @@ use Rattle.files.specs.Basics.Order.{Ascends}
 use Rattle.files.specs.Graph.{Graph, Edge, size, Flow}
 use Rattle.files.specs.Rules.{Monitor, Event}
 use Rattle.runs.specs.Summary.{Place}
-use Rattle.runs.specs.Summary.Trails.{Rec, Where, end, leaving}
+use Rattle.runs.specs.Summary.Trails.{Rec, Where, leaving}
 use Rattle.runs.specs.Summary.Trails.Laws.{Leaves, steps-on, goes-in, goes-by, leaves-i}
 use Rattle.runs.specs.Searching.{item-end, seen, pushed, pushed-tail, Sooner, Searching, Leaving, Here, May, LookedTo}
 use Rattle.runs.specs.Searching.Pushes.{looked, tail-fits, pushed-end, pushed-longer}

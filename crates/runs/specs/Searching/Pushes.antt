@@ -23,7 +23,7 @@ use Rattle.runs.specs.Forward.{Searched, Met, fewer-due, found-more}
 use Rattle.runs.specs.Prepared.Files.{tables-kept}
 use Rattle.runs.specs.Summary.{Place}
 use Rattle.runs.specs.Summary.Trails.{Rec, trail-rec-bytes, Where, before, here, end, leaving}
-use Rattle.runs.specs.Searching.{item, parent, item-end, seen, entered, places-seen, with-item, pushed, pushed-tail, Sooner, Searching, Leaving}
+use Rattle.runs.specs.Searching.{item, parent, item-end, seen, places-seen, with-item, pushed, pushed-tail, Sooner, Searching, Leaving}
 
 -- a record is known by its bytes
 pub one-record : (r s : Rec) → trail-rec-bytes r ≡ trail-rec-bytes s → r ≡ s

@@ -24,7 +24,7 @@ use Rattle.maximal.specs.Masks.Laws.{member-or, members-eq}
 use Rattle.runs.specs.Prepared.Files.{tables-kept}
 use Rattle.runs.specs.Runs.{meth}
 use Rattle.runs.specs.Summary.{Inside}
-use Rattle.runs.specs.Worklist.{point, reach, waits, sums, queue, reached, grown, queued, added, added-tail, Queued, Holding, Grew}
+use Rattle.runs.specs.Worklist.{point, reach, waits, queue, reached, grown, queued, added, added-tail, Queued, Holding, Grew}
 
 -- ---- sets and tallies
 

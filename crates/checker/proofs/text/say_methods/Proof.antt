@@ -1,6 +1,5 @@
 use native.Mathlib.Omega.{arith}
 use Prim.Native.Nat.{_≤_, _-_}
-use lib.ListN.{length}
 use borrow.Author.Needs.{needs}
 use Rattle.checker.proofs.text.say_methods.Statement.{statement}
 use Rattle.checker.proofs.text.say_methods.Tie as tie

@@ -7,10 +7,6 @@ use Rattle.files.proofs.CheckLaws.{one-ragged, one-whole}
 use borrow.Author.Needs.{needs}
 use Rattle.files.proofs.check.check.Statement.{statement}
 use Rattle.files.proofs.check.check.Tie as tie
-use Rattle.files.proofs.check.check.Reads as reads
-use Rattle.files.proofs.check.check.Lts as lts
-use Rattle.files.proofs.check.from_two.Reads as from-two-reads
-use Rattle.files.proofs.refusal.Refusal.at.Reads as at-reads
 
 -- src/check.rt:121:9
 from-two-requires : tie.Need-from-two-requires

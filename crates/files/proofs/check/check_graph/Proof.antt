@@ -1,9 +1,6 @@
 use borrow.Author.Needs.{needs}
 use Rattle.files.proofs.check.check_graph.Statement.{statement}
 use Rattle.files.proofs.check.check_graph.Tie as tie
-use Rattle.files.proofs.check.check_graph.Reads as reads
-use Rattle.files.proofs.check.check_graph.Lts as lts
-use Rattle.files.proofs.check.check.Reads as check-reads
 
 -- src/check.rt:130:5
 check-requires : tie.Need-check-requires

@@ -5,9 +5,6 @@ use Rattle.files.proofs.CheckLaws.{part-span, part-checked}
 use borrow.Author.Needs.{needs}
 use Rattle.files.proofs.check.check_graph_part.Statement.{statement}
 use Rattle.files.proofs.check.check_graph_part.Tie as tie
-use Rattle.files.proofs.check.check_graph_part.Reads as reads
-use Rattle.files.proofs.check.check_graph_part.Lts as lts
-use Rattle.files.proofs.check.from_two.Reads as from-two-reads
 
 -- src/check.rt:166:17
 mul-start : tie.Need-mul-start

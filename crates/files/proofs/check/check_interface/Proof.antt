@@ -1,9 +1,6 @@
 use borrow.Author.Needs.{needs}
 use Rattle.files.proofs.check.check_interface.Statement.{statement}
 use Rattle.files.proofs.check.check_interface.Tie as tie
-use Rattle.files.proofs.check.check_interface.Reads as reads
-use Rattle.files.proofs.check.check_interface.Lts as lts
-use Rattle.files.proofs.check.check.Reads as check-reads
 
 -- src/check.rt:151:5
 check-requires : tie.Need-check-requires

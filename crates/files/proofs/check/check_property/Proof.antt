@@ -1,9 +1,6 @@
 use borrow.Author.Needs.{needs}
 use Rattle.files.proofs.check.check_property.Statement.{statement}
 use Rattle.files.proofs.check.check_property.Tie as tie
-use Rattle.files.proofs.check.check_property.Reads as reads
-use Rattle.files.proofs.check.check_property.Lts as lts
-use Rattle.files.proofs.check.check.Reads as check-reads
 
 -- src/check.rt:137:5
 check-requires : tie.Need-check-requires

@@ -1,9 +1,6 @@
 use borrow.Author.Needs.{needs}
 use Rattle.files.proofs.check.check_rules.Statement.{statement}
 use Rattle.files.proofs.check.check_rules.Tie as tie
-use Rattle.files.proofs.check.check_rules.Reads as reads
-use Rattle.files.proofs.check.check_rules.Lts as lts
-use Rattle.files.proofs.check.check.Reads as check-reads
 
 -- src/check.rt:144:5
 check-requires : tie.Need-check-requires

@@ -9,13 +9,6 @@ use Rattle.files.proofs.CheckLaws.{counted-le, missing-is, five-over, s
 use borrow.Author.Needs.{needs}
 use Rattle.files.proofs.check.from_five.Statement.{statement}
 use Rattle.files.proofs.check.from_five.Tie as tie
-use Rattle.files.proofs.check.from_five.Reads as reads
-use Rattle.files.proofs.check.from_five.Lts as lts
-use Rattle.files.proofs.scan.count.Reads as count-reads
-use Rattle.files.proofs.check.from_seven.Reads as from-seven-reads
-use Rattle.files.proofs.check.missing.Reads as missing-reads
-use Rattle.files.proofs.check.over.Reads as over-reads
-use Rattle.files.proofs.refusal.Refusal.at.Reads as at-reads
 
 -- what the tests of numbers 5 and 6 said, of the records
 over-said : (c : tie.After-over) → over (c .before .before .before .args .limits) (kind-of (c .before .before .before .args .kind)) (c .before .before .before .args .records .now) ≡ c .over .result

@@ -9,11 +9,6 @@ use Rattle.files.proofs.CheckLaws.{bound-is, bound-fits, seven-scan}
 use borrow.Author.Needs.{needs}
 use Rattle.files.proofs.check.from_seven.Statement.{statement}
 use Rattle.files.proofs.check.from_seven.Tie as tie
-use Rattle.files.proofs.check.from_seven.Reads as reads
-use Rattle.files.proofs.check.from_seven.Lts as lts
-use Rattle.files.proofs.check.bound.Reads as bound-reads
-use Rattle.files.proofs.check.nodes.Reads as nodes-reads
-use Rattle.files.proofs.scan.scan.Reads as scan-reads
 
 -- what the scan found decides the steps from number 7 on
 abbrev Said : tie.After-scan → Type 0

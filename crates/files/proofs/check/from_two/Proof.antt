@@ -5,10 +5,6 @@ use Rattle.files.proofs.CheckLaws.{two-scan}
 use borrow.Author.Needs.{needs}
 use Rattle.files.proofs.check.from_two.Statement.{statement}
 use Rattle.files.proofs.check.from_two.Tie as tie
-use Rattle.files.proofs.check.from_two.Reads as reads
-use Rattle.files.proofs.check.from_two.Lts as lts
-use Rattle.files.proofs.check.from_five.Reads as from-five-reads
-use Rattle.files.proofs.scan.scan.Reads as scan-reads
 
 -- what the scan found decides the steps from number 2 on
 abbrev Said : tie.After-scan → Type 0

@@ -2,8 +2,6 @@ use mathlib.Core.Path.{refl}
 use borrow.Author.Needs.{needs}
 use Rattle.files.proofs.check.missing.Statement.{statement}
 use Rattle.files.proofs.check.missing.Tie as tie
-use Rattle.files.proofs.check.missing.Reads as reads
-use Rattle.files.proofs.check.missing.Lts as lts
 
 -- src/check.rt:66:28
 enum-told : tie.Need-enum-told

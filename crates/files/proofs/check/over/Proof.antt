@@ -3,8 +3,6 @@ use native.Mathlib.Omega.{arith}
 use borrow.Author.Needs.{needs}
 use Rattle.files.proofs.check.over.Statement.{statement}
 use Rattle.files.proofs.check.over.Tie as tie
-use Rattle.files.proofs.check.over.Reads as reads
-use Rattle.files.proofs.check.over.Lts as lts
 
 -- src/check.rt:54:29
 enum-told : tie.Need-enum-told

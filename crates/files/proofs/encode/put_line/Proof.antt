@@ -10,8 +10,6 @@ use Rattle.files.specs.Line.{relation-line}
 use Rattle.files.specs.Line.Laws.{line-size, line-byte}
 use Rattle.files.proofs.encode.put_line.Statement.{statement}
 use Rattle.files.proofs.encode.put_line.Tie as tie
-use Rattle.files.proofs.encode.put_line.Reads as reads
-use Rattle.files.proofs.encode.put_line.Lts as lts
 
 abbrev Inv-loop : tie.InvT-loop
 Inv-loop out₀ g rows base at i₀ out i = (i ≤ 32) × (length out ≡ length out₀) × (out ≡ paste out₀ (32 * g) (relation-line (has-bit rows base)) i)

@@ -1,8 +1,6 @@
 use Rattle.files.specs.Basics.Lexical.{before-three}
 use Rattle.files.proofs.offence.before3.Statement.{statement}
 use Rattle.files.proofs.offence.before3.Tie as tie
-use Rattle.files.proofs.offence.before3.Reads as reads
-use Rattle.files.proofs.offence.before3.Lts as lts
 
 -- src/offence.rt:28:1
 returns : tie.Need-returns

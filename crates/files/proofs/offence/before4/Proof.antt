@@ -1,8 +1,6 @@
 use Rattle.files.specs.Basics.Lexical.{before-four}
 use Rattle.files.proofs.offence.before4.Statement.{statement}
 use Rattle.files.proofs.offence.before4.Tie as tie
-use Rattle.files.proofs.offence.before4.Reads as reads
-use Rattle.files.proofs.offence.before4.Lts as lts
 
 -- src/offence.rt:35:1
 returns : tie.Need-returns

@@ -1,14 +1,10 @@
 use Rattle.files.proofs.Tags.{no-crossing, crossing-as}
 use Rattle.files.specs.Checking.{crossing-of}
-use mathlib.Core.Path.{_≡_, refl, sym, ap, ap₂, _∙_}
+use mathlib.Core.Path.{refl, ap, _∙_}
 use borrow.Author.Tests.{lt-ltb, le-ltb}
 use borrow.Author.Needs.{needs}
 use Rattle.files.proofs.offence.crossing.Statement.{statement}
 use Rattle.files.proofs.offence.crossing.Tie as tie
-use Rattle.files.proofs.offence.crossing.Reads as reads
-use Rattle.files.proofs.offence.crossing.Lts as lts
-use Rattle.files.proofs.offence.method_of.Reads as method-of-reads
-use Rattle.files.proofs.parse.parse_edge.Reads as parse-edge-reads
 
 -- src/offence.rt:179:41
 parse-edge-requires : tie.Need-parse-edge-requires

@@ -6,12 +6,6 @@ use Rattle.files.proofs.Tags.{edges-as, rules-as}
 use borrow.Author.Needs.{needs}
 use Rattle.files.proofs.offence.disordered.Statement.{statement}
 use Rattle.files.proofs.offence.disordered.Tie as tie
-use Rattle.files.proofs.offence.disordered.Reads as reads
-use Rattle.files.proofs.offence.disordered.Lts as lts
-use Rattle.files.proofs.offence.edges_out.Reads as edges-out-reads
-use Rattle.files.proofs.offence.rules_out.Reads as rules-out-reads
-use Rattle.files.proofs.parse.parse_edge.Reads as parse-edge-reads
-use Rattle.files.proofs.parse.parse_rule.Reads as parse-rule-reads
 
 -- src/offence.rt:138:9
 returns : tie.Need-returns

@@ -5,9 +5,6 @@ use Prim.Native.Nat.{ℕ}
 use borrow.Author.Needs.{needs}
 use Rattle.files.proofs.offence.edge_before.Statement.{statement}
 use Rattle.files.proofs.offence.edge_before.Tie as tie
-use Rattle.files.proofs.offence.edge_before.Reads as reads
-use Rattle.files.proofs.offence.edge_before.Lts as lts
-use Rattle.files.proofs.parse.kind_at.Reads as kind-at-reads
 
 -- src/offence.rt:47:9
 returns : tie.Need-returns

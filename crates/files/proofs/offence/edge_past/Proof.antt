@@ -3,8 +3,6 @@ use mathlib.Core.Path.{refl}
 use borrow.Author.Needs.{needs}
 use Rattle.files.proofs.offence.edge_past.Statement.{statement}
 use Rattle.files.proofs.offence.edge_past.Tie as tie
-use Rattle.files.proofs.offence.edge_past.Reads as reads
-use Rattle.files.proofs.offence.edge_past.Lts as lts
 
 -- src/offence.rt:144:24
 enum-known-p : tie.Need-enum-known-p

@@ -4,9 +4,6 @@ use mathlib.Core.Bool.{not}
 use borrow.Author.Needs.{needs}
 use Rattle.files.proofs.offence.edges_out.Statement.{statement}
 use Rattle.files.proofs.offence.edges_out.Tie as tie
-use Rattle.files.proofs.offence.edges_out.Reads as reads
-use Rattle.files.proofs.offence.edges_out.Lts as lts
-use Rattle.files.proofs.offence.before3.Reads as before3-reads
 
 -- src/offence.rt:81:24
 enum-known-p : tie.Need-enum-known-p

@@ -1,10 +1,8 @@
 use Rattle.files.proofs.Tags.{no-or}
-use mathlib.Core.Path.{_≡_, refl, sym, ap, ap₂, _∙_}
+use mathlib.Core.Path.{refl}
 use borrow.Author.Needs.{needs}
 use Rattle.files.proofs.offence.is_or.Statement.{statement}
 use Rattle.files.proofs.offence.is_or.Tie as tie
-use Rattle.files.proofs.offence.is_or.Reads as reads
-use Rattle.files.proofs.offence.is_or.Lts as lts
 
 -- src/offence.rt:197:23
 enum-known-p : tie.Need-enum-known-p

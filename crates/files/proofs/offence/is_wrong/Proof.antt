@@ -3,8 +3,6 @@ use mathlib.Core.Path.{refl}
 use borrow.Author.Needs.{needs}
 use Rattle.files.proofs.offence.is_wrong.Statement.{statement}
 use Rattle.files.proofs.offence.is_wrong.Tie as tie
-use Rattle.files.proofs.offence.is_wrong.Reads as reads
-use Rattle.files.proofs.offence.is_wrong.Lts as lts
 
 enum-told : tie.Need-enum-told
 enum-told c = search needs

@@ -1,12 +1,9 @@
 use Rattle.files.proofs.Tags.{no-method, method-as}
 use Rattle.files.specs.Checking.{method-of}
-use mathlib.Core.Path.{_≡_, refl, sym, ap, ap₂, _∙_}
+use mathlib.Core.Path.{sym, ap, _∙_}
 use borrow.Author.Needs.{needs}
 use Rattle.files.proofs.offence.method_of.Statement.{statement}
 use Rattle.files.proofs.offence.method_of.Tie as tie
-use Rattle.files.proofs.offence.method_of.Reads as reads
-use Rattle.files.proofs.offence.method_of.Lts as lts
-use Rattle.files.proofs.parse.parse_node.Reads as parse-node-reads
 
 -- src/offence.rt:168:39
 parse-node-requires : tie.Need-parse-node-requires

@@ -2,10 +2,6 @@ use mathlib.Core.Path.{refl}
 use borrow.Author.Needs.{needs}
 use Rattle.files.proofs.offence.misplaced.Statement.{statement}
 use Rattle.files.proofs.offence.misplaced.Tie as tie
-use Rattle.files.proofs.offence.misplaced.Reads as reads
-use Rattle.files.proofs.offence.misplaced.Lts as lts
-use Rattle.files.proofs.offence.edge_before.Reads as edge-before-reads
-use Rattle.files.proofs.parse.kind_at.Reads as kind-at-reads
 
 -- src/offence.rt:57:9
 kind-at-requires : tie.Need-kind-at-requires

@@ -3,14 +3,6 @@ use Rattle.files.specs.Checking.Laws.{offends-is}
 use borrow.Author.Needs.{needs}
 use Rattle.files.proofs.offence.offends.Statement.{statement}
 use Rattle.files.proofs.offence.offends.Tie as tie
-use Rattle.files.proofs.offence.offends.Reads as reads
-use Rattle.files.proofs.offence.offends.Lts as lts
-use Rattle.files.proofs.offence.crossing.Reads as crossing-reads
-use Rattle.files.proofs.offence.disordered.Reads as disordered-reads
-use Rattle.files.proofs.offence.is_wrong.Reads as is-wrong-reads
-use Rattle.files.proofs.offence.misplaced.Reads as misplaced-reads
-use Rattle.files.proofs.offence.past.Reads as past-reads
-use Rattle.files.proofs.parse.parse.Reads as parse-reads
 
 -- src/offence.rt:225:9
 misplaced-requires : tie.Need-misplaced-requires

@@ -5,12 +5,6 @@ use Rattle.files.proofs.Tags.{edge-past-as, row-past-as}
 use borrow.Author.Needs.{needs}
 use Rattle.files.proofs.offence.past.Statement.{statement}
 use Rattle.files.proofs.offence.past.Tie as tie
-use Rattle.files.proofs.offence.past.Reads as reads
-use Rattle.files.proofs.offence.past.Lts as lts
-use Rattle.files.proofs.offence.edge_past.Reads as edge-past-reads
-use Rattle.files.proofs.offence.row_past.Reads as row-past-reads
-use Rattle.files.proofs.parse.parse_edge.Reads as parse-edge-reads
-use Rattle.files.proofs.parse.parse_row.Reads as parse-row-reads
 
 -- src/offence.rt:174:9
 parse-edge-requires : tie.Need-parse-edge-requires

@@ -4,9 +4,6 @@ use mathlib.Core.Bool.{not}
 use borrow.Author.Needs.{needs}
 use Rattle.files.proofs.offence.rules_out.Statement.{statement}
 use Rattle.files.proofs.offence.rules_out.Tie as tie
-use Rattle.files.proofs.offence.rules_out.Reads as reads
-use Rattle.files.proofs.offence.rules_out.Lts as lts
-use Rattle.files.proofs.offence.before4.Reads as before4-reads
 
 -- src/offence.rt:100:9
 enum-known-p : tie.Need-enum-known-p

@@ -4,9 +4,6 @@ use borrow.Author.Needs.{needs}
 use Rattle.files.proofs.parse.parse.Statement.{statement}
 use Rattle.files.proofs.parse.parse.Tie as tie
 use Rattle.files.proofs.parse.parse.Reads as reads
-use Rattle.files.proofs.parse.parse.Lts as lts
-use Rattle.files.proofs.parse.read.Reads as read-reads
-use Rattle.files.proofs.parse.reads.Reads as reads-reads
 
 -- src/parse.rt:129:9
 read-requires : tie.Need-read-requires

@@ -4,10 +4,6 @@ use Rattle.files.specs.Record.Laws.{as-kind, as-other}
 use borrow.Author.Needs.{needs}
 use Rattle.files.proofs.parse.parse_edge.Statement.{statement}
 use Rattle.files.proofs.parse.parse_edge.Tie as tie
-use Rattle.files.proofs.parse.parse_edge.Reads as reads
-use Rattle.files.proofs.parse.parse_edge.Lts as lts
-use Rattle.files.proofs.parse.read.Reads as read-reads
-use Rattle.files.proofs.parse.read_edge.Reads as read-edge-reads
 
 -- src/parse.rt:197:9
 read-requires : tie.Need-read-requires

@@ -4,10 +4,6 @@ use Rattle.files.specs.Record.Laws.{as-kind, as-other}
 use borrow.Author.Needs.{needs}
 use Rattle.files.proofs.parse.parse_interface.Statement.{statement}
 use Rattle.files.proofs.parse.parse_interface.Tie as tie
-use Rattle.files.proofs.parse.parse_interface.Reads as reads
-use Rattle.files.proofs.parse.parse_interface.Lts as lts
-use Rattle.files.proofs.parse.read.Reads as read-reads
-use Rattle.files.proofs.parse.read_interface.Reads as read-interface-reads
 
 -- src/parse.rt:230:9
 read-requires : tie.Need-read-requires

@@ -4,10 +4,6 @@ use Rattle.files.specs.Record.Laws.{as-kind, as-other}
 use borrow.Author.Needs.{needs}
 use Rattle.files.proofs.parse.parse_node.Statement.{statement}
 use Rattle.files.proofs.parse.parse_node.Tie as tie
-use Rattle.files.proofs.parse.parse_node.Reads as reads
-use Rattle.files.proofs.parse.parse_node.Lts as lts
-use Rattle.files.proofs.parse.read.Reads as read-reads
-use Rattle.files.proofs.parse.read_node.Reads as read-node-reads
 
 -- src/parse.rt:186:9
 read-requires : tie.Need-read-requires

@@ -4,10 +4,6 @@ use Rattle.files.specs.Record.Laws.{as-kind, as-other}
 use borrow.Author.Needs.{needs}
 use Rattle.files.proofs.parse.parse_row.Statement.{statement}
 use Rattle.files.proofs.parse.parse_row.Tie as tie
-use Rattle.files.proofs.parse.parse_row.Reads as reads
-use Rattle.files.proofs.parse.parse_row.Lts as lts
-use Rattle.files.proofs.parse.read.Reads as read-reads
-use Rattle.files.proofs.parse.read_row.Reads as read-row-reads
 
 -- src/parse.rt:208:9
 read-requires : tie.Need-read-requires

@@ -4,10 +4,6 @@ use Rattle.files.specs.Record.Laws.{as-kind, as-other}
 use borrow.Author.Needs.{needs}
 use Rattle.files.proofs.parse.parse_rule.Statement.{statement}
 use Rattle.files.proofs.parse.parse_rule.Tie as tie
-use Rattle.files.proofs.parse.parse_rule.Reads as reads
-use Rattle.files.proofs.parse.parse_rule.Lts as lts
-use Rattle.files.proofs.parse.read.Reads as read-reads
-use Rattle.files.proofs.parse.read_rule.Reads as read-rule-reads
 
 -- src/parse.rt:219:9
 read-requires : tie.Need-read-requires

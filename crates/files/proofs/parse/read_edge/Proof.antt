@@ -3,9 +3,6 @@ use Rattle.files.specs.Record.Laws.{parsed-kind, told-wrong, told-right}
 use borrow.Author.Needs.{needs}
 use Rattle.files.proofs.parse.read_edge.Statement.{statement}
 use Rattle.files.proofs.parse.read_edge.Tie as tie
-use Rattle.files.proofs.parse.read_edge.Reads as reads
-use Rattle.files.proofs.parse.read_edge.Lts as lts
-use Rattle.files.proofs.parse.edge_wrong.Reads as edge-wrong-reads
 
 -- src/parse.rt:93:8
 edge-wrong-requires : tie.Need-edge-wrong-requires

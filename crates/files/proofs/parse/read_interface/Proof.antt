@@ -3,9 +3,6 @@ use Rattle.files.specs.Record.Laws.{parsed-kind, told}
 use borrow.Author.Needs.{needs}
 use Rattle.files.proofs.parse.read_interface.Statement.{statement}
 use Rattle.files.proofs.parse.read_interface.Tie as tie
-use Rattle.files.proofs.parse.read_interface.Reads as reads
-use Rattle.files.proofs.parse.read_interface.Lts as lts
-use Rattle.files.proofs.parse.interface_wrong.Reads as interface-wrong-reads
 
 -- src/parse.rt:140:8
 interface-wrong-requires : tie.Need-interface-wrong-requires

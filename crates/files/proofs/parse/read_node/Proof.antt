@@ -3,9 +3,6 @@ use Rattle.files.specs.Record.Laws.{parsed-kind, told-wrong, told-right}
 use borrow.Author.Needs.{needs}
 use Rattle.files.proofs.parse.read_node.Statement.{statement}
 use Rattle.files.proofs.parse.read_node.Tie as tie
-use Rattle.files.proofs.parse.read_node.Reads as reads
-use Rattle.files.proofs.parse.read_node.Lts as lts
-use Rattle.files.proofs.parse.node_wrong.Reads as node-wrong-reads
 
 -- src/parse.rt:78:8
 node-wrong-requires : tie.Need-node-wrong-requires

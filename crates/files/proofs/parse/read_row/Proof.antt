@@ -3,9 +3,6 @@ use Rattle.files.specs.Record.Laws.{parsed-kind, told-wrong, told-right}
 use borrow.Author.Needs.{needs}
 use Rattle.files.proofs.parse.read_row.Statement.{statement}
 use Rattle.files.proofs.parse.read_row.Tie as tie
-use Rattle.files.proofs.parse.read_row.Reads as reads
-use Rattle.files.proofs.parse.read_row.Lts as lts
-use Rattle.files.proofs.parse.row_wrong.Reads as row-wrong-reads
 
 -- src/parse.rt:108:8
 row-wrong-requires : tie.Need-row-wrong-requires

@@ -3,9 +3,6 @@ use Rattle.files.specs.Record.Laws.{parsed-kind, told-wrong, told-right}
 use borrow.Author.Needs.{needs}
 use Rattle.files.proofs.parse.read_rule.Statement.{statement}
 use Rattle.files.proofs.parse.read_rule.Tie as tie
-use Rattle.files.proofs.parse.read_rule.Reads as reads
-use Rattle.files.proofs.parse.read_rule.Lts as lts
-use Rattle.files.proofs.parse.rule_wrong.Reads as rule-wrong-reads
 
 -- src/parse.rt:123:8
 rule-wrong-requires : tie.Need-rule-wrong-requires

@@ -3,13 +3,6 @@ use Rattle.files.specs.Record.Laws.{parsed-other}
 use borrow.Author.Needs.{needs}
 use Rattle.files.proofs.parse.reads.Statement.{statement}
 use Rattle.files.proofs.parse.reads.Tie as tie
-use Rattle.files.proofs.parse.reads.Reads as reads
-use Rattle.files.proofs.parse.reads.Lts as lts
-use Rattle.files.proofs.parse.read_edge.Reads as read-edge-reads
-use Rattle.files.proofs.parse.read_interface.Reads as read-interface-reads
-use Rattle.files.proofs.parse.read_node.Reads as read-node-reads
-use Rattle.files.proofs.parse.read_row.Reads as read-row-reads
-use Rattle.files.proofs.parse.read_rule.Reads as read-rule-reads
 
 -- src/parse.rt:154:9
 read-node-requires : tie.Need-read-node-requires

@@ -11,9 +11,6 @@ use Rattle.files.proofs.CheckLaws.{tally-more}
 use borrow.Author.Needs.{needs}
 use Rattle.files.proofs.scan.count.Statement.{statement}
 use Rattle.files.proofs.scan.count.Tie as tie
-use Rattle.files.proofs.scan.count.Reads as reads
-use Rattle.files.proofs.scan.count.Lts as lts
-use Rattle.files.proofs.scan.counts.Reads as counts-reads
 
 abbrev Inv-loop : tie.InvT-loop
 Inv-loop kind records n i₀ apart₀ i apart = (i ≤ n) × (apart ≡ tally (counts (kind-of kind) records) i)

@@ -6,11 +6,6 @@ use Rattle.files.proofs.Tags.{or-as}
 use borrow.Author.Needs.{needs}
 use Rattle.files.proofs.scan.counts.Statement.{statement}
 use Rattle.files.proofs.scan.counts.Tie as tie
-use Rattle.files.proofs.scan.counts.Reads as reads
-use Rattle.files.proofs.scan.counts.Lts as lts
-use Rattle.files.proofs.offence.is_or.Reads as is-or-reads
-use Rattle.files.proofs.parse.kind_at.Reads as kind-at-reads
-use Rattle.files.proofs.parse.parse_row.Reads as parse-row-reads
 
 -- src/scan.rt:69:28
 enum-told : tie.Need-enum-told

@@ -1,8 +1,8 @@
 use Rattle.files.specs.Record.{count}
 use Rattle.files.specs.Checking.Laws.{offending-at, offending-none}
-use mathlib.Core.Path.{_≡_, refl, sym, ap, ap₂, _∙_}
+use mathlib.Core.Path.{_≡_, refl, sym, _∙_}
 use mathlib.Core.Option.{none}
-use Prim.Native.Nat.{ℕ, _≤_, _-_}
+use Prim.Native.Nat.{_≤_, _-_}
 use native.Mathlib.Omega.{arith}
 use Rattle.files.specs.Basics.First.{first-where}
 use Rattle.files.specs.FileKind.{kind-of}
@@ -10,9 +10,6 @@ use Rattle.files.specs.Checking.{offends}
 use Rattle.files.proofs.CheckLaws.{scan-on}
 use Rattle.files.proofs.scan.first_offending.Statement.{statement}
 use Rattle.files.proofs.scan.first_offending.Tie as tie
-use Rattle.files.proofs.scan.first_offending.Reads as reads
-use Rattle.files.proofs.scan.first_offending.Lts as lts
-use Rattle.files.proofs.offence.offends.Reads as offends-reads
 
 abbrev Inv-loop : tie.InvT-loop
 Inv-loop number kind records bound n i₀ i = (i ≤ n) × (first-where (offends number (kind-of kind) records bound) i ≡ none)

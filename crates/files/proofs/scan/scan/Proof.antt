@@ -8,10 +8,6 @@ use Rattle.files.proofs.CheckLaws.{scanned-found, scanned-on, scanned-p
 use borrow.Author.Needs.{needs}
 use Rattle.files.proofs.scan.scan.Statement.{statement}
 use Rattle.files.proofs.scan.scan.Tie as tie
-use Rattle.files.proofs.scan.scan.Reads as reads
-use Rattle.files.proofs.scan.scan.Lts as lts
-use Rattle.files.proofs.scan.first_offending.Reads as first-offending-reads
-use Rattle.files.proofs.refusal.Refusal.at.Reads as at-reads
 
 -- what the numbers from `number` on find is what all of them find: those below found nothing
 abbrev Inv-loop : tie.InvT-loop

@@ -11,9 +11,6 @@ use Rattle.files.specs.Sides.Reads.{foreign-at, foreign-never}
 use Rattle.files.proofs.CheckLaws.{scan-on}
 use Rattle.files.proofs.sides.first_foreign.Statement.{statement}
 use Rattle.files.proofs.sides.first_foreign.Tie as tie
-use Rattle.files.proofs.sides.first_foreign.Reads as reads
-use Rattle.files.proofs.sides.first_foreign.Lts as lts
-use Rattle.files.proofs.sides.foreign.Reads as foreign-reads
 
 abbrev Inv-loop : tie.InvT-loop
 Inv-loop graph interface n i₀ i = (i ≤ n) × (first-where (λ j. foreign-of (decode-interface interface) (parsed-at graph j)) i ≡ none)

@@ -5,12 +5,6 @@ use Rattle.files.proofs.Tags.{foreign-node-as, foreign-call-as}
 use borrow.Author.Needs.{needs}
 use Rattle.files.proofs.sides.foreign.Statement.{statement}
 use Rattle.files.proofs.sides.foreign.Tie as tie
-use Rattle.files.proofs.sides.foreign.Reads as reads
-use Rattle.files.proofs.sides.foreign.Lts as lts
-use Rattle.files.proofs.parse.parse_edge.Reads as parse-edge-reads
-use Rattle.files.proofs.parse.parse_node.Reads as parse-node-reads
-use Rattle.files.proofs.sides.foreign_call.Reads as foreign-call-reads
-use Rattle.files.proofs.sides.foreign_node.Reads as foreign-node-reads
 
 -- src/sides.rt:45:9
 parse-node-requires : tie.Need-parse-node-requires

@@ -2,9 +2,6 @@ use Rattle.files.proofs.Tags.{no-foreign-call}
 use borrow.Author.Needs.{needs}
 use Rattle.files.proofs.sides.foreign_call.Statement.{statement}
 use Rattle.files.proofs.sides.foreign_call.Tie as tie
-use Rattle.files.proofs.sides.foreign_call.Reads as reads
-use Rattle.files.proofs.sides.foreign_call.Lts as lts
-use Rattle.files.proofs.interface.requires_method.Reads as requires-method-reads
 
 -- src/sides.rt:31:24
 enum-known-p : tie.Need-enum-known-p

@@ -2,9 +2,6 @@ use Rattle.files.proofs.Tags.{no-foreign-node}
 use borrow.Author.Needs.{needs}
 use Rattle.files.proofs.sides.foreign_node.Statement.{statement}
 use Rattle.files.proofs.sides.foreign_node.Tie as tie
-use Rattle.files.proofs.sides.foreign_node.Reads as reads
-use Rattle.files.proofs.sides.foreign_node.Lts as lts
-use Rattle.files.proofs.interface.provides.Reads as provides-reads
 
 -- src/sides.rt:20:24
 enum-known-p : tie.Need-enum-known-p

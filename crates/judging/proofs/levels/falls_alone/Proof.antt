@@ -1,6 +1,5 @@
-use mathlib.Core.Path.{_≡_, refl, sym, ap, ap₂, subst, _∙_}
-use native.Mathlib.Omega.{arith}
-use Rattle.judging.proofs.HeldLaws.{held-node, held-edge, held-row}
+use mathlib.Core.Path.{ap₂, _∙_}
+use Rattle.judging.proofs.HeldLaws.{held-node, held-row}
 use Rattle.files.specs.Decode.{decode-graph, decode-property}
 use Rattle.files.specs.Graph.{node}
 use Rattle.files.specs.Property.{row}
@@ -11,11 +10,6 @@ use Rattle.judging.specs.Ranking.Files.{leaf-level}
 use borrow.Author.Needs.{needs}
 use Rattle.judging.proofs.levels.falls_alone.Statement.{statement}
 use Rattle.judging.proofs.levels.falls_alone.Tie as tie
-use Rattle.judging.proofs.levels.falls_alone.Reads as reads
-use Rattle.judging.proofs.levels.falls_alone.Lts as lts
-use Rattle.files.proofs.graph.node_at.Reads as node-at-reads
-use Rattle.files.proofs.property.row_at.Reads as row-at-reads
-use Rattle.judging.proofs.levels.leaf_false.Reads as leaf-false-reads
 
 -- src/levels.rt:67:25
 node-at-requires : tie.Need-node-at-requires

@@ -1,14 +1,10 @@
-use mathlib.Core.Path.{_≡_, refl, sym, ap, ap₂, subst, _∙_}
+use mathlib.Core.Path.{refl, sym, _∙_}
 use native.Mathlib.Omega.{arith}
 use Prim.Native.Nat.{_+_, _*_}
 use Rattle.judging.specs.Ranking.Files.{give-yes, give-no}
 use borrow.Author.Needs.{needs}
 use Rattle.judging.proofs.levels.give.Statement.{statement}
 use Rattle.judging.proofs.levels.give.Tie as tie
-use Rattle.judging.proofs.levels.give.Reads as reads
-use Rattle.judging.proofs.levels.give.Lts as lts
-use Rattle.files.proofs.cells.get16.Reads as get16-reads
-use Rattle.files.proofs.cells.put16.Reads as put16-reads
 
 -- src/levels.rt:30:13
 mul-p : tie.Need-mul-p

@@ -1,14 +1,10 @@
-use mathlib.Core.Path.{_≡_, refl, sym, ap, ap₂, subst, _∙_}
-use native.Mathlib.Omega.{arith}
+use mathlib.Core.Path.{ap}
 use Prim.Native.Nat.{ℕ}
 use lib.Dec.{leb}
 use mathlib.Core.Bool.{_&&_}
 use borrow.Author.Needs.{needs}
 use Rattle.judging.proofs.levels.is_false.Statement.{statement}
 use Rattle.judging.proofs.levels.is_false.Tie as tie
-use Rattle.judging.proofs.levels.is_false.Reads as reads
-use Rattle.judging.proofs.levels.is_false.Lts as lts
-use Rattle.files.proofs.cells.get16.Reads as get16-reads
 
 -- src/levels.rt:44:28
 mul-get16 : tie.Need-mul-get16

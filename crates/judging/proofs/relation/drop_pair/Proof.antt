@@ -1,15 +1,10 @@
-use mathlib.Core.Path.{_≡_, refl, sym, ap, ap₂, subst, _∙_}
+use mathlib.Core.Path.{refl, sym, _∙_}
 use native.Mathlib.Omega.{arith}
 use Prim.Native.Nat.{_+_, _*_}
 use Rattle.judging.specs.Refinement.Laws.{drop-yes, drop-no}
 use borrow.Author.Needs.{needs}
 use Rattle.judging.proofs.relation.drop_pair.Statement.{statement}
 use Rattle.judging.proofs.relation.drop_pair.Tie as tie
-use Rattle.judging.proofs.relation.drop_pair.Reads as reads
-use Rattle.judging.proofs.relation.drop_pair.Lts as lts
-use Rattle.files.proofs.cells.drop_bit.Reads as drop-bit-reads
-use Rattle.files.proofs.cells.has_bit.Reads as has-bit-reads
-use Rattle.files.proofs.cells.put16.Reads as put16-reads
 
 -- src/relation.rt:68:13
 mul-p : tie.Need-mul-p

@@ -1,4 +1,4 @@
-use mathlib.Core.Path.{_≡_, refl, sym, ap, ap₂, subst, _∙_}
+use mathlib.Core.Path.{ap, _∙_}
 use native.Mathlib.Omega.{arith}
 use Rattle.files.specs.Decode.{decode-graph, decode-property}
 use Rattle.judging.proofs.SheetLaws.{listed-few, place-in, cause-bytes, fault-of}
@@ -7,12 +7,6 @@ use Rattle.files.specs.Cells.{put-at}
 use borrow.Author.Needs.{needs}
 use Rattle.judging.proofs.sheet.put_fault.Statement.{statement}
 use Rattle.judging.proofs.sheet.put_fault.Tie as tie
-use Rattle.judging.proofs.sheet.put_fault.Reads as reads
-use Rattle.judging.proofs.sheet.put_fault.Lts as lts
-use Rattle.files.proofs.cells.get16.Reads as get16-reads
-use Rattle.files.proofs.encode.put_six.Reads as put-six-reads
-use Rattle.judging.proofs.causes.first_cause.Reads as first-cause-reads
-use Rattle.judging.proofs.causes.second_cause.Reads as second-cause-reads
 
 -- src/sheet.rt:92:13
 get16-requires : tie.Need-get16-requires

@@ -1,14 +1,9 @@
-use mathlib.Core.Path.{_≡_, refl, sym, ap, ap₂, subst, _∙_}
+use mathlib.Core.Path.{sym, _∙_}
 use native.Mathlib.Omega.{arith}
 use Rattle.judging.proofs.SheetLaws.{visit-none, cause-fits, visit-seen, visit-room, visit-added}
 use borrow.Author.Needs.{needs}
 use Rattle.judging.proofs.sheet.visit.Statement.{statement}
 use Rattle.judging.proofs.sheet.visit.Tie as tie
-use Rattle.judging.proofs.sheet.visit.Reads as reads
-use Rattle.judging.proofs.sheet.visit.Lts as lts
-use Rattle.files.proofs.cells.has_bit.Reads as has-bit-reads
-use Rattle.files.proofs.cells.put16.Reads as put16-reads
-use Rattle.files.proofs.cells.put_bit.Reads as put-bit-reads
 
 -- src/sheet.rt:40:9
 returns : tie.Need-returns

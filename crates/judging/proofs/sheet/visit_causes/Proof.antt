@@ -1,15 +1,9 @@
-use mathlib.Core.Path.{_≡_, refl, sym, ap, ap₂, subst, _∙_}
 use native.Mathlib.Omega.{arith}
 use Rattle.judging.proofs.SheetLaws.{held-cause, both-visits}
 use Rattle.judging.specs.Sheets.{listed}
 use borrow.Author.Needs.{needs}
 use Rattle.judging.proofs.sheet.visit_causes.Statement.{statement}
 use Rattle.judging.proofs.sheet.visit_causes.Tie as tie
-use Rattle.judging.proofs.sheet.visit_causes.Reads as reads
-use Rattle.judging.proofs.sheet.visit_causes.Lts as lts
-use Rattle.judging.proofs.causes.first_cause.Reads as first-cause-reads
-use Rattle.judging.proofs.causes.second_cause.Reads as second-cause-reads
-use Rattle.judging.proofs.sheet.visit.Reads as visit-reads
 
 -- src/sheet.rt:64:9
 first-cause-requires : tie.Need-first-cause-requires

@@ -1,4 +1,4 @@
-use mathlib.Core.Path.{_≡_, refl, sym, ap, ap₂, subst, _∙_}
+use mathlib.Core.Path.{_≡_, refl, _∙_}
 use native.Mathlib.Omega.{arith}
 use Rattle.files.specs.Decode.{decode-graph, decode-property}
 use Rattle.judging.proofs.SheetLaws.{nothing-listed, start-in, first-turn, next-turn, listed-few, place-in}
@@ -10,11 +10,6 @@ use lib.ListN.{length}
 use borrow.Author.Needs.{needs}
 use Rattle.judging.proofs.sheet.walk.Statement.{statement}
 use Rattle.judging.proofs.sheet.walk.Tie as tie
-use Rattle.judging.proofs.sheet.walk.Reads as reads
-use Rattle.judging.proofs.sheet.walk.Lts as lts
-use Rattle.files.proofs.cells.get16.Reads as get16-reads
-use Rattle.judging.proofs.sheet.visit.Reads as visit-reads
-use Rattle.judging.proofs.sheet.visit_causes.Reads as visit-causes-reads
 
 abbrev Inv-loop : tie.InvT-loop
 Inv-loop graph property s work₀ g tail₀ head₀ work tail head = (Listed (decode-graph graph) (decode-property property) tail work) × (head ≤ tail) × (Onward (decode-graph graph) (decode-property property) head tail work) × (length work ≡ length work₀)

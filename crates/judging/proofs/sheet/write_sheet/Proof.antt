@@ -1,4 +1,4 @@
-use mathlib.Core.Path.{_≡_, refl, sym, ap, ap₂, subst, _∙_}
+use mathlib.Core.Path.{_≡_, refl, sym, ap, _∙_}
 use native.Mathlib.Omega.{arith}
 use Rattle.files.specs.Decode.{decode-graph, decode-property}
 use mathlib.Core.List.{List}
@@ -12,9 +12,6 @@ use Rattle.judging.specs.Sheets.{pair-of}
 use Rattle.judging.specs.Sheets.Walk.{bytes-of, bytes-none, bytes-more, bytes-all}
 use Rattle.judging.proofs.sheet.write_sheet.Statement.{statement}
 use Rattle.judging.proofs.sheet.write_sheet.Tie as tie
-use Rattle.judging.proofs.sheet.write_sheet.Reads as reads
-use Rattle.judging.proofs.sheet.write_sheet.Lts as lts
-use Rattle.judging.proofs.sheet.put_fault.Reads as put-fault-reads
 
 abbrev Inv-loop : tie.InvT-loop
 Inv-loop graph property s work out₀ n i₀ out i = (i ≤ n) × (out ≡ put-at out₀ 0 (bytes-of (decode-graph graph) (decode-property property) work i)) × (length out ≡ length out₀)

@@ -16,7 +16,7 @@ use Rattle.files.specs.Basics.Says.{Says, says-or, says-and, says-lt, says-eq, 
 use Rattle.files.specs.Basics.Tests.{and-l, and-r, eq-eqb, not-not, not-and, not-or}
 use Rattle.files.specs.Graph.{Graph, Edge, size, node, Flow}
 use Rattle.files.specs.Property.{Row, always, never, returns, not-returns, in-method, not-in-method, both, either, box, row, obliged, names, Property}
-use Rattle.judging.specs.Levels.{truth, after, level, holds, rank}
+use Rattle.judging.specs.Levels.{truth, after, level, rank}
 use Rattle.judging.specs.Levels.Laws.{after-no, obliged-box, box-obliges}
 use Rattle.judging.specs.Levels.Ranks.{rank-le, rank-bound, false-if, low-false, rank-step}
 use Rattle.judging.specs.Levels.Sheet.{obliged-pair, targets, lower, ahead, foremost, box-causes, row-causes, causes}

@@ -12,7 +12,7 @@ use Rattle.files.specs.Access.{row-held}
 use Rattle.files.specs.Basics.Least.{least, least-passes, least-before, least-lt}
 use Rattle.files.specs.Basics.Lists.{keep, each}
 use Rattle.files.specs.Basics.Order.{Ascends}
-use Rattle.files.specs.Basics.Queue.{Once, breadth-first, From, itself, listed, starts-with, onward}
+use Rattle.files.specs.Basics.Queue.{breadth-first, From, itself, listed, starts-with, onward}
 use Rattle.files.specs.Basics.Tests.{and-l, and-r, and-i, any, any-e, any-i, upto, upto-i, upto-e, grid, grid-i, length-grid, decide, not-not, not-and}
 use Rattle.files.specs.Graph.{Graph, Edge, size, node, Flow}
 use Rattle.files.specs.Property.{Row, always, never, returns, not-returns, in-method, not-in-method, both, either, box, row, obliged, Property}

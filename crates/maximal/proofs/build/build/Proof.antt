@@ -3,11 +3,6 @@ use Rattle.maximal.proofs.BuildLaws.{answers-crowded}
 use borrow.Author.Needs.{needs}
 use Rattle.maximal.proofs.build.build.Statement.{statement}
 use Rattle.maximal.proofs.build.build.Tie as tie
-use Rattle.maximal.proofs.build.build.Reads as reads
-use Rattle.maximal.proofs.build.build.Lts as lts
-use Rattle.files.proofs.refusal.Refusal.whole.Reads as whole-reads
-use Rattle.maximal.proofs.build.write_found.Reads as write-found-reads
-use Rattle.maximal.proofs.explore.explore.Reads as explore-reads
 
 -- src/build.rt:62:9
 explore-requires : tie.Need-explore-requires

@@ -5,10 +5,6 @@ use Rattle.maximal.specs.Modelling.Steps.{interface-refused, interface-p
 use borrow.Author.Needs.{needs}
 use Rattle.maximal.proofs.build.model_files.Statement.{statement}
 use Rattle.maximal.proofs.build.model_files.Tie as tie
-use Rattle.maximal.proofs.build.model_files.Reads as reads
-use Rattle.maximal.proofs.build.model_files.Lts as lts
-use Rattle.files.proofs.check.check_interface.Reads as check-interface-reads
-use Rattle.maximal.proofs.build.model_property.Reads as model-property-reads
 
 -- src/build.rt:104:11
 check-interface-requires : tie.Need-check-interface-requires

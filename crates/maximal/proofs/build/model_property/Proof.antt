@@ -5,10 +5,6 @@ use Rattle.maximal.specs.Modelling.Steps.{property-refused, property-pas
 use borrow.Author.Needs.{needs}
 use Rattle.maximal.proofs.build.model_property.Statement.{statement}
 use Rattle.maximal.proofs.build.model_property.Tie as tie
-use Rattle.maximal.proofs.build.model_property.Reads as reads
-use Rattle.maximal.proofs.build.model_property.Lts as lts
-use Rattle.files.proofs.check.check_property.Reads as check-property-reads
-use Rattle.maximal.proofs.build.build.Reads as build-reads
 
 -- src/build.rt:80:11
 check-property-requires : tie.Need-check-property-requires

@@ -7,11 +7,6 @@ use Rattle.maximal.specs.Modelling.Steps.{does-nothing, does-model}
 use borrow.Author.Needs.{needs}
 use Rattle.maximal.proofs.build.model_within.Statement.{statement}
 use Rattle.maximal.proofs.build.model_within.Tie as tie
-use Rattle.maximal.proofs.build.model_within.Reads as reads
-use Rattle.maximal.proofs.build.model_within.Lts as lts
-use Rattle.files.proofs.cells.clear.Reads as clear-reads
-use Rattle.files.proofs.refusal.Refusal.whole.Reads as whole-reads
-use Rattle.maximal.proofs.build.model_files.Reads as model-files-reads
 
 -- src/build.rt:122:34
 whole-requires : tie.Need-whole-requires

@@ -3,12 +3,6 @@ use Rattle.maximal.proofs.BuildLaws.{answers-edges, answers-full, answe
 use borrow.Author.Needs.{needs}
 use Rattle.maximal.proofs.build.write_found.Statement.{statement}
 use Rattle.maximal.proofs.build.write_found.Tie as tie
-use Rattle.maximal.proofs.build.write_found.Reads as reads
-use Rattle.maximal.proofs.build.write_found.Lts as lts
-use Rattle.files.proofs.refusal.Refusal.whole.Reads as whole-reads
-use Rattle.maximal.proofs.order.arrange.Reads as arrange-reads
-use Rattle.maximal.proofs.written.count_edges.Reads as count-edges-reads
-use Rattle.maximal.proofs.written.write_model.Reads as write-model-reads
 
 -- src/build.rt:38:5
 arrange-requires : tie.Need-arrange-requires

@@ -11,7 +11,7 @@ use Rattle.maximal.specs.Masks.{apart}
 use Rattle.maximal.specs.Collected.{listed, collected}
 use Rattle.maximal.specs.Collected.Search.{collected-cut, collected-leaf, collected-last}
 use Rattle.maximal.proofs.RowLaws.{rows-are}
-use Rattle.maximal.proofs.SupportLaws.{tables-kept, at-leaf, at-split, open-below, a-row, b-row, both-collected, twice-below}
+use Rattle.maximal.proofs.SupportLaws.{tables-kept, at-leaf, at-split, open-below, a-row, b-row, first-row, second-row, both-collected, twice-below}
 use borrow.Author.Needs.{needs}
 use borrow.Fn.Kinds.{In}
 use borrow.Fn.PlainCycle.{Measures, is, falls, and}
@@ -21,8 +21,10 @@ use Rattle.maximal.proofs.supports.+collect.Lts-collect as collect-lts
 use Rattle.files.proofs.cells.get32.Reads as get32-reads
 use Rattle.files.proofs.property.row_at.Reads as row-at-reads
 use Rattle.maximal.proofs.antichain.insert.Reads as insert-reads
+use Rattle.maximal.proofs.masks.has_row.Reads as has-row-reads
 use Rattle.maximal.proofs.masks.one_row.Reads as one-row-reads
 use Rattle.maximal.proofs.supports.first_open.Reads as first-open-reads
+use Rattle.maximal.proofs.supports.pick.Reads as pick-reads
 use Rattle.maximal.proofs.supports.+collect.{statement}
 use Rattle.maximal.proofs.supports.+collect.Tie.{close}
 
@@ -38,28 +40,28 @@ collect-below t = and 2 collect-kinds.ps (falls 2 collect-kinds.ps _<_ μ-collec
 
 -- what is known of the calls
 abbrev rd : ℕ → collect-lts.Claims
-rd t = (first-open-reads.Asked, first-open-reads.Learnt, insert-reads.Asked, insert-reads.Learnt, row-at-reads.Asked, row-at-reads.Learnt, get32-reads.Asked, get32-reads.Learnt, one-row-reads.Asked, one-row-reads.Learnt, collect-below t, collect.Post)
+rd t = (first-open-reads.Asked, first-open-reads.Learnt, insert-reads.Asked, insert-reads.Learnt, row-at-reads.Asked, row-at-reads.Learnt, get32-reads.Asked, get32-reads.Learnt, has-row-reads.Asked, has-row-reads.Learnt, pick-reads.Asked, pick-reads.Learnt, one-row-reads.Asked, one-row-reads.Learnt, collect-below t, collect.Post)
 
--- src/supports.rt:81:9
+-- src/supports.rt:88:9
 collect-returns : (t : ℕ) → collect-lts.Need-returns (rd t) (collect-at t) collect.Post
 collect-returns t c =
     let k = c .before .before .before in
     let a = k .args in
     (sym (collected-cut (decode-property (a .property .now)) (a .set) (a .forbidden) (listed (a .work .now) (a .found)) (a .left) (not-true (apart (a .set) (a .forbidden)) (c .if1 .taken))), (omega arith, λ q d. refl))
 
--- src/supports.rt:83:9
+-- src/supports.rt:90:9
 collect-first-open-requires : (t : ℕ) → collect-lts.Need-first-open-requires (rd t) (collect-at t) collect.Post
 collect-first-open-requires t c κs = let k = c .before .before .before .before in (k .pre .1 .0, (k .pre .1 .1 .0, (k .pre .1 .1 .1 .0, (k .pre .1 .1 .1 .1 .1 .0, k .pre .1 .1 .1 .1 .1 .1))))
 
--- src/supports.rt:85:9
+-- src/supports.rt:92:9
 collect-insert-requires : (t : ℕ) → collect-lts.Need-insert-requires (rd t) (collect-at t) collect.Post
 collect-insert-requires t c κs = let k = c .before .before .before .before .before .before .before in (omega (arith, pow-pos (k .args .left), k .pre .1 .1 .1 .1 .0), k .pre .1 .1 .1 .1 .1 .0)
 
--- src/supports.rt:85:9
+-- src/supports.rt:92:9
 collect-same-length : (t : ℕ) → collect-lts.Need-same-length (rd t) (collect-at t) collect.Post
 collect-same-length t c = search needs
 
--- src/supports.rt:85:9
+-- src/supports.rt:92:9
 collect-returns-2 : (t : ℕ) → collect-lts.Need-returns-2 (rd t) (collect-at t) collect.Post
 collect-returns-2 t c =
     let k = c .before .before .before .before .before .before .before .before .before .before in
@@ -71,11 +73,11 @@ collect-returns-2 t c =
       (omega (arith, i .ensures .1 .0, pow-pos (a .left)), i .ensures .1 .1),
     )
 
--- src/supports.rt:88:9
+-- src/supports.rt:95:9
 collect-same-length-2 : (t : ℕ) → collect-lts.Need-same-length-2 (rd t) (collect-at t) collect.Post
 collect-same-length-2 t c = search needs
 
--- src/supports.rt:88:9
+-- src/supports.rt:95:9
 collect-returns-3 : (t : ℕ) → collect-lts.Need-returns-3 (rd t) (collect-at t) collect.Post
 collect-returns-3 t c =
     let k = c .before .before .before .before .before .before .before in
@@ -85,7 +87,7 @@ collect-returns-3 t c =
     let e = ap (λ (i : ℕ). collected (decode-property (a .property .now)) i (a .set) (a .forbidden) (listed (a .work .now) (a .found))) (c .if3 .taken) in
     (sym (e ∙ collected-last (decode-property (a .property .now)) (a .set) (a .forbidden) (listed (a .work .now) (a .found)) (not-false (apart (a .set) (a .forbidden)) (c .before .before .before .before .if1 .left)) split), (omega arith, λ q d. refl))
 
--- src/supports.rt:90:24
+-- src/supports.rt:97:24
 collect-row-at-requires : (t : ℕ) → collect-lts.Need-row-at-requires (rd t) (collect-at t) collect.Post
 collect-row-at-requires t c κs =
     let k = c .before .before .before .before .before .before .before in
@@ -93,27 +95,27 @@ collect-row-at-requires t c κs =
     let o = c .before .before .first-open in
     (k .pre .1 .0, omega (arith, open-below (a .property .now) (k .pre .1 .0) (a .n) (k .pre .1 .1 .0) (k .pre .1 .1 .1 .0) (a .set) (o .result) (o .ensures) (c .before .if2 .left), k .pre .1 .1 .0))
 
--- src/supports.rt:90:19
+-- src/supports.rt:97:19
 collect-enum-known-x : (t : ℕ) → collect-lts.Need-enum-known-x (rd t) (collect-at t) collect.Post
 collect-enum-known-x t c = search needs
 
--- src/supports.rt:91:9
+-- src/supports.rt:98:9
 collect-enum-told : (t : ℕ) → collect-lts.Need-enum-told (rd t) (collect-at t) collect.Post
 collect-enum-told t c = search needs
 
--- src/supports.rt:91:9
+-- src/supports.rt:98:9
 collect-same-length-3 : (t : ℕ) → collect-lts.Need-same-length-3 (rd t) (collect-at t) collect.Post
 collect-same-length-3 t c = search needs
 
--- src/supports.rt:91:9
+-- src/supports.rt:98:9
 collect-returns-4 : (t : ℕ) → collect-lts.Need-returns-4 (rd t) (collect-at t) collect.Post
 collect-returns-4 t c = absurd (row-read (c .before .before .row-at .result) _ _ (c .before .before .row-at .ensures) (c .enum-told .given .1))
 
--- src/supports.rt:93:52
+-- src/supports.rt:100:55
 collect-cast-get32 : (t : ℕ) → collect-lts.Need-cast-get32 (rd t) (collect-at t) collect.Post
 collect-cast-get32 t c = search needs
 
--- src/supports.rt:93:24
+-- src/supports.rt:100:27
 collect-get32-requires : (t : ℕ) → collect-lts.Need-get32-requires (rd t) (collect-at t) collect.Post
 collect-get32-requires t c κs =
     let y = c .before .before .before in
@@ -122,53 +124,90 @@ collect-get32-requires t c κs =
     let o = y .before .before .before .before .before .first-open in
     omega (arith, a-row (a .property .now) (k .pre .1 .0) (a .n) (k .pre .1 .1 .0) (k .pre .1 .1 .1 .0) (a .set) (o .result) (o .ensures) (y .before .before .before .before .if2 .left) (y .before .before .row-at .result) _ (y .x .given .1) (y .before .before .row-at .ensures), k .pre .1 .1 .1 .0, k .pre .1 .1 .1 .1 .1 .0)
 
--- src/supports.rt:94:52
+-- src/supports.rt:100:70
+collect-cast-has-row : (t : ℕ) → collect-lts.Need-cast-has-row (rd t) (collect-at t) collect.Post
+collect-cast-has-row t c = search needs
+
+-- src/supports.rt:100:9
+collect-has-row-requires : (t : ℕ) → collect-lts.Need-has-row-requires (rd t) (collect-at t) collect.Post
+collect-has-row-requires t c κs =
+    let y = c .before .before .before .before .before in
+    let k = y .before .before .before .before .before .before .before .before .before .before in
+    let a = k .args in
+    let o = y .before .before .before .before .before .first-open in
+    omega (arith, b-row (a .property .now) (k .pre .1 .0) (a .n) (k .pre .1 .1 .0) (k .pre .1 .1 .1 .0) (a .set) (o .result) (o .ensures) (y .before .before .before .before .if2 .left) (y .before .before .row-at .result) _ (y .x .given .1) (y .before .before .row-at .ensures), k .pre .1 .1 .1 .0)
+
+-- src/supports.rt:101:9
+collect-pick-requires : (t : ℕ) → collect-lts.Need-pick-requires (rd t) (collect-at t) collect.Post
+collect-pick-requires t c κs = tt
+
+-- src/supports.rt:102:9
+collect-pick-requires-2 : (t : ℕ) → collect-lts.Need-pick-requires-2 (rd t) (collect-at t) collect.Post
+collect-pick-requires-2 t c κs = tt
+
+-- src/supports.rt:103:56
 collect-cast-get32-2 : (t : ℕ) → collect-lts.Need-cast-get32-2 (rd t) (collect-at t) collect.Post
 collect-cast-get32-2 t c = search needs
 
--- src/supports.rt:94:24
+-- src/supports.rt:103:28
 collect-get32-requires-2 : (t : ℕ) → collect-lts.Need-get32-requires-2 (rd t) (collect-at t) collect.Post
 collect-get32-requires-2 t c κs =
-    let y = c .before .before .before .before .before .before in
+    let y = c .before .before .before .before .before .before .before .before .before in
     let k = y .before .before .before .before .before .before .before .before .before .before in
     let a = k .args in
     let o = y .before .before .before .before .before .first-open in
-    omega (arith, b-row (a .property .now) (k .pre .1 .0) (a .n) (k .pre .1 .1 .0) (k .pre .1 .1 .1 .0) (a .set) (o .result) (o .ensures) (y .before .before .before .before .if2 .left) (y .before .before .row-at .result) _ (y .x .given .1) (y .before .before .row-at .ensures), k .pre .1 .1 .1 .0, k .pre .1 .1 .1 .1 .1 .0)
+    let i = c .before .before .pick in
+    omega (arith, first-row (a .property .now) (k .pre .1 .0) (a .n) (k .pre .1 .1 .0) (k .pre .1 .1 .1 .0) (a .set) (o .result) (o .ensures) (y .before .before .before .before .if2 .left) (y .before .before .row-at .result) _ (y .x .given .1) (y .before .before .row-at .ensures) (c .before .before .before .has-row .result) (i .result) (i .ensures), k .pre .1 .1 .1 .0, k .pre .1 .1 .1 .1 .1 .0)
 
--- src/supports.rt:95:41
+-- src/supports.rt:104:57
+collect-cast-get32-3 : (t : ℕ) → collect-lts.Need-cast-get32-3 (rd t) (collect-at t) collect.Post
+collect-cast-get32-3 t c = search needs
+
+-- src/supports.rt:104:29
+collect-get32-requires-3 : (t : ℕ) → collect-lts.Need-get32-requires-3 (rd t) (collect-at t) collect.Post
+collect-get32-requires-3 t c κs =
+    let y = c .before .before .before .before .before .before .before .before .before .before .before in
+    let k = y .before .before .before .before .before .before .before .before .before .before in
+    let a = k .args in
+    let o = y .before .before .before .before .before .first-open in
+    let i = c .before .before .before .pick2 in
+    omega (arith, second-row (a .property .now) (k .pre .1 .0) (a .n) (k .pre .1 .1 .0) (k .pre .1 .1 .1 .0) (a .set) (o .result) (o .ensures) (y .before .before .before .before .if2 .left) (y .before .before .row-at .result) _ (y .x .given .1) (y .before .before .row-at .ensures) (c .before .before .before .before .before .has-row .result) (i .result) (i .ensures), k .pre .1 .1 .1 .0, k .pre .1 .1 .1 .1 .1 .0)
+
+-- src/supports.rt:105:45
 collect-cast-one-row : (t : ℕ) → collect-lts.Need-cast-one-row (rd t) (collect-at t) collect.Post
 collect-cast-one-row t c = search needs
 
--- src/supports.rt:95:33
+-- src/supports.rt:105:37
 collect-one-row-requires : (t : ℕ) → collect-lts.Need-one-row-requires (rd t) (collect-at t) collect.Post
 collect-one-row-requires t c κs =
-    let y = c .before .before .before .before .before .before .before .before in
+    let y = c .before .before .before .before .before .before .before .before .before .before .before .before in
     let k = y .before .before .before .before .before .before .before .before .before .before in
     let a = k .args in
     let o = y .before .before .before .before .before .first-open in
-    omega (arith, a-row (a .property .now) (k .pre .1 .0) (a .n) (k .pre .1 .1 .0) (k .pre .1 .1 .1 .0) (a .set) (o .result) (o .ensures) (y .before .before .before .before .if2 .left) (y .before .before .row-at .result) _ (y .x .given .1) (y .before .before .row-at .ensures), k .pre .1 .1 .1 .0)
+    let i = c .before .before .before .before .before .pick in
+    omega (arith, first-row (a .property .now) (k .pre .1 .0) (a .n) (k .pre .1 .1 .0) (k .pre .1 .1 .1 .0) (a .set) (o .result) (o .ensures) (y .before .before .before .before .if2 .left) (y .before .before .row-at .result) _ (y .x .given .1) (y .before .before .row-at .ensures) (c .before .before .before .before .before .before .has-row .result) (i .result) (i .ensures), k .pre .1 .1 .1 .0)
 
--- src/supports.rt:96:70
+-- src/supports.rt:106:75
 collect-sub-collect : (t : ℕ) → collect-lts.Need-sub-collect (rd t) (collect-at t) collect.Post
-collect-sub-collect t c = omega (arith, c .before .before .before .before .before .before .before .before .before .before .before .before .before .if3 .left)
+collect-sub-collect t c = omega (arith, c .before .before .before .before .before .before .before .before .before .before .before .before .before .before .before .before .before .if3 .left)
 
--- src/supports.rt:96:9
+-- src/supports.rt:106:9
 collect-collect-requires : (t : ℕ) → collect-lts.Need-collect-requires (rd t) (collect-at t) collect.Post
 collect-collect-requires t c κs =
-    let k = c .before .before .before .before .before .before .before .before .before .before .before .before .before .before .before .before .before .before .before .before in
-    let some = c .before .before .before .before .before .before .before .before .before .before .before .before .before .if3 .left in
+    let k = c .before .before .before .before .before .before .before .before .before .before .before .before .before .before .before .before .before .before .before .before .before .before .before .before in
+    let some = c .before .before .before .before .before .before .before .before .before .before .before .before .before .before .before .before .before .if3 .left in
     let d = twice-below (k .args .left) some in
     (omega (arith, some, k .pre .0), (k .pre .1 .0, (k .pre .1 .1 .0, (k .pre .1 .1 .1 .0, (omega (arith, d, k .pre .1 .1 .1 .1 .0), (k .pre .1 .1 .1 .1 .1 .0, k .pre .1 .1 .1 .1 .1 .1))))))
 
--- src/supports.rt:97:58
+-- src/supports.rt:114:9
 collect-sub-collect-2 : (t : ℕ) → collect-lts.Need-sub-collect-2 (rd t) (collect-at t) collect.Post
-collect-sub-collect-2 t c = omega (arith, c .before .before .before .before .before .before .before .before .before .before .before .before .before .before .before .before .before .if3 .left)
+collect-sub-collect-2 t c = omega (arith, c .before .before .before .before .before .before .before .before .before .before .before .before .before .before .before .before .before .before .before .before .before .if3 .left)
 
--- src/supports.rt:97:5
+-- src/supports.rt:107:5
 collect-collect-requires-2 : (t : ℕ) → collect-lts.Need-collect-requires-2 (rd t) (collect-at t) collect.Post
 collect-collect-requires-2 t c κs =
-    let k = c .before .before .before .before .before .before .before .before .before .before .before .before .before .before .before .before .before .before .before .before .before .before .before .before in
-    let some = c .before .before .before .before .before .before .before .before .before .before .before .before .before .before .before .before .before .if3 .left in
+    let k = c .before .before .before .before .before .before .before .before .before .before .before .before .before .before .before .before .before .before .before .before .before .before .before .before .before .before .before .before in
+    let some = c .before .before .before .before .before .before .before .before .before .before .before .before .before .before .before .before .before .before .before .before .before .if3 .left in
     let f = c .before .before .before .collect in
     let d = twice-below (k .args .left) some in
     let P = decode-property (k .args .property .now) in
@@ -176,28 +215,33 @@ collect-collect-requires-2 t c κs =
     let kept = tables-kept P (k .args .work .now) (f .last .1 .1 .0) few (f .ensures .1 .1) (k .pre .1 .1 .1 .1 .1 .1) in
     (omega (arith, some, k .pre .0), (k .pre .1 .0, (k .pre .1 .1 .0, (k .pre .1 .1 .1 .0, (omega (arith, d, f .ensures .1 .0, k .pre .1 .1 .1 .1 .0), (omega (arith, f .kept .1 .1 .0, k .pre .1 .1 .1 .1 .1 .0), kept))))))
 
--- src/supports.rt:68:1
+-- src/supports.rt:75:1
 collect-same-length-4 : (t : ℕ) → collect-lts.Need-same-length-4 (rd t) (collect-at t) collect.Post
 collect-same-length-4 t c = search needs
 
--- src/supports.rt:68:1
+-- src/supports.rt:75:1
 collect-returns-5 : (t : ℕ) → collect-lts.Need-returns-5 (rd t) (collect-at t) collect.Post
 collect-returns-5 t c =
-    let y = c .before .before .before .before .before .before .before .before .before .before .before .before .before .before .before .before .before in
+    let y = c .before .before .before .before .before .before .before .before .before .before .before .before .before .before .before .before .before .before .before .before .before in
     let k = y .before .before .before .before .before .before .before .before .before .before in
     let a = k .args in
     let o = y .before .before .before .before .before .first-open in
     let some = y .before .before .before .if3 .left in
-    let with-a = c .before .before .before .before .before .before .before .before .before .before .before .before .before .get32 in
-    let with-b = c .before .before .before .before .before .before .before .before .before .before .get322 in
+    let of-a = c .before .before .before .before .before .before .before .before .before .before .before .before .before .before .before .before .before .get32 in
+    let b-first = c .before .before .before .before .before .before .before .before .before .before .before .before .before .before .before .has-row in
+    let first = c .before .before .before .before .before .before .before .before .before .before .before .before .before .before .pick in
+    let second = c .before .before .before .before .before .before .before .before .before .before .before .before .before .pick2 in
+    let with-first = c .before .before .before .before .before .before .before .before .before .before .before .get322 in
+    let with-second = c .before .before .before .before .before .before .before .before .before .get323 in
     let without = c .before .before .before .before .before .before .before .before .one-row in
     let f = c .before .before .before .before .before .before .collect in
     let g = c .before .before .collect2 in
     let A = listed (a .work .now) (a .found) in
     let B = listed (f .last .1 .1 .0) (f .result) in
     let C = listed (g .last .1 .1 .0) (g .result) in (
-      both-collected (a .property .now) (k .pre .1 .0) (a .n) (k .pre .1 .1 .0) (k .pre .1 .1 .1 .0) (a .set) (o .result) (o .ensures) (y .before .before .before .before .if2 .left) (y .before .before .row-at .result) _ (y .x .given .1) (y .before .before .row-at .ensures) (a .work .now) (k .pre .1 .1 .1 .1 .1 .1) (a .left) (a .forbidden) (with-a .result) (with-b .result) (without .result) A B C
-          some (not-false (apart (a .set) (a .forbidden)) (y .before .before .before .before .before .before .before .if1 .left)) (with-a .ensures) (with-b .ensures) (without .ensures) (f .ensures .0) (g .ensures .0),
+      both-collected (a .property .now) (k .pre .1 .0) (a .n) (k .pre .1 .1 .0) (k .pre .1 .1 .1 .0) (a .set) (o .result) (o .ensures) (y .before .before .before .before .if2 .left) (y .before .before .row-at .result) _ (y .x .given .1) (y .before .before .row-at .ensures) (a .work .now) (k .pre .1 .1 .1 .1 .1 .1) (of-a .result) (b-first .result) (first .result) (second .result) (of-a .ensures) (b-first .ensures) (first .ensures) (second .ensures)
+          (a .left) (a .forbidden) (with-first .result) (with-second .result) (without .result) A B C
+          some (not-false (apart (a .set) (a .forbidden)) (y .before .before .before .before .before .before .before .if1 .left)) (with-first .ensures) (with-second .ensures) (without .ensures) (f .ensures .0) (g .ensures .0),
       (omega (arith, twice-below (a .left) some, f .ensures .1 .0, g .ensures .1 .0), λ q d. g .ensures .1 .1 q d ∙ f .ensures .1 .1 q d),
     )
 
@@ -219,8 +263,14 @@ pub +collect-spec : {M : Type 1} → statement M
     (collect-returns-4 t)
     (collect-cast-get32 t)
     (collect-get32-requires t)
+    (collect-cast-has-row t)
+    (collect-has-row-requires t)
+    (collect-pick-requires t)
+    (collect-pick-requires-2 t)
     (collect-cast-get32-2 t)
     (collect-get32-requires-2 t)
+    (collect-cast-get32-3 t)
+    (collect-get32-requires-3 t)
     (collect-cast-one-row t)
     (collect-one-row-requires t)
     (collect-sub-collect t)

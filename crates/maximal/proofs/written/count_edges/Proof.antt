@@ -7,9 +7,6 @@ use Rattle.maximal.specs.Listing.{tally-upto}
 use Rattle.maximal.specs.Listing.Laws.{tally-from-le, upto-none, upto-more, upto-stays}
 use Rattle.maximal.proofs.written.count_edges.Statement.{statement}
 use Rattle.maximal.proofs.written.count_edges.Tie as tie
-use Rattle.maximal.proofs.written.count_edges.Reads as reads
-use Rattle.maximal.proofs.written.count_edges.Lts as lts
-use Rattle.maximal.proofs.written.count_from.Reads as count-from-reads
 
 abbrev Inv-loop : tie.InvT-loop
 Inv-loop work c limit i₀ n₀ i n = (i ≤ c) × (n ≡ tally-upto work c limit i) × (n ≤ 2304 * i)

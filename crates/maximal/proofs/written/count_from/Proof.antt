@@ -7,9 +7,6 @@ use Rattle.maximal.specs.Listing.{leads, tally-from}
 use Rattle.maximal.specs.Listing.Laws.{tally-from-none, tally-from-more, tally-from-le}
 use Rattle.maximal.proofs.written.count_from.Statement.{statement}
 use Rattle.maximal.proofs.written.count_from.Tie as tie
-use Rattle.maximal.proofs.written.count_from.Reads as reads
-use Rattle.maximal.proofs.written.count_from.Lts as lts
-use Rattle.maximal.proofs.written.count_under.Reads as count-under-reads
 
 abbrev Inv-loop : tie.InvT-loop
 Inv-loop work c i label₀ n₀ label n = (label ≤ 9) × (n ≡ tally-from work c i label)

@@ -4,10 +4,6 @@ use Rattle.maximal.specs.Charting.{target}
 use borrow.Author.Needs.{needs}
 use Rattle.maximal.proofs.written.leads.Statement.{statement}
 use Rattle.maximal.proofs.written.leads.Tie as tie
-use Rattle.maximal.proofs.written.leads.Reads as reads
-use Rattle.maximal.proofs.written.leads.Lts as lts
-use Rattle.files.proofs.cells.get8.Reads as get8-reads
-use Rattle.files.proofs.cells.has_bit.Reads as has-bit-reads
 
 -- src/written.rt:25:16
 get8-requires : tie.Need-get8-requires

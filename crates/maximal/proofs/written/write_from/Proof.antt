@@ -5,9 +5,6 @@ use Rattle.maximal.specs.Listing.{from-bytes}
 use Rattle.maximal.proofs.WrittenLaws.{Wrote, wrote-none, label-on, labels-so-far, label-fits}
 use Rattle.maximal.proofs.written.write_from.Statement.{statement}
 use Rattle.maximal.proofs.written.write_from.Tie as tie
-use Rattle.maximal.proofs.written.write_from.Reads as reads
-use Rattle.maximal.proofs.written.write_from.Lts as lts
-use Rattle.maximal.proofs.written.write_under.Reads as write-under-reads
 
 abbrev Inv-loop : tie.InvT-loop
 Inv-loop work out₀ c i at label₀ end₀ out label end = (label ≤ 9) × Wrote out₀ out at end (from-bytes work c i label)

@@ -7,10 +7,6 @@ use Rattle.maximal.specs.Listing.Laws.{edges-bytes, model-edges-many}
 use Rattle.maximal.proofs.WrittenLaws.{Wrote, wrote-none, state-on, state-fits, model-end}
 use Rattle.maximal.proofs.written.write_model.Statement.{statement}
 use Rattle.maximal.proofs.written.write_model.Tie as tie
-use Rattle.maximal.proofs.written.write_model.Reads as reads
-use Rattle.maximal.proofs.written.write_model.Lts as lts
-use Rattle.maximal.proofs.written.write_from.Reads as write-from-reads
-use Rattle.maximal.proofs.written.write_nodes.Reads as write-nodes-reads
 
 abbrev Inv-loop : tie.InvT-loop
 Inv-loop interface property work out₀ c edges i₀ end₀ out i end = (i ≤ c) × Wrote out₀ out c end (edges-bytes work c i)

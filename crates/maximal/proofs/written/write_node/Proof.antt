@@ -7,11 +7,6 @@ use Rattle.maximal.proofs.WrittenLaws.{node-of}
 use borrow.Author.Needs.{needs}
 use Rattle.maximal.proofs.written.write_node.Statement.{statement}
 use Rattle.maximal.proofs.written.write_node.Tie as tie
-use Rattle.maximal.proofs.written.write_node.Reads as reads
-use Rattle.maximal.proofs.written.write_node.Lts as lts
-use Rattle.files.proofs.cells.get8.Reads as get8-reads
-use Rattle.files.proofs.cells.has_bit.Reads as has-bit-reads
-use Rattle.files.proofs.encode.put_six.Reads as put-six-reads
 
 -- src/written.rt:82:17
 get8-requires : tie.Need-get8-requires

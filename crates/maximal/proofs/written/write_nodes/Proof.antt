@@ -6,9 +6,6 @@ use Rattle.maximal.specs.Listing.Laws.{nodes-bytes}
 use Rattle.maximal.proofs.WrittenLaws.{Wrote, wrote-none, node-on}
 use Rattle.maximal.proofs.written.write_nodes.Statement.{statement}
 use Rattle.maximal.proofs.written.write_nodes.Tie as tie
-use Rattle.maximal.proofs.written.write_nodes.Reads as reads
-use Rattle.maximal.proofs.written.write_nodes.Lts as lts
-use Rattle.maximal.proofs.written.write_node.Reads as write-node-reads
 
 abbrev Inv-loop : tie.InvT-loop
 Inv-loop work out₀ c i₀ out i = (i ≤ c) × Wrote out₀ out 0 i (nodes-bytes work i)

@@ -1,4 +1,4 @@
-use mathlib.Core.Path.{subst, sym, ap, _∙_}
+use mathlib.Core.Path.{subst, sym}
 use Prim.Native.Nat.{ℕ}
 use native.Mathlib.Omega.{arith}
 use lib.ListN.{getD}
@@ -8,33 +8,29 @@ use Rattle.files.specs.Rules.{watch}
 use Rattle.judging.proofs.HeldLaws.{held-node, held-edge}
 use Rattle.judging.proofs.LevelLaws.{edge-read}
 use Rattle.runs.specs.Worklist.{StartsIn}
-use Rattle.runs.proofs.SummaryLaws.{node-read, node-readable, node-of, from-is, from-in, caller-in, caller-is}
+use Rattle.runs.specs.Worklist.Growth.{grew-none}
+use Rattle.runs.proofs.SummaryLaws.{node-read, node-readable, node-of, from-is, from-in, from-fits, caller-in, caller-is, starts-none}
 use borrow.Author.Needs.{needs}
 use Rattle.runs.proofs.summaries.run_call.Statement.{statement}
 use Rattle.runs.proofs.summaries.run_call.Tie as tie
-use Rattle.runs.proofs.summaries.run_call.Reads as reads
-use Rattle.runs.proofs.summaries.run_call.Lts as lts
-use Rattle.files.proofs.graph.edge_at.Reads as edge-at-reads
-use Rattle.files.proofs.graph.node_at.Reads as node-at-reads
-use Rattle.runs.proofs.summaries.run_where.Reads as run-where-reads
 
--- src/summaries.rt:238:25
+-- src/summaries.rt:155:25
 edge-at-requires : tie.Need-edge-at-requires
 edge-at-requires c κs = search needs
 
--- src/summaries.rt:238:20
+-- src/summaries.rt:155:20
 enum-known-e : tie.Need-enum-known-e
 enum-known-e c = search needs
 
--- src/summaries.rt:239:9
+-- src/summaries.rt:156:9
 enum-told : tie.Need-enum-told
 enum-told c = search needs
 
--- src/summaries.rt:239:9
+-- src/summaries.rt:156:9
 returns : tie.Need-returns
 returns c = absurd (edge-read (c .before .before .edge-at .result) _ _ (c .before .before .edge-at .ensures) (c .enum-told .given .1))
 
--- src/summaries.rt:241:25
+-- src/summaries.rt:158:25
 node-at-requires : tie.Need-node-at-requires
 node-at-requires c κs =
     let k = c .before .before .before .before .before .before .before in
@@ -42,19 +38,19 @@ node-at-requires c κs =
     let h = held-edge (c .before .before .before .edge-at .result) _ (getD ((decode-graph (a .graph .now)) .edges) (a .j) no-edge) (c .before .e .given .1) (c .before .before .before .edge-at .ensures) in
     (k .pre .0 .graph-file, node-readable (a .s) (a .graph .now) (a .rules .now) (k .pre .0) (c .before .e .given .0 .0 .from) (from-in (a .s) (a .graph .now) (a .rules .now) (k .pre .0) (a .j) (k .pre .1 .0) _ h))
 
--- src/summaries.rt:241:20
+-- src/summaries.rt:158:20
 enum-known-v : tie.Need-enum-known-v
 enum-known-v c = search needs
 
--- src/summaries.rt:242:9
+-- src/summaries.rt:159:9
 enum-told-2 : tie.Need-enum-told-2
 enum-told-2 c = search needs
 
--- src/summaries.rt:242:9
+-- src/summaries.rt:159:9
 returns-2 : tie.Need-returns-2
 returns-2 c = absurd (node-read (c .before .before .node-at .result) _ _ (c .before .before .node-at .ensures) (c .enum-told2 .given .1))
 
--- src/summaries.rt:244:24
+-- src/summaries.rt:161:24
 sub-set : tie.Need-sub-set
 sub-set c =
     let k = c .before .before .before .before .before .before .before .before .before .before .before .before in
@@ -63,11 +59,11 @@ sub-set c =
     let v = held-node (c .before .before .before .before .node-at .result) _ (node (decode-graph (a .graph .now)) (c .before .before .before .before .before .before .e .given .0 .0 .from)) (c .before .before .v .given .1) (c .before .before .before .before .node-at .ensures) in
     omega (arith, (caller-in (a .s) (a .graph .now) (a .rules .now) (k .pre .0) (a .j) (k .pre .1 .0) _ h _ v) .0)
 
--- src/summaries.rt:244:23
+-- src/summaries.rt:161:23
 cast-set : tie.Need-cast-set
 cast-set c = search needs
 
--- src/summaries.rt:244:15
+-- src/summaries.rt:161:15
 element-copy-out-set : tie.Need-element-copy-out-set
 element-copy-out-set c =
     let k = c .before .before .before .before .before .before .before .before .before .before .before .before in
@@ -76,29 +72,51 @@ element-copy-out-set c =
     let v = held-node (c .before .before .before .before .node-at .result) _ (node (decode-graph (a .graph .now)) (c .before .before .before .before .before .before .e .given .0 .0 .from)) (c .before .before .v .given .1) (c .before .before .before .before .node-at .ensures) in
     omega (arith, (caller-in (a .s) (a .graph .now) (a .rules .now) (k .pre .0) (a .j) (k .pre .1 .0) _ h _ v) .0, (caller-in (a .s) (a .graph .now) (a .rules .now) (k .pre .0) (a .j) (k .pre .1 .0) _ h _ v) .1)
 
--- src/summaries.rt:245:5
-run-where-requires : tie.Need-run-where-requires
-run-where-requires c κs =
+-- src/summaries.rt:162:8
+reached-any-requires : tie.Need-reached-any-requires
+reached-any-requires c κs =
     let k = c .before .before .before .before .before .before .before .before .before .before .before .before .before .before in
     let a = k .args in
     let h = held-edge (c .before .before .before .before .before .before .before .before .before .before .edge-at .result) _ (getD ((decode-graph (a .graph .now)) .edges) (a .j) no-edge) (c .before .before .before .before .before .before .before .before .e .given .1) (c .before .before .before .before .before .before .before .before .before .before .edge-at .ensures) in
-    (k .pre .0, (k .pre .1 .0, (from-is (a .s) (a .graph .now) (a .rules .now) (k .pre .0) (a .j) (k .pre .1 .0) _ h, (node-of (a .s) (a .graph .now) (a .rules .now) (k .pre .0) (c .before .before .before .before .before .before .before .before .e .given .0 .0 .from) (from-in (a .s) (a .graph .now) (a .rules .now) (k .pre .0) (a .j) (k .pre .1 .0) _ h), k .pre .1 .1))))
+    (from-fits (a .s) (a .graph .now) (a .rules .now) (k .pre .0) (a .j) (k .pre .1 .0) _ h, k .pre .1 .1 .room)
 
--- src/summaries.rt:226:1
+-- src/summaries.rt:163:9
+run-where-requires : tie.Need-run-where-requires
+run-where-requires c κs =
+    let k = c .before .before .before .before .before .before .before .before .before .before .before .before .before .before .before .before .before in
+    let a = k .args in
+    let h = held-edge (c .before .before .before .before .before .before .before .before .before .before .before .before .before .edge-at .result) _ (getD ((decode-graph (a .graph .now)) .edges) (a .j) no-edge) (c .before .before .before .before .before .before .before .before .before .before .before .e .given .1) (c .before .before .before .before .before .before .before .before .before .before .before .before .before .edge-at .ensures) in
+    (k .pre .0, (k .pre .1 .0, (from-is (a .s) (a .graph .now) (a .rules .now) (k .pre .0) (a .j) (k .pre .1 .0) _ h, (node-of (a .s) (a .graph .now) (a .rules .now) (k .pre .0) (c .before .before .before .before .before .before .before .before .before .before .before .e .given .0 .0 .from) (from-in (a .s) (a .graph .now) (a .rules .now) (k .pre .0) (a .j) (k .pre .1 .0) _ h), k .pre .1 .1))))
+
+-- src/summaries.rt:163:9
 same-length : tie.Need-same-length
 same-length c = search needs
 
--- src/summaries.rt:226:1
+-- src/summaries.rt:163:9
 returns-3 : tie.Need-returns-3
 returns-3 c =
-    let k = c .before .before .before .before .before .before .before .before .before .before .before .before .before .before .before .before .before in
+    let k = c .before .before .before .before .before .before .before .before .before .before .before .before .before .before .before .before .before .before .before .before in
     let a = k .args in
     let x = c .before .before .run-where in
-    let h = held-edge (c .before .before .before .before .before .before .before .before .before .before .before .before .before .edge-at .result) _ (getD ((decode-graph (a .graph .now)) .edges) (a .j) no-edge) (c .before .before .before .before .before .before .before .before .before .before .before .e .given .1) (c .before .before .before .before .before .before .before .before .before .before .before .before .before .edge-at .ensures) in
-    let v = held-node (c .before .before .before .before .before .before .before .before .before .node-at .result) _ (node (decode-graph (a .graph .now)) (c .before .before .before .before .before .before .before .before .before .before .before .e .given .0 .0 .from)) (c .before .before .before .before .before .before .before .v .given .1) (c .before .before .before .before .before .before .before .before .before .node-at .ensures) in (
-      x .ensures .0,
-      λ n p hp y. x .ensures .1 n p hp (subst (λ (i : ℕ). StartsIn (decode-graph (a .graph .now)) (watch (decode-rules (a .rules .now))) (getD (a .callers .now) i 0) (a .work .now)
-          (getD ((decode-graph (a .graph .now)) .edges) (a .j) no-edge) p) (sym (caller-is (a .s) (a .graph .now) (a .rules .now) (k .pre .0) (a .j) (k .pre .1 .0) _ h _ v)) y),
+    let h = held-edge (c .before .before .before .before .before .before .before .before .before .before .before .before .before .before .before .before .edge-at .result) _ (getD ((decode-graph (a .graph .now)) .edges) (a .j) no-edge) (c .before .before .before .before .before .before .before .before .before .before .before .before .before .before .e .given .1) (c .before .before .before .before .before .before .before .before .before .before .before .before .before .before .before .before .edge-at .ensures) in
+    let v = held-node (c .before .before .before .before .before .before .before .before .before .before .before .before .node-at .result) _ (node (decode-graph (a .graph .now)) (c .before .before .before .before .before .before .before .before .before .before .before .before .before .before .e .given .0 .0 .from)) (c .before .before .before .before .before .before .before .before .before .before .v .given .1) (c .before .before .before .before .before .before .before .before .before .before .before .before .node-at .ensures) in
+    (x .ensures .0, λ n p hp y. x .ensures .1 n p hp (subst (λ (i : ℕ). StartsIn (decode-graph (a .graph .now)) (watch (decode-rules (a .rules .now))) (getD (a .callers .now) i 0) (a .work .now) (getD ((decode-graph (a .graph .now)) .edges) (a .j) no-edge) p) (sym (caller-is (a .s) (a .graph .now) (a .rules .now) (k .pre .0) (a .j) (k .pre .1 .0) _ h _ v)) y))
+
+-- src/summaries.rt:143:1
+same-length-2 : tie.Need-same-length-2
+same-length-2 c = search needs
+
+-- src/summaries.rt:143:1
+returns-4 : tie.Need-returns-4
+returns-4 c =
+    let k = c .before .before .before .before .before .before .before .before .before .before .before .before .before .before .before .before in
+    let a = k .args in
+    let x = c .before .reached-any in
+    let h = held-edge (c .before .before .before .before .before .before .before .before .before .before .before .before .edge-at .result) _ (getD ((decode-graph (a .graph .now)) .edges) (a .j) no-edge) (c .before .before .before .before .before .before .before .before .before .before .e .given .1) (c .before .before .before .before .before .before .before .before .before .before .before .before .edge-at .ensures) in
+    let v = held-node (c .before .before .before .before .before .before .before .before .node-at .result) _ (node (decode-graph (a .graph .now)) (c .before .before .before .before .before .before .before .before .before .before .e .given .0 .0 .from)) (c .before .before .before .before .before .before .v .given .1) (c .before .before .before .before .before .before .before .before .node-at .ensures) in (
+      grew-none (decode-graph (a .graph .now)) (watch (decode-rules (a .rules .now))) (a .tail) (a .work .now) (k .pre .1 .1),
+      λ n p hp y. absurd (starts-none (decode-graph (a .graph .now)) (watch (decode-rules (a .rules .now))) (a .work .now) (getD ((decode-graph (a .graph .now)) .edges) (a .j) no-edge)
+          (c .before .before .before .before .before .before .before .before .before .before .e .given .0 .0 .from) (x .result) _ p (from-is (a .s) (a .graph .now) (a .rules .now) (k .pre .0) (a .j) (k .pre .1 .0) _ h) (x .ensures) (c .if1 .left) hp (subst (λ (i : ℕ). StartsIn (decode-graph (a .graph .now)) (watch (decode-rules (a .rules .now))) (getD (a .callers .now) i 0) (a .work .now) (getD ((decode-graph (a .graph .now)) .edges) (a .j) no-edge) p) (sym (caller-is (a .s) (a .graph .now) (a .rules .now) (k .pre .0) (a .j) (k .pre .1 .0) _ h _ v)) y)),
     )
 
 pub run-call-spec : {M : Type 1} → statement M
@@ -116,6 +134,9 @@ run-call-spec =
     sub-set
     cast-set
     element-copy-out-set
+    reached-any-requires
     run-where-requires
     same-length
-    returns-3)
+    returns-3
+    same-length-2
+    returns-4)

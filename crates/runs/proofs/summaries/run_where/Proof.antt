@@ -1,4 +1,4 @@
-use mathlib.Core.Path.{_≡_, refl, sym, ap, subst, _∙_}
+use mathlib.Core.Path.{_≡_, refl, sym, subst, _∙_}
 use mathlib.Core.Logic.{⊎-elim}
 use mathlib.Core.List.{List}
 use Prim.Native.Nat.{ℕ, _+_, _-_, _≤_, _<_}
@@ -12,10 +12,6 @@ use Rattle.runs.specs.Worklist.Growth.{grew-none, grew-on}
 use Rattle.runs.proofs.SummaryLaws.{RanIn, where-run, where-not}
 use Rattle.runs.proofs.summaries.run_where.Statement.{statement}
 use Rattle.runs.proofs.summaries.run_where.Tie as tie
-use Rattle.runs.proofs.summaries.run_where.Reads as reads
-use Rattle.runs.proofs.summaries.run_where.Lts as lts
-use Rattle.files.proofs.cells.get8.Reads as get8-reads
-use Rattle.runs.proofs.summaries.run_edge.Reads as run-edge-reads
 
 abbrev Inv-loop : tie.InvT-loop
 Inv-loop graph rules s work₀ tail j g set p₀ end₀ work p end =

@@ -1,7 +1,6 @@
 use mathlib.Core.Path.{_∙_}
 use mathlib.Core.Logic.{inr}
 use native.Mathlib.Omega.{arith}
-use lib.ListN.{length}
 use borrow.Author.Needs.{needs}
 use Rattle.files.specs.Decode.{decode-graph, decode-rules}
 use Rattle.files.specs.Rules.{watch}

@@ -1,4 +1,3 @@
-use native.Mathlib.Omega.{arith}
 use lib.ListN.{length}
 use Rattle.files.specs.Outcome.{refused-answer}
 use borrow.Author.Needs.{needs}

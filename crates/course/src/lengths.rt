@@ -1,0 +1,42 @@
+// The lengths that an example tells: numbers of two bytes, and the published length of a call's work buffer.
+ghost use mathlib.Core.Path.{_≡_};
+ghost use Prim.Native.Nat.{_+_, _≤_, _<_};
+ghost use lib.ListN.{length};
+use files::cells::wide;
+use judging::shape::Shape;
+use judging::sizes::Sizes;
+use maximal::places::Places;
+use runs::regions::Regions;
+
+// The number that an example has in two bytes from i on, low byte first.
+pub(crate) fn two_bytes(example: &[u8], i: usize) -> usize
+    requires { ⌜ i + 1 < length (now example) ⌝ }
+    ensures { λ r. ⌜ r < 65536 ⌝ }
+{
+    wide(example[i]) + 256 * wide(example[i + 1])
+}
+
+// The published length of the call that a letter names, where the flag is 1.
+pub(crate) fn work_length(letter: u8, flag: u8) -> usize
+    ensures { λ r. ⌜ r ≤ 165152 ⌝ }
+{
+    if flag == 0 {
+        return 0;
+    }
+    if letter == b'j' {
+        return Shape::ROOM;
+    }
+    if letter == b'm' {
+        return Places::ROOM;
+    }
+    if letter == b'w' {
+        return Regions::ROOM;
+    }
+    Sizes::ROOM
+}
+
+pub(crate) fn work_buffer() -> [u8; 165152]
+    ensures { λ r. ⌜ 165152 ≡ length r ⌝ }
+{
+    [0; 165152]
+}

@@ -1,0 +1,122 @@
+// Examples that are watched: a graph with its rules, or a known side with the property of the other one.
+ghost use Prim.Native.Nat.{_≤_};
+ghost use lib.ListN.{length};
+use crate::answers::say_watched;
+use crate::lengths::two_bytes;
+use crate::lengths::work_buffer;
+use crate::lengths::work_length;
+
+fn watch_on(
+    interface: &[u8],
+    graph: &[u8],
+    rules: &[u8],
+    start: u8,
+    out: &mut [u8],
+    work: &mut [u8],
+    room: usize,
+    lent: usize,
+)
+    requires { ⌜ (room ≤ length (now out)) × (lent ≤ length (now work)) ⌝ }
+{
+    let answer = runs::watch(
+        interface,
+        graph,
+        rules,
+        start,
+        &mut out[..room],
+        &mut work[..lent],
+    );
+    say_watched(answer, &out[..room]);
+}
+
+// Watching. The example starts with the lengths of the first two files and of the output, two bytes each, low byte first, then 1 for a work buffer of the published
+// length or 0 for none, and the start method; the three files follow.
+pub(crate) fn watch_runs(example: &[u8]) {
+    if example.len() < 8 {
+        return;
+    }
+    let first = 8 + two_bytes(example, 0);
+    let second = first + two_bytes(example, 2);
+    let room = two_bytes(example, 4);
+    let lent = work_length(b'w', example[6]);
+    if example.len() < second {
+        return;
+    }
+    let mut out = [0u8; 65536];
+    let mut work = work_buffer();
+    watch_on(
+        &example[8..first],
+        &example[first..second],
+        &example[second..],
+        example[7],
+        &mut out,
+        &mut work,
+        room,
+        lent,
+    );
+}
+
+fn compose_on(
+    known_interface: &[u8],
+    known_graph: &[u8],
+    other_interface: &[u8],
+    property: &[u8],
+    rules: &[u8],
+    start: u8,
+    out: &mut [u8],
+    store: &mut [u8],
+    work: &mut [u8],
+    room: usize,
+    held: usize,
+    lent: usize,
+)
+    requires { ⌜ (room ≤ length (now out)) × ((held ≤ length (now store)) × (lent ≤ length (now work))) ⌝ }
+{
+    let answer = runs::compose(
+        known_interface,
+        known_graph,
+        other_interface,
+        property,
+        rules,
+        start,
+        &mut out[..room],
+        &mut store[..held],
+        &mut work[..lent],
+    );
+    say_watched(answer, &out[..room]);
+}
+
+// The composed verdict. The example starts with the lengths of the first four files and of the output, two bytes each, low byte first, then 1 for a store of the
+// published length or 0 for none, the same for a work buffer, and the start method; the five files follow.
+pub(crate) fn compose_sides(example: &[u8]) {
+    if example.len() < 13 {
+        return;
+    }
+    let first = 13 + two_bytes(example, 0);
+    let second = first + two_bytes(example, 2);
+    let third = second + two_bytes(example, 4);
+    let fourth = third + two_bytes(example, 6);
+    let room = two_bytes(example, 8);
+    let held = work_length(b'w', example[10]);
+    let lent = work_length(b'm', example[11]);
+    if example.len() < fourth {
+        return;
+    }
+    let mut out = [0u8; 65536];
+    let mut store = work_buffer();
+    let mut work = work_buffer();
+    compose_on(
+        &example[13..first],
+        &example[first..second],
+        &example[second..third],
+        &example[third..fourth],
+        &example[fourth..],
+        example[12],
+        &mut out,
+        &mut store,
+        &mut work,
+        room,
+        held,
+        lent,
+    );
+}

@@ -1,0 +1,69 @@
+use mathlib.Core.Path.{refl}
+use Prim.Native.Nat.{_-_, _≤_}
+use native.Mathlib.Omega.{arith}
+use Rattle.files.specs.Decode.{decode-rules}
+use Rattle.files.specs.Rules.{watch}
+use Rattle.runs.proofs.SummaryLaws.{EnteringTo, entering-more}
+use Rattle.runs.proofs.sets.entering_by.Statement.{statement}
+use Rattle.runs.proofs.sets.entering_by.Tie as tie
+
+abbrev Inv-loop : tie.InvT-loop
+Inv-loop rules work m p t₀ a₀ t a = (a ≤ 8) × EnteringTo (watch (decode-rules rules)) m p t a
+
+abbrev μ-loop : tie.MeasureT-loop
+μ-loop rules work m p t₀ a₀ t a = 8 - a
+
+-- src/summaries.rt:192:5
+loop-holds : tie.Need-loop-holds Inv-loop μ-loop
+loop-holds c = (omega arith, (refl, λ b q h. absurd (omega (arith, h))))
+
+-- src/summaries.rt:193:47
+add-entering : tie.Need-add-entering Inv-loop μ-loop
+add-entering c = omega (arith, c .loop-test .taken)
+
+-- src/summaries.rt:193:25
+entering-requires : tie.Need-entering-requires Inv-loop μ-loop
+entering-requires c κs = (c .before .before .before .before .pre .0, (c .before .before .before .before .pre .1 .0, (omega arith, (omega (arith, c .loop-test .taken), c .before .before .before .before .pre .1 .1))))
+
+-- src/summaries.rt:193:11
+cast-t : tie.Need-cast-t Inv-loop μ-loop
+cast-t c = omega arith
+
+-- src/summaries.rt:193:9
+array-write-t : tie.Need-array-write-t Inv-loop μ-loop
+array-write-t c = omega (arith, c .before .loop-test .taken)
+
+-- src/summaries.rt:194:9
+add-a : tie.Need-add-a Inv-loop μ-loop
+add-a c = omega (arith, c .before .loop-test .taken)
+
+-- src/summaries.rt:192:5
+loop-less : tie.Need-loop-less Inv-loop μ-loop
+loop-less c = omega (arith, c .before .loop-test .taken)
+
+-- src/summaries.rt:192:5
+loop-again : tie.Need-loop-again Inv-loop μ-loop
+loop-again c =
+    let a = c .before .before .before .before .before .args in
+    let l = c .before .before .loop in
+    (omega (arith, c .before .loop-test .taken), entering-more (watch (decode-rules (a .rules .now))) (a .m) (a .p) (l .t) (l .a) (c .entering .result) (c .before .loop-test .taken) (c .entering .ensures) (l .inv .1))
+
+-- src/summaries.rt:186:1
+returns : tie.Need-returns Inv-loop μ-loop
+returns c = λ b q hb hq. c .before .loop .inv .1 .1 b q (omega (arith, c .loop-test .left, hb)) hq
+
+pub entering-by-spec : {M : Type 1} → statement M
+entering-by-spec =
+    tie.close
+    (tie.spec
+    Inv-loop
+    μ-loop
+    loop-holds
+    add-entering
+    entering-requires
+    cast-t
+    array-write-t
+    add-a
+    loop-less
+    loop-again
+    returns)
