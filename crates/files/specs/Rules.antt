@@ -38,9 +38,6 @@ by-rule [] q v = q
 by-rule (u ∷ us) q v = let r = by-rule us q v in cond (eqb (u .state) q && same-event (u .event) v) (u .next) r
 
 -- "state 7 is bad and stays bad"
-abbrev pub bad-state : ℕ
-bad-state = 7
-
 pub watch : List Rule → ℕ → Event → ℕ
 watch us q v = cond (eqb q 7) 7 (by-rule us q v)
 

@@ -3,7 +3,7 @@
 use crate::growth::{series, Series, EDGES, NODES};
 use crate::inputs::{exactly, largest_graph, timed, typical_graph, Timed};
 use compare::Input;
-use generator::extremes::{longest_passing_trail, longest_trail, slow_summary};
+use generator::extremes::{late_summary, longest_passing_trail, longest_trail, slow_summary};
 use generator::generate::Random;
 
 pub fn inputs() -> Vec<Timed> {
@@ -19,6 +19,7 @@ pub fn inputs() -> Vec<Timed> {
         watched("256 nodes, 4,096 edges, 896 rules", closed(&largest, all_bad)),
         watched("the same, clean", closed(&largest, never_bad)),
         watched("3,968 calls, summaries grow slowly", slow_summary()),
+        watched("3,875 calls, summaries grow late", late_summary()),
         watched("trail of 1,793 records, entered", longest_trail()),
         watched("trail of 1,779 records, passed over", longest_passing_trail()),
     ]

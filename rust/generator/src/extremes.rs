@@ -83,6 +83,30 @@ pub fn slow_summary() -> [Vec<u8>; 3] {
     [interface_of(1, 1), graph_file(&nodes, &edges), rules]
 }
 
+/// Nodes of method 1, reached in every state, call method 2 over as many edges as there is room for. Method 2 returns after one more step of the monitor each time, on a longer
+/// way: its summary still grows when all calls have been run, and each growth concerns every one of them.
+pub fn late_summary() -> [Vec<u8>; 3] {
+    let turn = BAD as u8;
+    let (callers, way) = (200, 2 * turn);
+    let ends = callers + way + 1;
+    let once = ends + turn;
+    let method = |at| 1 + u8::from(at >= callers) + u8::from(at >= once);
+    let entry = |at| [0, callers, once].contains(&at);
+    let nodes: Vec<Record> = (0..=once).map(|at| node(method(at), at >= ends, entry(at))).collect();
+    let spread = (0..callers - 1).map(|at| (at, 0, at + 1)).chain([(0, 3, 0)]);
+    let longer = (0..way)
+        .map(|step| (callers + step, if step % 2 == 0 { 3 } else { 0 }, callers + step + 1));
+    let leave = (0..turn).map(|step| (callers + 2 * step, 0, ends + step));
+    let mut edges: Edges = spread.chain(longer).chain(leave).collect();
+    let room = LIMITS.edges - edges.len();
+    let target = |at: u8, far: u16| ((u16::from(at) + far) % u16::from(callers)) as u8;
+    let calls = (0..callers).flat_map(|at| (1..=20).map(move |far| (at, 2, target(at, far))));
+    edges.extend(calls.take(room));
+    let step =
+        |state| [1, 2].map(|caller| [kind::RULE, state, RETURN_TO, 3, caller, (state + 1) % turn]);
+    [interface_of(7, 7), graph_file(&nodes, &edges), (0..turn).flat_map(step).flatten().collect()]
+}
+
 /// A closed side, and rules by which this event between the method and method 1 steps the monitor.
 fn runs(provided: u8, graph: Vec<u8>, event: u8, method: u8) -> [Vec<u8>; 3] {
     let step = |state| [kind::RULE, state, event, method, 1, state + 1];

@@ -105,11 +105,7 @@ pub fn show(limits: &Limits, graph1: &[u8], graph2: &[u8], number: usize) -> Out
     outcome(|| {
         let first = in_file(1, check_graph(graph1, limits))?.nodes.len();
         let second = in_file(2, check_graph(graph2, limits))?.nodes.len();
-        let (file, node) = if number < first {
-            (graph1, number)
-        } else {
-            (graph2, number - first)
-        };
+        let (file, node) = if number < first { (graph1, number) } else { (graph2, number - first) };
         if number >= first + second {
             return Err(Refusal::of_call(number::PAST_THE_LAST));
         }
@@ -119,10 +115,7 @@ pub fn show(limits: &Limits, graph1: &[u8], graph2: &[u8], number: usize) -> Out
 }
 
 /// Watching: is a run of the graph bad?
-#[expect(
-    clippy::too_many_arguments,
-    reason = "three files, a method and three lengths are given"
-)]
+#[expect(clippy::too_many_arguments, reason = "three files, a method and three lengths are given")]
 pub fn watch(
     limits: &Limits,
     interface: &[u8],
@@ -155,8 +148,7 @@ pub fn compose(
     lent: [(usize, usize); 2],
 ) -> Outcome {
     outcome(|| {
-        lent.into_iter()
-            .try_for_each(|(work_len, room)| check_work(work_len, room))?;
+        lent.into_iter().try_for_each(|(work_len, room)| check_work(work_len, room))?;
         let known_interface = in_file(1, check_interface(sides.known_interface))?;
         let known = in_file(2, check_graph(sides.known_graph, limits))?;
         let other_interface = in_file(3, check_interface(sides.other_interface))?;
@@ -177,11 +169,7 @@ fn outcome(call: impl FnOnce() -> Result<Outcome, Refusal>) -> Outcome {
 }
 
 fn in_file<T>(file: u8, checked: Result<T, Fault>) -> Result<T, Refusal> {
-    checked.map_err(|(number, record)| Refusal {
-        number,
-        file,
-        record,
-    })
+    checked.map_err(|(number, record)| Refusal { number, file, record })
 }
 
 /// Refuses by a number that no single file causes, unless the condition is met.
@@ -202,27 +190,17 @@ fn check_start(start: u8) -> Result<usize, Refusal> {
 }
 
 fn check_of_interface(file: u8, graph: &Graph, interface: &Interface) -> Result<(), Refusal> {
-    let node = graph
-        .nodes
-        .iter()
-        .position(|node| !interface.provides(node.method));
+    let node = graph.nodes.iter().position(|node| !interface.provides(node.method));
     let unrequired = |label| label != INTERNAL && !interface.requires(label);
     let edge = graph.edges.iter().position(|edge| unrequired(edge.label));
     match node.or(edge.map(|edge| graph.nodes.len() + edge)) {
-        Some(record) => Err(Refusal {
-            number: number::NOT_OF_INTERFACE,
-            file,
-            record,
-        }),
+        Some(record) => Err(Refusal { number: number::NOT_OF_INTERFACE, file, record }),
         None => Ok(()),
     }
 }
 
 fn check_disjoint(first: &Interface, second: &Interface) -> Result<(), Refusal> {
-    check(
-        first.provided & second.provided == 0,
-        number::NOT_OF_INTERFACE,
-    )
+    check(first.provided & second.provided == 0, number::NOT_OF_INTERFACE)
 }
 
 fn check_provided(interface: &Interface, start: usize) -> Result<(), Refusal> {
@@ -246,23 +224,14 @@ fn say(
     out_len: usize,
 ) -> Result<Outcome, Refusal> {
     check(written.len() <= out_len, number::SHORT_OUTPUT)?;
-    Ok(Outcome::Said {
-        verdict,
-        values,
-        written,
-    })
+    Ok(Outcome::Said { verdict, values, written })
 }
 
 /// The negative verdict with the records that explain it, or else the positive one.
 fn say_records(records: Option<Vec<Record>>, out_len: usize) -> Result<Outcome, Refusal> {
     match records {
         None => say(POSITIVE, vec![], vec![], out_len),
-        Some(records) => say(
-            NEGATIVE,
-            vec![records.len() as u64],
-            records.concat(),
-            out_len,
-        ),
+        Some(records) => say(NEGATIVE, vec![records.len() as u64], records.concat(), out_len),
     }
 }
 

@@ -11,21 +11,14 @@ pub type Fault = (u8, usize);
 /// Checks a file of nodes followed by edges.
 pub fn check_graph(bytes: &[u8], limits: &Limits) -> Result<Graph, Fault> {
     let records = split(bytes)?;
-    let count = records
-        .iter()
-        .take_while(|record| record[0] == kind::NODE)
-        .count();
+    let count = records.iter().take_while(|record| record[0] == kind::NODE).count();
     let (node_records, edge_records) = records.split_at(count);
-    check_all(edge_records, count, number::KIND, |record| {
-        record[0] == kind::EDGE
-    })?;
+    check_all(edge_records, count, number::KIND, |record| record[0] == kind::EDGE)?;
     let nodes = parse(node_records, 0, Node::from_record)?;
     let edges = parse(edge_records, count, Edge::from_record)?;
     check_order(&edges, count, |edge| *edge)?;
     check_limit(nodes.len() <= limits.nodes && edges.len() <= limits.edges)?;
-    check_all(&edges, count, number::PAST_THE_LAST, |edge| {
-        edge.from < count && edge.to < count
-    })?;
+    check_all(&edges, count, number::PAST_THE_LAST, |edge| edge.from < count && edge.to < count)?;
     check_all(&edges, count, number::BETWEEN_METHODS, |edge| {
         nodes[edge.from].method == nodes[edge.to].method
     })?;
@@ -55,9 +48,7 @@ pub fn check_rules(bytes: &[u8]) -> Result<Vec<Rule>, Fault> {
 pub fn check_interface(bytes: &[u8]) -> Result<Interface, Fault> {
     let records = split(bytes)?;
     let (first, rest) = records.split_at(records.len().min(1));
-    check_all(first, 0, number::KIND, |record| {
-        record[0] == kind::INTERFACE
-    })?;
+    check_all(first, 0, number::KIND, |record| record[0] == kind::INTERFACE)?;
     check_all(rest, 1, number::KIND, |_| false)?;
     let interfaces = parse(first, 0, Interface::from_record)?;
     check_not_empty(&interfaces)?;
@@ -89,9 +80,7 @@ fn parse<T>(
     from_record: impl Fn(&Record) -> Option<T>,
 ) -> Result<Vec<T>, Fault> {
     let parsed = records.iter().enumerate();
-    parsed
-        .map(|(at, record)| from_record(record).ok_or((number::RANGE, start + at)))
-        .collect()
+    parsed.map(|(at, record)| from_record(record).ok_or((number::RANGE, start + at))).collect()
 }
 
 /// Refuses by `number` the first item that is not as it should be.
@@ -108,10 +97,7 @@ fn check_all<T>(
 }
 
 fn check_order<T, K: Ord>(items: &[T], start: usize, key: impl Fn(&T) -> K) -> Result<(), Fault> {
-    match items
-        .windows(2)
-        .position(|pair| key(&pair[0]) >= key(&pair[1]))
-    {
+    match items.windows(2).position(|pair| key(&pair[0]) >= key(&pair[1])) {
         Some(at) => Err((number::ORDER, start + at + 1)),
         None => Ok(()),
     }

@@ -53,13 +53,7 @@ impl Graph {
             reversed[*slot] = *edge;
             *slot += 1;
         }
-        Graph {
-            nodes,
-            edges,
-            by_source,
-            by_target,
-            reversed,
-        }
+        Graph { nodes, edges, by_source, by_target, reversed }
     }
 
     /// The graph as a file.
@@ -96,7 +90,6 @@ impl Graph {
 
     /// The entry nodes of one method, ascending.
     pub(crate) fn entries_of(&self, method: usize) -> impl Iterator<Item = usize> + '_ {
-        self.entries()
-            .filter(move |&node| self.nodes[node].method == method)
+        self.entries().filter(move |&node| self.nodes[node].method == method)
     }
 }

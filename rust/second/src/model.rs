@@ -69,15 +69,8 @@ impl<'a> Builder<'a> {
         Builder {
             limits,
             rows,
-            labels: labels
-                .map(|number| Label {
-                    number,
-                    boxes: boxes(number),
-                })
-                .collect(),
-            places: provided(interface)
-                .map(|method| (method, place(method)))
-                .collect(),
+            labels: labels.map(|number| Label { number, boxes: boxes(number) }).collect(),
+            places: provided(interface).map(|method| (method, place(method))).collect(),
             states: Vec::new(),
             found: BTreeMap::new(),
             targets: Vec::new(),
@@ -96,11 +89,7 @@ impl<'a> Builder<'a> {
         for returns in [false, true] {
             let place = &self.places[&method][usize::from(returns)];
             for rows in place.minimal_supports(&obligations) {
-                targets.push(self.number(State {
-                    method,
-                    returns,
-                    rows,
-                })?);
+                targets.push(self.number(State { method, returns, rows })?);
             }
         }
         let list = self.targets.len();
@@ -125,10 +114,7 @@ impl<'a> Builder<'a> {
         let mut lists = Vec::new();
         for label in 0..self.labels.len() {
             let boxes = rows.intersection(&self.labels[label].boxes);
-            let obligations = boxes
-                .iter()
-                .flat_map(|row| self.rows[row].operands())
-                .collect();
+            let obligations = boxes.iter().flat_map(|row| self.rows[row].operands()).collect();
             let list = self.successors(method, obligations)?;
             self.edges += self.targets[list].len();
             lists.push(list);
@@ -152,14 +138,8 @@ impl<'a> Builder<'a> {
         let mut nodes = Vec::with_capacity(self.states.len());
         let mut edges = Vec::with_capacity(self.edges);
         for (from, (state, &at)) in self.found.iter().enumerate() {
-            let State {
-                method, returns, ..
-            } = *state;
-            nodes.push(Node {
-                method,
-                returns,
-                entry: at < entries,
-            });
+            let State { method, returns, .. } = *state;
+            nodes.push(Node { method, returns, entry: at < entries });
             for (label, &list) in self.labels.iter().zip(&self.steps[at]) {
                 let label = label.number;
                 edges.extend(targets[list].iter().map(|&to| Edge { from, label, to }));

@@ -66,16 +66,8 @@ struct Propagation<'a> {
 
 impl<'a> Propagation<'a> {
     fn new(graph: &'a Graph, rows: &[Row], users: &'a [Users]) -> Propagation<'a> {
-        let ranks = Ranks {
-            rows: rows.len(),
-            ranks: vec![0; graph.nodes.len() * rows.len()],
-        };
-        let mut propagation = Propagation {
-            graph,
-            users,
-            ranks,
-            queue: VecDeque::new(),
-        };
+        let ranks = Ranks { rows: rows.len(), ranks: vec![0; graph.nodes.len() * rows.len()] };
+        let mut propagation = Propagation { graph, users, ranks, queue: VecDeque::new() };
         for (at, node) in graph.nodes.iter().enumerate() {
             for (number, row) in rows.iter().enumerate() {
                 if row.is_false_at(node.method, node.returns) {
@@ -105,11 +97,7 @@ impl<'a> Propagation<'a> {
         }
         for &(or, other) in &users.ors {
             // An operand of higher rank is still in the queue and will make the row false itself.
-            if self
-                .ranks
-                .rank(node, other)
-                .is_some_and(|other| other <= rank)
-            {
+            if self.ranks.rank(node, other).is_some_and(|other| other <= rank) {
                 self.set(node, or, rank + 1);
             }
         }

@@ -50,12 +50,7 @@ pub struct Limits {
 
 impl Limits {
     /// The published limits.
-    pub const DESK: Limits = Limits {
-        nodes: 256,
-        edges: 4096,
-        rows: 32,
-        ors: 12,
-    };
+    pub const DESK: Limits = Limits { nodes: 256, edges: 4096, rows: 32, ors: 12 };
 }
 
 #[derive(Clone, Copy, Debug, PartialEq, Eq)]
@@ -132,25 +127,14 @@ fn below(end: usize, byte: u8) -> Option<usize> {
 impl Node {
     pub fn record(&self) -> Record {
         let method = self.method as u8;
-        [
-            kind::NODE,
-            method,
-            self.returns.into(),
-            self.entry.into(),
-            0,
-            0,
-        ]
+        [kind::NODE, method, self.returns.into(), self.entry.into(), 0, 0]
     }
 
     pub(crate) fn from_record(record: &Record) -> Option<Node> {
         let [kind::NODE, number, returns, entry, 0, 0] = *record else {
             return None;
         };
-        Some(Node {
-            method: method(number)?,
-            returns: flag(returns)?,
-            entry: flag(entry)?,
-        })
+        Some(Node { method: method(number)?, returns: flag(returns)?, entry: flag(entry)? })
     }
 }
 
@@ -164,11 +148,7 @@ impl Edge {
         let [kind::EDGE, from, label, to, 0, 0] = *record else {
             return None;
         };
-        Some(Edge {
-            from: usize::from(from),
-            label: below(LABELS, label)?,
-            to: usize::from(to),
-        })
+        Some(Edge { from: usize::from(from), label: below(LABELS, label)?, to: usize::from(to) })
     }
 }
 
@@ -187,10 +167,9 @@ impl Row {
             (operator::NOT_RETURN, 0, 0) => Some(Row::NotReturn),
             (operator::AND, _, _) => Some(Row::And(operands.0, operands.1)),
             (operator::OR, _, _) => Some(Row::Or(operands.0, operands.1)),
-            (operator::BOX, _, _) => below(LABELS, a).map(|label| Row::Box {
-                label,
-                row: operands.1,
-            }),
+            (operator::BOX, _, _) => {
+                below(LABELS, a).map(|label| Row::Box { label, row: operands.1 })
+            }
             _ => None,
         }
     }

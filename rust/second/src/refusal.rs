@@ -28,10 +28,6 @@ pub struct Refusal {
 impl Refusal {
     /// A refusal that no single file causes.
     pub(crate) fn of_call(number: u8) -> Refusal {
-        Refusal {
-            number,
-            file: 0,
-            record: 0,
-        }
+        Refusal { number, file: 0, record: 0 }
     }
 }

@@ -15,9 +15,7 @@ const NO_CAUSE: Pair = (0, 255);
 /// graph satisfies the property.
 pub(crate) fn fault_sheet(graph: &Graph, rows: &[Row]) -> Option<Vec<Record>> {
     let ranks = Ranks::new(graph, rows);
-    let entry = graph
-        .entries()
-        .find(|&node| ranks.rank(node, 0).is_some())?;
+    let entry = graph.entries().find(|&node| ranks.rank(node, 0).is_some())?;
     let mut listed = vec![false; graph.nodes.len() * rows.len()];
     let mut queue = VecDeque::from([(entry, 0)]);
     listed[entry * rows.len()] = true;
@@ -54,8 +52,6 @@ fn causes(graph: &Graph, rows: &[Row], ranks: &Ranks, (node, row): Pair) -> [Opt
 
 /// The first of the false pairs that have the lowest rank.
 fn lowest(ranks: &Ranks, pairs: impl IntoIterator<Item = Pair>) -> Option<Pair> {
-    let failing = pairs
-        .into_iter()
-        .filter_map(|pair| Some((ranks.rank(pair.0, pair.1)?, pair)));
+    let failing = pairs.into_iter().filter_map(|pair| Some((ranks.rank(pair.0, pair.1)?, pair)));
     failing.min_by_key(|&(rank, _)| rank).map(|(_, pair)| pair)
 }

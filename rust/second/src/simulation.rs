@@ -18,9 +18,7 @@ pub(crate) fn largest_simulation(first: &Graph, second: &Graph) -> Vec<ByteSet> 
 /// The lowest entry of the first graph that is related to no entry of the second.
 pub(crate) fn uncovered_entry(first: &Graph, second: &Graph, related: &[ByteSet]) -> Option<usize> {
     let entries = second.entries().collect();
-    first
-        .entries()
-        .find(|&node| related[node].is_disjoint(&entries))
+    first.entries().find(|&node| related[node].is_disjoint(&entries))
 }
 
 /// The nodes in the order in which a depth-first search leaves them, so that a node comes after
@@ -105,24 +103,14 @@ impl<'a> Refinement<'a> {
                 .outgoing(at)
                 .iter()
                 .map(|edge| &labelled[edge.label])
-                .fold(of_method[usize::from(node.returns)], |row, able| {
-                    row.intersection(able)
-                });
+                .fold(of_method[usize::from(node.returns)], |row, able| row.intersection(able));
             // Edges stay inside a method, so only nodes of the same method can be missed.
             lost.push(of_method[0].union(&of_method[1]).without(&row));
             related.push(row);
         }
         let pending = lost.iter().filter(|lost| !lost.is_empty()).count();
         let able = vec![labelled; first.nodes.len()];
-        Refinement {
-            first,
-            successors,
-            predecessors,
-            related,
-            lost,
-            able,
-            pending,
-        }
+        Refinement { first, successors, predecessors, related, lost, able, pending }
     }
 
     /// Takes a node until its row has nothing to hand on, not even to itself over an edge.
@@ -167,9 +155,7 @@ impl<'a> Refinement<'a> {
 
     /// The nodes of the second graph with an edge to one of `nodes`.
     fn before(&self, nodes: &ByteSet, label: usize) -> ByteSet {
-        nodes.iter().fold(ByteSet::EMPTY, |all, node| {
-            all.union(&self.predecessors[node][label])
-        })
+        nodes.iter().fold(ByteSet::EMPTY, |all, node| all.union(&self.predecessors[node][label]))
     }
 
     fn remove(&mut self, node: usize, unable: &ByteSet) {

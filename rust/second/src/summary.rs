@@ -73,22 +73,13 @@ impl Closure<'_> {
         if graph.nodes[point.node].returns {
             return self.end_call(point, states);
         }
-        for edges in graph
-            .outgoing(point.node)
-            .chunk_by(|a, b| a.label == b.label)
-        {
+        for edges in graph.outgoing(point.node).chunk_by(|a, b| a.label == b.label) {
             let next = match edges[0].label {
                 INTERNAL => states,
                 _ => self.call(point, states, edges),
             };
             for edge in edges {
-                self.add(
-                    Point {
-                        node: edge.to,
-                        ..point
-                    },
-                    next,
-                );
+                self.add(Point { node: edge.to, ..point }, next);
             }
         }
     }

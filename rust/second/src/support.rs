@@ -35,21 +35,13 @@ impl Place {
             };
             users[a].insert(row);
             users[b].insert(row);
-            let open = [a, b]
-                .iter()
-                .all(|&operand| possible(&operand) && operand != row)
-                && a != b;
+            let open = [a, b].iter().all(|&operand| possible(&operand) && operand != row) && a != b;
             if open && matches!(rows[row], Row::Or(..)) {
                 choices.push(Choice { row, a, b });
             }
         }
         let closures = closures(rows, &impossible);
-        Place {
-            impossible,
-            closures,
-            users,
-            choices,
-        }
+        Place { impossible, closures, users, choices }
     }
 
     /// The minimal supports of a set of rows.
@@ -59,11 +51,7 @@ impl Place {
         }
         let closures = obligations.iter().map(|row| &self.closures[row]);
         let set = closures.fold(ByteSet::EMPTY, |set, closure| set.union(closure));
-        let mut search = Search {
-            place: self,
-            obligations,
-            found: Vec::new(),
-        };
+        let mut search = Search { place: self, obligations, found: Vec::new() };
         search.settle(set, ByteSet::EMPTY);
         minimal(search.found)
     }
@@ -100,10 +88,7 @@ fn closures(rows: &[Row], impossible: &ByteSet) -> Vec<ByteSet> {
     let mut closures: Vec<ByteSet> = (0..rows.len()).map(forced).collect();
     for through in 0..rows.len() {
         let further = closures[through];
-        for closure in closures
-            .iter_mut()
-            .filter(|closure| closure.contains(through))
-        {
+        for closure in closures.iter_mut().filter(|closure| closure.contains(through)) {
             *closure = closure.union(&further);
         }
     }

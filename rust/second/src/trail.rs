@@ -87,8 +87,7 @@ impl Search<'_> {
     }
 
     fn state_entered(&self, (node, state): Position, label: usize) -> usize {
-        self.monitor
-            .after(state, Event::Call, self.graph.nodes[node].method, label)
+        self.monitor.after(state, Event::Call, self.graph.nodes[node].method, label)
     }
 
     fn enter_calls(&mut self, from: Position, label: usize) {

@@ -6,17 +6,11 @@ use second::{Outcome, Sides};
 use support::*;
 
 fn judge_case(name: &str, graph: &str, property: &str) -> Outcome {
-    judge(
-        &case(&format!("{name}/{graph}.txt")),
-        &case(&format!("{name}/{property}.txt")),
-    )
+    judge(&case(&format!("{name}/{graph}.txt")), &case(&format!("{name}/{property}.txt")))
 }
 
 fn model_case(name: &str, interface: &str, property: &str) -> Outcome {
-    model(
-        &case(&format!("{name}/{interface}.txt")),
-        &case(&format!("{name}/{property}.txt")),
-    )
+    model(&case(&format!("{name}/{interface}.txt")), &case(&format!("{name}/{property}.txt")))
 }
 
 fn watch_case(name: &str, graph: &str, start: u8) -> Outcome {
@@ -64,10 +58,7 @@ fn a_never_calls_b() {
         assert_eq!(compose_case(name, property, 1), positive());
         assert_eq!(compose_case(name, property, 2), positive());
     }
-    assert_eq!(
-        compose_case(name, "property-true", 1),
-        explained("1 0 0 0 1 0 / 1 0 2 2 5 7")
-    );
+    assert_eq!(compose_case(name, "property-true", 1), explained("1 0 0 0 1 0 / 1 0 2 2 5 7"));
     assert_model_size(&model_case(name, "interface2", "property"), 12, 56);
     assert_model_size(&model_case(name, "interface2", "property2"), 10, 48);
     let interface = case("a-never-calls-b/interface2.txt");
@@ -129,10 +120,7 @@ fn figure4() {
 #[test]
 fn inlining_fig5() {
     let trail = "0 0 0 0 0 0 / 0 0 1 0 2 0 / 2 0 1 0 4 0 / 4 0 1 0 5 0 / 5 0 1 0 6 0 / 6 0 3 1 7 7";
-    assert_eq!(
-        watch_case("inlining-fig5", "folded-expected", 1),
-        explained(trail)
-    );
+    assert_eq!(watch_case("inlining-fig5", "folded-expected", 1), explained(trail));
     assert_eq!(judge_case("inlining-fig5", "graph", "property"), positive());
 }
 
@@ -140,10 +128,7 @@ fn inlining_fig5() {
 fn purse_decomposition() {
     let name = "purse-decomposition";
     assert_eq!(compose_case(name, "property", 5), positive());
-    assert_eq!(
-        compose_case(name, "property-weak", 5),
-        explained("9 0 0 0 9 0 / 9 0 2 5 9 7")
-    );
+    assert_eq!(compose_case(name, "property-weak", 5), explained("9 0 0 0 9 0 / 9 0 2 5 9 7"));
 }
 
 #[test]
@@ -164,10 +149,7 @@ fn purse_sigma_p() {
     let name = "purse-sigma-p";
     let expected = said(1, &[8, 88], case("purse-sigma-p/model-expected.txt"));
     assert_eq!(model_case(name, "interface", "property"), expected);
-    assert_eq!(
-        case("purse-sigma-p/model-expected.txt"),
-        case("purse-decomposition/graph.txt")
-    );
+    assert_eq!(case("purse-sigma-p/model-expected.txt"), case("purse-decomposition/graph.txt"));
     assert_model_size(&model_case(name, "interface", "property-literal"), 48, 272);
     assert_equal_models(name, &["property", "property-literal"]);
     for property in ["property", "property-literal"] {

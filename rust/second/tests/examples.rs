@@ -17,63 +17,31 @@ fn number_1_length() {
 
 #[test]
 fn number_2_kind() {
-    assert_eq!(
-        judge(&file("1 1 / 2 0 0 0 / 1 1"), &file("3 1")),
-        refused(2, 1, 2)
-    );
+    assert_eq!(judge(&file("1 1 / 2 0 0 0 / 1 1"), &file("3 1")), refused(2, 1, 2));
     assert_eq!(model(&file("5 1 / 5 1"), &file("3 1")), refused(2, 1, 1));
     assert_eq!(model(&file("5 1 / 7 1"), &file("3 1")), refused(2, 1, 1));
     assert_eq!(model(&file("4 1"), &file("3 1")), refused(2, 1, 0));
-    assert_eq!(
-        judge(&file("1 9 / 1 1 / 3 1"), &file("3 1")),
-        refused(2, 1, 2)
-    );
+    assert_eq!(judge(&file("1 9 / 1 1 / 3 1"), &file("3 1")), refused(2, 1, 2));
 }
 
 #[test]
 fn number_3_range() {
     assert_eq!(judge(&file("1 9"), &file("3 1")), refused(3, 1, 0));
-    let graphs = [
-        "1 0",
-        "1 1 2",
-        "1 1 0 2",
-        "1 1 0 0 1",
-        "1 1 / 2 0 9 0",
-        "1 1 / 2 0 0 0 0 1",
-    ];
+    let graphs = ["1 0", "1 1 2", "1 1 0 2", "1 1 0 0 1", "1 1 / 2 0 9 0", "1 1 / 2 0 0 0 0 1"];
     for (graph, record) in graphs.into_iter().zip([0, 0, 0, 0, 1, 1]) {
-        assert_eq!(
-            judge(&file(graph), &file("3 1")),
-            refused(3, 1, record),
-            "{graph}"
-        );
+        assert_eq!(judge(&file(graph), &file("3 1")), refused(3, 1, record), "{graph}");
     }
-    let rows = [
-        "3 0", "3 10", "3 1 1", "3 2 0 1", "3 3 0", "3 3 9", "3 4 1 1", "3 5 1", "3 6 0 1",
-    ];
-    for row in rows
-        .into_iter()
-        .chain(["3 7 0 0 1", "3 9 9 0", "3 9 0 0 0 1"])
-    {
+    let rows = ["3 0", "3 10", "3 1 1", "3 2 0 1", "3 3 0", "3 3 9", "3 4 1 1", "3 5 1", "3 6 0 1"];
+    for row in rows.into_iter().chain(["3 7 0 0 1", "3 9 9 0", "3 9 0 0 0 1"]) {
         assert_eq!(judge(&[], &file(row)), refused(3, 2, 0), "{row}");
     }
 }
 
 #[test]
 fn number_3_range_of_watching() {
-    let rules = [
-        "4 7 1 1 1 0",
-        "4 0 0 1 1 0",
-        "4 0 3 1 1 0",
-        "4 0 1 0 1 0",
-        "4 0 1 1 9 0",
-    ];
+    let rules = ["4 7 1 1 1 0", "4 0 0 1 1 0", "4 0 3 1 1 0", "4 0 1 0 1 0", "4 0 1 1 9 0"];
     for rule in rules.into_iter().chain(["4 0 1 1 1 8"]) {
-        assert_eq!(
-            watch(&file("5 1"), &[], &file(rule), 1),
-            refused(3, 3, 0),
-            "{rule}"
-        );
+        assert_eq!(watch(&file("5 1"), &[], &file(rule), 1), refused(3, 3, 0), "{rule}");
     }
     assert_eq!(model(&file("5 1 1 1"), &file("3 1")), refused(3, 1, 0));
     assert_eq!(watch(&file("5 1"), &[], &[], 0), refused(3, 0, 0));
@@ -82,20 +50,14 @@ fn number_3_range_of_watching() {
 
 #[test]
 fn number_4_order() {
-    assert_eq!(
-        judge(&file("1 1 / 2 0 0 0 / 2 0 0 0"), &file("3 1")),
-        refused(4, 1, 2)
-    );
+    assert_eq!(judge(&file("1 1 / 2 0 0 0 / 2 0 0 0"), &file("3 1")), refused(4, 1, 2));
     let rules = "4 0 1 1 1 7 / 4 0 1 1 2 1 / 4 0 1 1 2 3";
     assert_eq!(watch(&file("5 1"), &[], &file(rules), 1), refused(4, 3, 2));
 }
 
 #[test]
 fn number_5_limit() {
-    assert_eq!(
-        judge(&file(&vec![ONE_NODE; 257].join("/")), &file("3 1")),
-        refused(5, 1, 0)
-    );
+    assert_eq!(judge(&file(&vec![ONE_NODE; 257].join("/")), &file("3 1")), refused(5, 1, 0));
 }
 
 #[test]
@@ -106,20 +68,14 @@ fn number_6_empty() {
 
 #[test]
 fn number_7_past_the_last() {
-    assert_eq!(
-        judge(&file("1 1 / 2 0 0 1"), &file("3 1")),
-        refused(7, 1, 1)
-    );
+    assert_eq!(judge(&file("1 1 / 2 0 0 1"), &file("3 1")), refused(7, 1, 1));
     assert_eq!(judge(&[], &file("3 7 0 1")), refused(7, 2, 0));
     assert_eq!(judge(&[], &file("3 1 / 3 9 8 2")), refused(7, 2, 1));
 }
 
 #[test]
 fn number_8_between_methods() {
-    assert_eq!(
-        judge(&file("1 1 / 1 2 / 2 0 0 1"), &file("3 1")),
-        refused(8, 1, 2)
-    );
+    assert_eq!(judge(&file("1 1 / 1 2 / 2 0 0 1"), &file("3 1")), refused(8, 1, 2));
 }
 
 #[test]
@@ -127,10 +83,7 @@ fn number_9_not_of_interface() {
     let (first, node) = (file("5 1"), file(ONE_NODE));
     assert_eq!(join([&first, &[], &first, &[]]), refused(9, 0, 0));
     assert_eq!(join([&first, &[], &file("5 2"), &node]), refused(9, 4, 0));
-    assert_eq!(
-        watch(&first, &file("1 1 / 2 0 1 0"), &[], 1),
-        refused(9, 2, 1)
-    );
+    assert_eq!(watch(&first, &file("1 1 / 2 0 1 0"), &[], 1), refused(9, 2, 1));
     let sides = Sides {
         known_interface: &first,
         known_graph: &node,
@@ -151,16 +104,10 @@ fn number_11_too_large() {
     let [many, rest] = [200, 57].map(|count| vec![ONE_NODE; count].join("/"));
     let rest = rest.replace("1 1", "1 2");
     let [one, two] = ["5 1", "5 2"].map(file);
-    assert_eq!(
-        join([&one, &file(&many), &two, &file(&rest)]),
-        refused(11, 0, 0)
-    );
+    assert_eq!(join([&one, &file(&many), &two, &file(&rest)]), refused(11, 0, 0));
     let fits = file(rest.strip_suffix("/1 2 0 1").expect("the last node"));
     let outcome = join([&one, &file(&many), &two, &fits]);
-    assert_eq!(
-        outcome,
-        said(1, &[256, 0, 3, 0], [file(&many), fits].concat())
-    );
+    assert_eq!(outcome, said(1, &[256, 0, 3, 0], [file(&many), fits].concat()));
 }
 
 #[test]
@@ -176,17 +123,11 @@ fn number_13_short_work() {
     let outcome = |work_len| second::judge(&Limits::DESK, &[1], &[], 0, work_len, 1);
     assert_eq!(outcome(0), refused(13, 0, 0));
     assert_eq!(outcome(1), refused(1, 1, 0));
-    let sides = Sides {
-        known_interface: &[],
-        known_graph: &[],
-        other_interface: &[],
-        property: &[],
-    };
-    for (lent, number, file) in [
-        ([(0, 1), (1, 1)], 13, 0),
-        ([(1, 1), (0, 1)], 13, 0),
-        ([(1, 1); 2], 6, 1),
-    ] {
+    let sides =
+        Sides { known_interface: &[], known_graph: &[], other_interface: &[], property: &[] };
+    for (lent, number, file) in
+        [([(0, 1), (1, 1)], 13, 0), ([(1, 1), (0, 1)], 13, 0), ([(1, 1); 2], 6, 1)]
+    {
         let outcome = second::compose(&Limits::DESK, &sides, &[], 1, 0, lent);
         assert_eq!(outcome, refused(number, file, 0));
     }
@@ -210,10 +151,7 @@ fn course_1_model() {
     let edges = "2 0 0 0 / 2 0 0 1 / 2 0 1 0 / 2 0 1 1 / 2 1 0 0 / 2 1 0 1 / 2 1 1 0 / 2 1 1 1";
     let expected = file(&format!("{nodes} / {edges} / 2 2 0 0 / 2 2 0 1"));
     let property = file("3 7 1 3 / 3 9 1 2 / 3 2 / 3 5");
-    assert_eq!(
-        model(&file("5 1 1"), &property),
-        said(1, &[3, 10], expected)
-    );
+    assert_eq!(model(&file("5 1 1"), &property), said(1, &[3, 10], expected));
 }
 
 #[test]
@@ -226,10 +164,7 @@ fn course_2_to_4_greatest_solution_and_false() {
 
 #[test]
 fn course_5_to_7_sheets() {
-    assert_eq!(
-        judge(&file(ONE_NODE), &file("3 5")),
-        explained("0 0 0 255 0 255")
-    );
+    assert_eq!(judge(&file(ONE_NODE), &file("3 5")), explained("0 0 0 255 0 255"));
     let graph = file("1 1 0 1 / 1 1 1 0 / 2 0 1 1");
     let sheet = "0 0 1 1 0 255 / 1 1 0 255 0 255";
     assert_eq!(judge(&graph, &file("3 9 1 1 / 3 6")), explained(sheet));
@@ -241,10 +176,7 @@ fn course_8_and_9_simulation() {
     let cycle = file("1 1 0 1 / 1 1 0 1 / 2 0 0 1 / 2 1 0 0");
     let own_loop = file("1 1 0 1 / 2 0 0 0");
     let row = |byte: u8| [&[byte][..], &[0; 31]].concat();
-    assert_eq!(
-        compare(&cycle, &own_loop),
-        said(1, &[], [row(1), row(1)].concat())
-    );
+    assert_eq!(compare(&cycle, &own_loop), said(1, &[], [row(1), row(1)].concat()));
     assert_eq!(compare(&own_loop, &cycle), said(1, &[], row(3)));
     assert_eq!(compare(&own_loop, &file(ONE_NODE)), said(2, &[0], row(0)));
 }
@@ -261,10 +193,7 @@ fn course_10_and_11_trails() {
 
 #[test]
 fn course_12_limits() {
-    assert_eq!(
-        judge(&file(&vec![ONE_NODE; 256].join("/")), &file("3 1")),
-        positive()
-    );
+    assert_eq!(judge(&file(&vec![ONE_NODE; 256].join("/")), &file("3 1")), positive());
     for (row, most) in [("3 1", 32), ("3 8 0 0", 12)] {
         let property = |count| file(&vec![row; count].join("/"));
         assert_eq!(judge(&[], &property(most)), positive());

@@ -9,17 +9,13 @@ use support::*;
 fn graph(method: usize, nodes: usize, edges: usize) -> Vec<u8> {
     let node = std::iter::repeat_n(format!("1 {method} 0 1"), nodes);
     let pairs = (0..nodes).flat_map(|from| (0..nodes).map(move |to| (from, to)));
-    let edge = pairs
-        .take(edges)
-        .map(|(from, to)| format!("2 {from} 0 {to}"));
+    let edge = pairs.take(edges).map(|(from, to)| format!("2 {from} 0 {to}"));
     file(&node.chain(edge).collect::<Vec<_>>().join("/"))
 }
 
 /// Seven independent choices between two boxes, and no successor: 128 states under either flag.
 fn wide_property() -> Vec<u8> {
-    let ands = (0..7)
-        .map(|at| format!("3 7 {} {}", at + 1, at + 7))
-        .take(6);
+    let ands = (0..7).map(|at| format!("3 7 {} {}", at + 1, at + 7)).take(6);
     let last = "3 7 13 28".to_string();
     let ors = (0..7).map(|at| format!("3 8 {} {}", 14 + at * 2, 15 + at * 2));
     let boxes = vec!["3 9 1 0".to_string(); 14];
@@ -30,11 +26,7 @@ fn wide_property() -> Vec<u8> {
 /// Runs a call with each length and expects `number` exactly for the first of them.
 fn assert_refused_below(number: u8, least: usize, call: impl Fn(usize) -> Outcome) {
     assert_eq!(call(least - 1), refused(number, 0, 0));
-    assert!(
-        matches!(call(least), Outcome::Said { .. }),
-        "{:?}",
-        call(least)
-    );
+    assert!(matches!(call(least), Outcome::Said { .. }), "{:?}", call(least));
 }
 
 #[test]
@@ -53,10 +45,7 @@ fn nodes_and_edges_of_a_graph() {
 fn rows_of_a_property() {
     for (row, most) in [("3 1", 32), ("3 8 0 0", 12)] {
         let property = |count| file(&vec![row; count].join("/"));
-        assert!(matches!(
-            model(&file("5 1"), &property(most)),
-            Outcome::Said { .. }
-        ));
+        assert!(matches!(model(&file("5 1"), &property(most)), Outcome::Said { .. }));
         assert_eq!(model(&file("5 1"), &property(most + 1)), refused(5, 2, 0));
     }
 }
@@ -71,11 +60,7 @@ fn states_and_edges_of_a_model() {
         [(interface, wide_property(), 256, 0), true_everywhere]
     {
         let size = |nodes, edges| {
-            let limits = Limits {
-                nodes,
-                edges,
-                ..Limits::DESK
-            };
+            let limits = Limits { nodes, edges, ..Limits::DESK };
             second::model(&limits, &interface, &property, ENOUGH, 0, 0)
         };
         assert_model_size(&size(nodes, edges), nodes as u64, edges as u64);
@@ -89,13 +74,8 @@ fn states_and_edges_of_a_model() {
 #[test]
 fn nodes_and_edges_of_a_joined_graph() {
     let interfaces = [file("5 1"), file("5 2")];
-    let sizes = [
-        (200, 0, 56, 0),
-        (200, 0, 57, 0),
-        (256, 0, 1, 0),
-        (90, 4000, 90, 96),
-        (90, 4000, 90, 97),
-    ];
+    let sizes =
+        [(200, 0, 56, 0), (200, 0, 57, 0), (256, 0, 1, 0), (90, 4000, 90, 96), (90, 4000, 90, 97)];
     for (nodes1, edges1, nodes2, edges2) in sizes {
         let [first, second] = [graph(1, nodes1, edges1), graph(2, nodes2, edges2)];
         let outcome = join([&interfaces[0], &first, &interfaces[1], &second]);
@@ -139,31 +119,19 @@ fn output() {
         other_interface: &empty,
         property: &file("3 1"),
     };
-    assert_refused_below(12, 6, |len| {
-        second::judge(desk, &node, &file("3 5"), len, 0, 0)
-    });
+    assert_refused_below(12, 6, |len| second::judge(desk, &node, &file("3 5"), len, 0, 0));
     assert_refused_below(12, 32, |len| second::compare(desk, &node, &node, len, 0, 0));
     assert_refused_below(12, 32, |len| second::compare(desk, &node, &[], len, 0, 0));
     assert_refused_below(12, 72, |len| {
         second::model(desk, &file("5 1"), &file("3 8 0 0"), len, 0, 0)
     });
-    assert_refused_below(12, 6, |len| {
-        second::join(desk, &interface, &node, &empty, &[], len)
-    });
+    assert_refused_below(12, 6, |len| second::join(desk, &interface, &node, &empty, &[], len));
     assert_refused_below(12, 12, |len| {
         second::watch(desk, &interface, &returning, &rules, 1, len, 0, 0)
     });
-    assert_refused_below(12, 12, |len| {
-        second::compose(desk, &sides, &rules, 1, len, [(0, 0); 2])
-    });
-    assert_eq!(
-        second::judge(desk, &node, &file("3 6"), 0, 0, 0),
-        positive()
-    );
-    assert_eq!(
-        second::watch(desk, &interface, &returning, &[], 1, 0, 0, 0),
-        positive()
-    );
+    assert_refused_below(12, 12, |len| second::compose(desk, &sides, &rules, 1, len, [(0, 0); 2]));
+    assert_eq!(second::judge(desk, &node, &file("3 6"), 0, 0, 0), positive());
+    assert_eq!(second::watch(desk, &interface, &returning, &[], 1, 0, 0, 0), positive());
 }
 
 #[test]
@@ -176,16 +144,10 @@ fn work_space() {
         other_interface: &two,
         property: &property,
     };
-    assert_refused_below(13, 100, |len| {
-        second::judge(desk, &[], &property, 0, len, 100)
-    });
+    assert_refused_below(13, 100, |len| second::judge(desk, &[], &property, 0, len, 100));
     assert_refused_below(13, 100, |len| second::compare(desk, &[], &[], 0, len, 100));
-    assert_refused_below(13, 100, |len| {
-        second::model(desk, &one, &property, ENOUGH, len, 100)
-    });
-    assert_refused_below(13, 100, |len| {
-        second::watch(desk, &one, &[], &[], 1, 0, len, 100)
-    });
+    assert_refused_below(13, 100, |len| second::model(desk, &one, &property, ENOUGH, len, 100));
+    assert_refused_below(13, 100, |len| second::watch(desk, &one, &[], &[], 1, 0, len, 100));
     let lent =
         |first, second| second::compose(desk, &sides, &[], 1, 0, [(first, 100), (second, 100)]);
     assert_refused_below(13, 100, |len| lent(len, 100));
@@ -194,12 +156,7 @@ fn work_space() {
 
 #[test]
 fn other_limits() {
-    let limits = &Limits {
-        nodes: 2,
-        edges: 1,
-        rows: 200,
-        ors: 60,
-    };
+    let limits = &Limits { nodes: 2, edges: 1, rows: 200, ors: 60 };
     let property = |count| file(&vec!["3 8 0 0"; count].join("/"));
     let judge = |graph: &[u8], property: &[u8]| second::judge(limits, graph, property, 0, 0, 0);
     assert_eq!(judge(&graph(1, 2, 1), &property(60)), positive());

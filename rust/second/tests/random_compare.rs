@@ -3,9 +3,9 @@
 mod oracle;
 
 use generator::generate::{self, Random, Size};
+use oracle::*;
 use second::files::check_graph;
 use second::graph::Graph;
-use oracle::*;
 
 /// All pairs that agree, less those with an edge that is not matched, until
 /// none of these is left.

@@ -4,8 +4,8 @@
 mod oracle;
 
 use generator::generate::{self, Kind, Random, Size};
-use second::files::{check_graph, check_interface, check_property, check_rules, Fault};
 use oracle::*;
+use second::files::{check_graph, check_interface, check_property, check_rules, Fault};
 
 /// Everything that could offend in a file; the least of it is the refusal.
 fn all_faults(kind: Kind, bytes: &[u8]) -> Vec<Fault> {

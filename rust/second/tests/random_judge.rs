@@ -3,12 +3,12 @@
 mod oracle;
 
 use generator::generate::{self, Random, Size};
+use oracle::*;
 use second::files::{check_graph, check_property};
 use second::graph::Graph;
 use second::record::Row;
 use second::Outcome;
 use std::collections::VecDeque;
-use oracle::*;
 
 /// The first level at which each row is false, by node and row.
 type Ranks = Vec<Vec<Option<usize>>>;

@@ -4,10 +4,10 @@
 mod oracle;
 
 use generator::generate::{self, Random, Size};
+use oracle::*;
 use second::files::{check_interface, check_property};
 use second::record::{Interface, Row};
 use std::collections::BTreeSet;
-use oracle::*;
 
 /// Method, flag and rows as a sum of powers of two.
 type State = (usize, bool, u32);

@@ -4,11 +4,11 @@
 mod oracle;
 
 use generator::generate::{self, Random, Size};
+use oracle::*;
 use second::files::{check_graph, check_rules};
 use second::graph::Graph;
 use second::record::{Event, Rule};
 use std::collections::{BTreeMap, BTreeSet, HashSet};
-use oracle::*;
 
 const BAD: usize = 7;
 
@@ -19,7 +19,10 @@ struct Watched {
 
 impl Watched {
     fn on(&self, state: usize, event: Event, from: usize, to: usize) -> usize {
-        let rule = self.rules.iter().find(|rule| (rule.state, rule.event, rule.from, rule.to) == (state, event, from, to));
+        let rule = self
+            .rules
+            .iter()
+            .find(|rule| (rule.state, rule.event, rule.from, rule.to) == (state, event, from, to));
         rule.map_or(state, |rule| rule.next)
     }
 

@@ -2,8 +2,8 @@
 
 mod oracle;
 
-use second::refusal::number;
 use oracle::*;
+use second::refusal::number;
 
 const TRUE: &str = "3 1";
 

@@ -73,7 +73,14 @@ fn every_changed_byte_is_refused() {
 fn a_run_that_is_too_long_is_said_to_be() {
     // Each method but the last calls the next one 30 times and returns.
     let node = |at: u8| {
-        [1, at / 32 + 1, u8::from(at % 32 == 31 || at / 32 == 7), u8::from(at.is_multiple_of(32)), 0, 0]
+        [
+            1,
+            at / 32 + 1,
+            u8::from(at % 32 == 31 || at / 32 == 7),
+            u8::from(at.is_multiple_of(32)),
+            0,
+            0,
+        ]
     };
     let call = |at: u8| [2, at, at / 32 + 2, at + 1, 0, 0];
     let nodes = (0..=u8::MAX).map(node);

@@ -31,9 +31,6 @@ part-record l a n i h k = λ t. record { kind = start t; first = byte 1 (omega a
 pub part-length : (l : List ℕ) (a n : ℕ) → a + n ≤ count l → length (part l a n) ≡ 6 * n
 part-length l a n h = omega (arith, length-take (6 * n) (drop (6 * a) l), length-drop (6 * a) l)
 
-pub part-count : (l : List ℕ) (a n : ℕ) → a + n ≤ count l → count (part l a n) ≡ n
-part-count l a n h = omega (arith, part-length l a n h)
-
 -- ---- the record parsed
 
 -- what a record reads as that is not wrong

@@ -27,9 +27,6 @@ module _ (G : Graph) (P : List Row) where
   said-fails e = rw e
 
 module _ (g p out : List ℕ) where
-  abbrev theSaid : Said
-  theSaid = judge-said (decode-graph g) (decode-property p)
-
   pub answers-holds : satisfies (decode-graph g) (decode-property p) ≡ true → Answers (from-verdict g p (length out)) out out (verdict-answer 1 [])
   answers-holds e =
       let s : Said = record { verdict = 1; values = []; written = [] } in

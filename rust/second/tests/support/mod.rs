@@ -10,19 +10,14 @@ pub const ENOUGH: usize = 1 << 20;
 
 /// The bytes of records separated by "/"; missing fields are 0.
 pub fn file(text: &str) -> Vec<u8> {
-    text.split('/')
-        .filter(|record| !record.trim().is_empty())
-        .flat_map(record)
-        .collect()
+    text.split('/').filter(|record| !record.trim().is_empty()).flat_map(record).collect()
 }
 
 /// The bytes of a case study's file: one record a line, comments after "#".
 pub fn case(path: &str) -> Vec<u8> {
     let root = concat!(env!("CARGO_MANIFEST_DIR"), "/../../cases");
     let text = std::fs::read_to_string(format!("{root}/{path}")).expect("a case file");
-    let lines = text
-        .lines()
-        .filter(|line| !line.starts_with('#') && !line.trim().is_empty());
+    let lines = text.lines().filter(|line| !line.starts_with('#') && !line.trim().is_empty());
     lines.flat_map(record).collect()
 }
 
@@ -35,19 +30,11 @@ fn record(text: &str) -> [u8; RECORD_LEN] {
 }
 
 pub fn refused(number: u8, file: u8, record: usize) -> Outcome {
-    Outcome::Refused(Refusal {
-        number,
-        file,
-        record,
-    })
+    Outcome::Refused(Refusal { number, file, record })
 }
 
 pub fn said(verdict: u32, values: &[u64], written: Vec<u8>) -> Outcome {
-    Outcome::Said {
-        verdict,
-        values: values.to_vec(),
-        written,
-    }
+    Outcome::Said { verdict, values: values.to_vec(), written }
 }
 
 /// A negative verdict with the records that explain it.
@@ -83,10 +70,7 @@ pub fn model_bytes(interface: &[u8], property: &[u8]) -> Vec<u8> {
 
 /// Checks the numbers of nodes and edges of a model.
 pub fn assert_model_size(outcome: &Outcome, nodes: u64, edges: u64) {
-    let Outcome::Said {
-        verdict: 1, values, ..
-    } = outcome
-    else {
+    let Outcome::Said { verdict: 1, values, .. } = outcome else {
         panic!("{outcome:?}");
     };
     assert_eq!(values, &[nodes, edges]);
@@ -94,14 +78,7 @@ pub fn assert_model_size(outcome: &Outcome, nodes: u64, edges: u64) {
 
 pub fn join(sides: [&[u8]; 4]) -> Outcome {
     let [interface1, graph1, interface2, graph2] = sides;
-    second::join(
-        &Limits::DESK,
-        interface1,
-        graph1,
-        interface2,
-        graph2,
-        ENOUGH,
-    )
+    second::join(&Limits::DESK, interface1, graph1, interface2, graph2, ENOUGH)
 }
 
 pub fn show(first: &[u8], second: &[u8], number: usize) -> Outcome {

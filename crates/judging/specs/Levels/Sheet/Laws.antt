@@ -84,15 +84,6 @@ module _ (G : Graph) (P : List Row) (flow : Flow G) (wf : Property P) where
   from-wrong s x w itself = w
   from-wrong s x w (onward y z f m) = cause-false G P flow wf y z (from-wrong s y w f) m
 
-  -- where the property is satisfied there is none
-  pub pairs-none : T (satisfies G P) → pairs G P ≡ []
-  unfolding pairs
-  pairs-none t = go (satisfies G P) t
-    where
-      go : (b : Bool) → T b → cond b [] (breadth-first same-pair (causes G P) (size G * length P) (failing G P, 0)) ≡ []
-      go true t = refl
-      go false t = absurd t
-
   pub pairs-some : T (not (satisfies G P)) → breadth-first same-pair (causes G P) (size G * length P) (failing G P, 0) ≡ pairs G P
   unfolding pairs
   pairs-some t = go (satisfies G P) t
