@@ -3,18 +3,17 @@
 use mathlib.Core.Path.{_≡_, refl, sym, ap, subst, _∙_}
 use mathlib.Core.Logic.{inl, inr}
 use mathlib.Core.Bool.{Bool, true, false, not}
-use mathlib.Core.List.{List, _++_, append-assoc}
+use mathlib.Core.List.{List}
 use Prim.Native.Nat.{ℕ, _+_, _*_, _-_, _/_, _%_, _≤_, _<_}
 use native.Mathlib.Decide.{ℕ-discrete}
 use native.Mathlib.Omega.{arith}
 use lib.Dec.{T, eqb→eq}
-use lib.ListN.{length, getD, take, drop, replicate, length-replicate, getD-replicate}
-use lib.Seq.{drop-drop}
-use borrow.Rule.Slice.PartMut.{midOf, putMid, mid-len, same-len-mid}
+use lib.ListN.{length, getD, replicate}
+use borrow.Rule.Slice.PartMut.{midOf, putMid}
 use Rattle.files.specs.Access.{edge-held}
 use Rattle.files.specs.Basics.Tests.{eq-eqb}
-use Rattle.files.specs.Cells.{cell, put-cell, has-bit, put-bit, put-at}
-use Rattle.files.specs.Cells.Laws.{bit-byte, byte-outside, cell-same, cell-one, at-inside, at-outside, put-at-is}
+use Rattle.files.specs.Cells.{cell, put-cell, has-bit, put-bit}
+use Rattle.files.specs.Cells.Laws.{bit-byte, byte-outside, cell-same, cell-one}
 use Rattle.files.specs.Decode.{decode-graph}
 use Rattle.files.specs.Graph.{Graph, size}
 use Rattle.files.specs.declared.graph.GraphEdge.{GraphEdge}
@@ -26,6 +25,7 @@ use Rattle.judging.specs.Refinement.Files.{first-size, second-size, firs
 use Rattle.judging.specs.Refinement.Images.{Narrow, Entered, Adding, Added, Imaging, rel-outside, entered-here, entered-still, adding-on, adding-end, imaging-start, imaging-related, imaging-unrelated, imaging-end, imaged-same}
 use Rattle.judging.specs.Refinement.Matches.{matched-kept, node-matched-i}
 use Rattle.judging.specs.Refinement.Narrowing.{Whole, Narrowed, may-drop, narrow-drop, narrow-keep, narrow-end, whole-still, narrow-matched, Matching, refining-held, imaged-held, row-held, matching-more, matching-end}
+use Rattle.judging.proofs.ClearedLaws.{cleared-inside}
 use Rattle.judging.proofs.LevelLaws.{Walk, walk-start, walk-item, walk-turn, walk-less}
 
 -- ---- one edge put into the image of its label
@@ -36,43 +36,8 @@ image-edge H w w′ j u is e = e ∙ ap (λ (z : GraphEdge). put-bit w (8192 + 3
 
 -- ---- the images cleared
 
-mid-is : (a k : ℕ) (w ys : List ℕ) → length ys ≡ k → putMid a k w ys ≡ put-at w a ys
-mid-is a k w ys e =
-    ap (λ (l : List ℕ). take a w ++ (ys ++ l)) (drop-drop k a w ∙ ap (λ (n : ℕ). drop (a + n) w) (sym e))
-    ∙ sym (append-assoc (take a w) ys (drop (a + length ys) w))
-    ∙ sym (put-at-is w a ys)
-
-module _ (w ys : List ℕ) (room : 165152 ≤ length w) (zeros : ys ≡ replicate (length (midOf 8192 288 w)) 0) where
-  abbrev w′ : List ℕ
-  w′ = putMid 8192 288 w ys
-
-  mid-length : length (midOf 8192 288 w) ≡ 288
-  mid-length = mid-len 8192 8480 w (omega arith)
-
-  part-length : length ys ≡ 288
-  part-length = ap length zeros ∙ length-replicate {A = ℕ} (length (midOf 8192 288 w)) 0 ∙ mid-length
-
-  is-put : w′ ≡ put-at w 8192 ys
-  is-put = mid-is 8192 288 w ys part-length
-
-  pub cleared-length : length w′ ≡ length w
-  cleared-length = same-len-mid 8192 288 w ys (part-length ∙ sym mid-length)
-
-  pub cleared-outside : Outside 8192 8480 w w′
-  cleared-outside q (inl h) = ap (λ (l : List ℕ). getD l q 0) is-put ∙ at-outside w 8192 ys q (inl h) (omega (arith, part-length))
-  cleared-outside q (inr h) = ap (λ (l : List ℕ). getD l q 0) is-put ∙ at-outside w 8192 ys q (inr (omega (arith, part-length))) (omega (arith, part-length))
-
-  cleared-inside : (q : ℕ) → 8192 ≤ q → q < 8480 → getD w′ q 0 ≡ 0
-  cleared-inside q a b =
-      let e : q ≡ 8192 + (q - 8192) = omega arith in
-      ap (λ (l : List ℕ). getD l q 0) is-put
-      ∙ ap (λ (n : ℕ). getD (put-at w 8192 ys) n 0) e
-      ∙ at-inside w 8192 ys (q - 8192) (omega (arith, part-length)) (omega (arith, part-length))
-      ∙ ap (λ (l : List ℕ). getD l (q - 8192) 0) zeros
-      ∙ getD-replicate {A = ℕ} (length (midOf 8192 288 w)) (q - 8192) 0 0 (omega (arith, mid-length))
-
-  pub cleared-imaging : (H : Graph) (v : ℕ) → Imaging H w′ v 0 w′
-  cleared-imaging H v = imaging-start H w′ v cleared-inside
+pub cleared-imaging : (w ys : List ℕ) → 165152 ≤ length w → ys ≡ replicate (length (midOf 8192 288 w)) 0 → (H : Graph) (v : ℕ) → Imaging H (putMid 8192 288 w ys) v 0 (putMid 8192 288 w ys)
+cleared-imaging w ys room zeros H v = imaging-start H (putMid 8192 288 w ys) v (cleared-inside 8192 288 w ys zeros (omega arith))
 
 -- ---- a row of the relation copied
 

@@ -1,5 +1,7 @@
+pub mod CallLaws
 pub mod CauseLaws
 pub mod ChainLaws
+pub mod ClearedLaws
 pub mod CoverLaws
 pub mod DecideLaws
 pub mod HeldLaws

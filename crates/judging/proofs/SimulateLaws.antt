@@ -1,47 +1,41 @@
--- For the code that compares: the chains of both graphs, what is related at first, the verdict by the lowest uncovered entry, and the outcome through each check.
+-- For the code that compares: the chains of both graphs, what is related at first, the verdict by the lowest uncovered entry, and two accepted graphs.
 use mathlib.Core.Path.{_≡_, sym, ap, subst, _∙_}
 use mathlib.Core.Logic.{inl, inr}
 use mathlib.Core.Bool.{Bool, false, _&&_}
 use mathlib.Core.List.{List, [], _∷_, _++_}
-use Prim.Native.Nat.{ℕ, _+_, _*_, _-_, _/_, _%_, _^_, _≤_, _<_}
+use Prim.Native.Nat.{ℕ, _+_, _*_, _-_, _/_, _≤_, _<_}
 use native.Mathlib.Omega.{arith}
-use lib.Dec.{T, eqb, ltb, ltb→lt, lt→ltb}
-use lib.ListN.{length, getD, drop, replicate}
+use lib.Dec.{T, ltb, ltb→lt, lt→ltb}
+use lib.ListN.{length, drop, replicate}
 use Rattle.files.specs.Access.{GraphFile}
 use Rattle.files.specs.Basics.Tables.{tally-le}
 use Rattle.files.specs.Basics.Tests.{and-l, and-r, and-i}
 use Rattle.files.specs.Cells.{cell, has-bit}
-use Rattle.files.specs.Cells.Laws.{cell-agree, has-bit-is}
+use Rattle.files.specs.Cells.Laws.{cell-agree}
 use Rattle.files.specs.Checking.{checked}
 use Rattle.files.specs.Checking.Laws.{accepted-counts}
 use Rattle.files.specs.Decode.{decode-graph}
 use Rattle.files.specs.Decode.Graphs.{few, decoded-size, decoded-edges, decoded-filed}
 use Rattle.files.specs.Graph.{Graph, size, node}
-use Rattle.files.specs.Limits.{desk}
-use Rattle.files.specs.Outcome.{Said, Outcome, Answer, Answers, Does, refused-answer, verdict-answer, Check, file-checks, out-check, refusal-at}
-use Rattle.files.specs.Outcome.Steps.{answers-file-refused, answers-file-passed, file-low, out-low, does-left, does-cleared}
+use Rattle.files.specs.Outcome.{Answers, refused-answer, verdict-answer, refusal-at}
 use Rattle.files.specs.Record.{count}
 use Rattle.files.specs.Refusal.{graph, nodes-of}
 use Rattle.files.specs.declared.check.Checked.{Checked}
-use Rattle.files.specs.declared.check.Checked.the-variants.{Accepted, Refused}
+use Rattle.files.specs.declared.check.Checked.the-variants.{Accepted}
 use Rattle.files.specs.declared.record.Limits.{Limits}
 use Rattle.files.specs.declared.refusal.Refusal.{Refusal}
 use Rattle.judging.specs.declared.sizes.Sizes.{Sizes}
 use Rattle.judging.specs.Chains.{Chained, Outside, into}
 use Rattle.judging.specs.Chains.Laws.{chained-same, chained-none, chained-kept}
-use Rattle.judging.specs.Compare.{compare-said, compared, from-first, from-second, from-relation}
-use Rattle.judging.specs.Compare.Steps.{answers-short, answers-yes, answers-no, compared-short, compared-on}
+use Rattle.judging.specs.Compare.{from-relation}
+use Rattle.judging.specs.Compare.Steps.{answers-short, answers-yes, answers-no}
 use Rattle.judging.specs.Judge.{GraphWithin, Strides}
 use Rattle.judging.specs.Refinement.{Both, code, rel, held, Linked, Refining}
 use Rattle.judging.specs.Refinement.Lost.{first-size, first-flow, second-flow, first-fits, second-fits, first-edges-fit}
 use Rattle.judging.specs.Simulation.{alike, related, uncovered, relation-bytes}
 use Rattle.judging.specs.Simulation.Laws.{alike-i, related-e, related-simulation, relation-length, yes-past, no-below}
 use Rattle.judging.proofs.ChainLaws.{zero-byte, outside-both}
-use Rattle.judging.proofs.DecideLaws.{no-bit}
-
--- a bit of a byte that is zero
-zero-bit : (w : List ℕ) (base h : ℕ) → getD w (base + h / 8) 0 ≡ 0 → has-bit w base h ≡ false
-zero-bit w base h e = has-bit-is w base h ∙ ap (λ (x : ℕ). eqb (x / 2 ^ (h % 8) % 2) 1) e ∙ no-bit (h % 8)
+use Rattle.judging.proofs.ClearedLaws.{zero-bit}
 
 module _ (s : Sizes) (f g : List ℕ) (both : Both s f g) where
   abbrev G : Graph
@@ -165,26 +159,7 @@ module _ (s : Sizes) (f g : List ℕ) (both : Both s f g) where
     pub answers-covered : s .nodes ≤ v → Answers (from-relation f g (length out)) out out′ (verdict-answer 1 [])
     answers-covered h = answers-yes f g out out′ (omega (arith, bytes, fits)) stands (yes-past G H (omega (arith, lowest, h, first-size s f g both)))
 
--- ---- the files, as checking answers
-
-module _ (L : Limits) (f g : List ℕ) where
-  abbrev said : Said
-  said = compare-said (decode-graph f) (decode-graph g)
-
-  module _ (out : List ℕ) (x : Checked) where
-    pub second-refused : (r : Refusal) → x ≡ checked L graph g 2 → x ≡ Refused r → Answers (from-second L f g (length out)) out out (refused-answer r)
-    second-refused r e d = answers-file-refused L 2 graph g (out-check (length out) said) said out x e r d
-
-    pub second-passed : (n c : ℕ) (out′ : List ℕ) (a : Answer) → x ≡ checked L graph g 2 → x ≡ Accepted n c
-        → Answers (from-relation f g (length out)) out out′ a → Answers (from-second L f g (length out)) out out′ a
-    second-passed n c out′ a e d = answers-file-passed L 2 graph g (out-check (length out) said) said out x e n c out′ a d
-
-    pub first-refused : (r : Refusal) → x ≡ checked L graph f 1 → x ≡ Refused r → Answers (from-first L f g (length out)) out out (refused-answer r)
-    first-refused r e d = answers-file-refused L 1 graph f (file-checks L 2 graph g (out-check (length out) said)) said out x e r d
-
-    pub first-passed : (n c : ℕ) (out′ : List ℕ) (a : Answer) → x ≡ checked L graph f 1 → x ≡ Accepted n c
-        → Answers (from-second L f g (length out)) out out′ a → Answers (from-first L f g (length out)) out out′ a
-    first-passed n c out′ a e d = answers-file-passed L 1 graph f (file-checks L 2 graph g (out-check (length out) said)) said out x e n c out′ a d
+-- ---- the files, accepted
 
 -- an accepted graph's counts, of which its nodes are the fewer
 pub file-counts : (L : Limits) (l : List ℕ) (at : ℕ) (x : Checked) (n c : ℕ) → x ≡ checked L graph l at → x ≡ Accepted n c → GraphWithin L l × (n ≡ nodes-of l) × (c ≡ count l) × (n ≤ c)
@@ -210,27 +185,3 @@ both-sizes L strides f g a b n r n₂ r₂ nodes-are records-are nodes2-are reco
       few-second-nodes = omega (arith, nodes2-are, decoded-size L g b, y .few-nodes, strides .nodes-fit);
       few-second-edges = omega (arith, nodes2-are, records2-are, decoded-edges L g b, y .few-edges, strides .edges-fit);
     }
-
--- ---- the work buffer
-
-module _ (L : Limits) (f g out work : List ℕ) where
-  abbrev outcome : Outcome
-  outcome = compared L f g (length out) (length work)
-
-  pub does-nothing : (r : Refusal) → length work < 165152 → r ≡ refusal-at 13 0 0 → Does outcome out work out work (refused-answer r)
-  does-nothing r h e = does-left outcome r out work (compared-short L f g (length out) (length work) h) e
-
-  pub does-compare : (out′ work′ : List ℕ) (a : Answer) → 165152 ≤ length work → Answers (from-first L f g (length out)) out out′ a → work′ ≡ replicate (length work) 0
-      → Does outcome out work out′ work′ a
-  does-compare out′ work′ a h x e =
-      let s : Said = compare-said (decode-graph f) (decode-graph g) in
-      let out12 : List Check = out-check (length out) s in
-      let rest : List Check = file-checks L 2 graph g out12 in
-      does-cleared outcome (file-checks L 1 graph f rest) s out work out′ work′ a (compared-on L f g (length out) (length work) h)
-      (file-low L 1 graph f rest (file-low L 2 graph g out12 (out-low (ltb (length out) (length (s .written)))))) x e
-
--- ---- the limits of the desk
-
-pub does-desk : (L : Limits) (f g out work out′ work′ : List ℕ) (a : Answer) → L ≡ desk → Does (compared L f g (length out) (length work)) out work out′ work′ a
-    → Does (compared desk f g (length out) (length work)) out work out′ work′ a
-does-desk L f g out work out′ work′ a e = subst (λ (M : Limits). Does (compared M f g (length out) (length work)) out work out′ work′ a) e

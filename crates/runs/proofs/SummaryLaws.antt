@@ -1,7 +1,7 @@
 -- For the code that finds summaries: a union built state by state, states added, edges run, a summary that grows, a point taken, the start, and the summaries by value.
 use mathlib.Core.Path.{_≡_, refl, sym, ap, ap₂, subst, _∙_}
 use mathlib.Core.Logic.{inl, inr}
-use mathlib.Core.Bool.{Bool, true, false, or-false, not, cond, _||_}
+use mathlib.Core.Bool.{Bool, true, false, or-false, not, cond, _||_, _&&_}
 use mathlib.Core.List.{List, [], List·Memᴰ}
 use Prim.Native.Nat.{ℕ, suc, _+_, _-_, _*_, _/_, _%_, _^_, _≤_, _<_}
 use native.Mathlib.Nat.{le-trans}
@@ -15,30 +15,31 @@ use lib.Seq.{getD-set-same, getD-set-other}
 use borrow.Author.Tests.{ne-eqb, eq-eqb as eqb-same}
 use Rattle.files.specs.Access.{node-held, edge-held, first-edge}
 use Rattle.files.specs.Access.Laws.{first-edge-le, leaves-in}
-use Rattle.files.specs.Basics.Tests.{eq-eqb, or-r, not-not, or-l}
+use Rattle.files.specs.Basics.Lists.{span, span-i, span-e}
+use Rattle.files.specs.Basics.Tests.{eq-eqb, or-r, not-not, or-l, any, any-i, any-e, and-i, and-e}
 use Rattle.files.specs.Cells.{cell, put-cell}
-use Rattle.files.specs.Cells.Laws.{byte-outside, cell-apart}
+use Rattle.files.specs.Cells.Laws.{byte-outside, cell-apart, cell-same}
 use Rattle.files.specs.Decode.{decode-graph, decode-rules}
 use Rattle.files.specs.Graph.{Graph, Edge, size, node, no-edge}
 use Rattle.files.specs.Refusal.{nodes-of}
-use Rattle.files.specs.Rules.{Monitor, watch, calls}
+use Rattle.files.specs.Rules.{Monitor, watch, calls, returns-to}
 use Rattle.files.specs.declared.graph.GraphEdge.{GraphEdge}
 use Rattle.files.specs.declared.graph.GraphNode.{GraphNode}
 use Rattle.files.specs.declared.graph.NodeAt.{NodeAt}
 use Rattle.files.specs.declared.graph.NodeAt.the-variants.{Is as NodeIs, Refused as NodeRefused}
 use Rattle.files.specs.declared.refusal.Refusal.{Refusal}
 use Rattle.maximal.specs.Masks.{member}
-use Rattle.maximal.specs.Masks.Laws.{member-or, member-one, member-none, apart-e}
+use Rattle.maximal.specs.Masks.Laws.{member-or, member-one, member-none, apart-e, apart-i, member-lt}
 use Rattle.judging.proofs.LevelLaws.{below-more}
 use Rattle.runs.specs.Prepared.{Ready, slot, Stepped, Tables}
 use Rattle.runs.specs.Prepared.Files.{is-filed, is-flow, size-is, edges-is, size-fits, edges-fit, method-in, labels-small, edge-in, monitor-small}
 use Rattle.runs.specs.Runs.{meth, EntryOf}
 use Rattle.runs.specs.Summary.{Inside, enter}
 use Rattle.runs.specs.Worklist.{union, passed, reach, sums, queue, added, added-tail, Past, after-edge, Queued, Holding, Grew, Covered}
-use Rattle.runs.specs.Worklist.{SpreadBut, Spread, PointDue, EdgesRun, EntersIn, Entering, StartsIn, Starts, CallsRun, EntriesIn, SummariesIn, TableOf}
-use Rattle.runs.specs.Worklist.Growth.{room-for, added-grew}
+use Rattle.runs.specs.Worklist.{SpreadBut, Spread, PointDue, EdgesRun, EntersIn, Entering, StartsIn, Starts, CallsRun, EntriesIn, SummariesIn, TableOf, CoveredBut, Links, Call, RanIn, Returning}
+use Rattle.runs.specs.Worklist.Growth.{room-for, added-grew, grew-on}
 use Rattle.runs.specs.Worklist.Loops.{edges-run, edges-run-e, calls-run-e, holds-nothing, spread-first}
-use Rattle.runs.specs.Worklist.Steps.{edge-happens, run-covers, covered-kept, spread-grew, spread-done, reached-most, taken-due, summed-before, raised-holds, raised-due, summaries-found}
+use Rattle.runs.specs.Worklist.Steps.{edge-happens, run-covers, covered-kept, spread-grew, spread-done, reached-most, taken-due, summed-before, raised-holds, raised-due, summaries-found, sums-same, links-happen, links-cover, covered-but-kept, raised-but}
 use Rattle.runs.specs.Worklist.Unions.{union-to, union-yes, union-no, union-is}
 use Rattle.runs.specs.declared.regions.Regions.{Regions}
 
@@ -121,19 +122,16 @@ starts-none G mon w e n y set p d f h hp z =
 
 -- ---- the states from which each caller enters a method
 
--- of the callers below a
-abbrev pub EnteringTo : Monitor → ℕ → ℕ → List ℕ → ℕ → Type 0
-EnteringTo mon m p t a = (length t ≡ 8) × ((b q : ℕ) → b < a → q < 8 → member (getD t b 0) q ≡ eqb (mon q (calls (suc b) m)) p)
+-- of the callers below a, each has what P asks for
+abbrev pub Placed : (ℕ → ℕ → Type 0) → List ℕ → ℕ → Type 0
+Placed P t a = (length t ≡ 8) × ((b : ℕ) → b < a → P b (getD t b 0))
 
-pub entering-more : (mon : Monitor) (m p : ℕ) (t : List ℕ) (a x : ℕ) → a < 8 → ((q : ℕ) → q < 8 → member x q ≡ eqb (mon q (calls (a + 1) m)) p)
-    → EnteringTo mon m p t a → EnteringTo mon m p (set t a x) (a + 1)
-entering-more mon m p t a x h f g = (length-set t a x ∙ g .0, λ b q hb hq. go b q hb hq (ℕ-discrete b a))
+pub placed-more : (P : ℕ → ℕ → Type 0) (t : List ℕ) (a x : ℕ) → a < 8 → P a x → Placed P t a → Placed P (set t a x) (a + 1)
+placed-more P t a x h e g = (length-set t a x ∙ g .0, λ b hb. go b hb (ℕ-discrete b a))
   where
-    go : (b q : ℕ) → b < a + 1 → q < 8 → Dec (b ≡ a) → member (getD (set t a x) b 0) q ≡ eqb (mon q (calls (suc b) m)) p
-    go b q hb hq (yes e) =
-        subst (λ (i : ℕ). member (getD (set t a x) i 0) q ≡ eqb (mon q (calls (suc i) m)) p) (sym e)
-        (ap (λ (y : ℕ). member y q) (getD-set-same t a x 0 (omega (arith, g .0))) ∙ f q hq ∙ ap (λ (i : ℕ). eqb (mon q (calls i m)) p) (add-one a))
-    go b q hb hq (no d) = ap (λ (y : ℕ). member y q) (getD-set-other t a b x 0 d) ∙ g .1 b q (omega arith) hq
+    go : (b : ℕ) → b < a + 1 → Dec (b ≡ a) → P b (getD (set t a x) b 0)
+    go b hb (yes d) = subst (λ (i : ℕ). P i (getD (set t a x) i 0)) (sym d) (subst (P a) (sym (getD-set-same t a x 0 (omega (arith, g .0)))) e)
+    go b hb (no d) = subst (P b) (sym (getD-set-other t a b x 0 d)) (g .1 b (omega arith))
 
 -- ---- edges run
 
@@ -150,15 +148,27 @@ node-read x v n p q = subst (λ (y : NodeAt). T (is-node y)) (sym p ∙ q) tt
 abbrev pub Ran : Graph → Monitor → List ℕ → ℕ → ℕ → Type 0
 Ran G mon w j p = T (not ((node G ((getD (G .edges) j no-edge) .from)) .ret)) → Covered G mon w (getD (G .edges) j no-edge) p
 
--- the same, if it starts in a state of the set with the states that w₀ has
-abbrev pub RanIn : Graph → Monitor → ℕ → List ℕ → List ℕ → ℕ → ℕ → Type 0
-RanIn G mon set w₀ w j p =
-    T (not ((node G ((getD (G .edges) j no-edge) .from)) .ret)) → StartsIn G mon set w₀ (getD (G .edges) j no-edge) p → Covered G mon w (getD (G .edges) j no-edge) p
+-- call j is run for what its callee yields to each caller, from the states that w₀ has
+abbrev pub RanAll : Graph → Monitor → List ℕ → List ℕ → List ℕ → List ℕ → ℕ → Type 0
+RanAll G mon callers ends w₀ w j =
+    T (not ((node G ((getD (G .edges) j no-edge) .from)) .ret)) → (p : ℕ) → p < 8
+    → RanIn G mon (getD callers (meth G ((getD (G .edges) j no-edge) .from) - 1) 0) (getD ends (meth G ((getD (G .edges) j no-edge) .from) - 1) 0) w₀ w (getD (G .edges) j no-edge) p
 
--- the same from every entry state with which it starts in one of the states that `t` has for its caller, as they were in w₀
-abbrev pub RanAll : Graph → Monitor → List ℕ → List ℕ → List ℕ → ℕ → Type 0
-RanAll G mon t w₀ w j =
-    T (not ((node G ((getD (G .edges) j no-edge) .from)) .ret)) → (p : ℕ) → p < 8 → Starts G mon t w₀ (getD (G .edges) j no-edge) p → Covered G mon w (getD (G .edges) j no-edge) p
+-- two sets that share a state
+pub sets-meet : (x y : ℕ) → x < 256 → y < 256 → 0 < bitAnd x y → (q : ℕ) × (q < 8) × T (member x q) × T (member y q)
+sets-meet x y hx hy h = go (any in-both (span 0 8)) refl
+  where
+    in-both : ℕ → Bool
+    in-both q = member x q && member y q
+
+    go : (b : Bool) → any in-both (span 0 8) ≡ b → (q : ℕ) × (q < 8) × T (member x q) × T (member y q)
+    go true d =
+        let a = any-e in-both (span 0 8) (subst T (sym d) tt) in
+        let c = and-e (member x (a .0)) (member y (a .0)) (a .2) in
+        (a .0, omega (arith, (span-e 8 0 (a .0) (a .1)) .1), c .0, c .1)
+    go false d =
+        let none : bitAnd x y ≡ 0 = eqb→eq (bitAnd x y) 0 (apart-i 8 x y hx hy (λ q t u. subst T d (any-i in-both (span 0 8) q (span-i 8 0 q (omega arith) (omega (arith, member-lt 8 x q hx t))) (and-i (member x q) (member y q) t u)))) in
+        absurd (omega (arith, none, h))
 
 module _ (s : Regions) (g r : List ℕ) (ready : Ready s g r) where
   abbrev G : Graph
@@ -238,6 +248,9 @@ module _ (s : Regions) (g r : List ℕ) (ready : Ready s g r) where
       pub caller-is : v .method - 1 ≡ meth G ((edge j) .from) - 1
       caller-is = ap (λ (n : ℕ). n - 1) method-is
 
+      pub goes-on : v .returns ≡ false → T (not ((node G ((edge j) .from)) .ret))
+      goes-on e = subst (λ (b : Bool). T (not b)) (sym (sym returns-is ∙ e)) tt
+
       pub runs-none : v .returns ≡ true → (w : List ℕ) (p : ℕ) → Ran G mon w j p
       runs-none e w p t = absurd (T-not ((node G ((edge j) .from)) .ret) t (subst T (sym (sym returns-is ∙ e)) tt))
 
@@ -269,7 +282,7 @@ module _ (s : Regions) (g r : List ℕ) (ready : Ready s g r) where
           )
         where
           no-return : T (not ((node G ((edge j) .from)) .ret))
-          no-return = subst (λ (b : Bool). T (not b)) (sym (sym returns-is ∙ e)) tt
+          no-return = goes-on e
 
           happens : (q : ℕ) → q < 8 → T (member y q) → Inside G mon (meth G (u .to)) p (u .to) q
           happens q hq m =
@@ -282,27 +295,76 @@ module _ (s : Regions) (g r : List ℕ) (ready : Ready s g r) where
     pub ran-kept : (p : ℕ) → p < 8 → Ran G mon v j p → Ran G mon w j p
     ran-kept p hp f t = covered-kept G mon (is-flow s g r ready) (labels-small s g r ready) (monitor-small s g r ready) a b v w grew (edge j) (member-edge j hj) p hp (f t)
 
-    pub ran-all-kept : (t w₀ : List ℕ) → RanAll G mon t w₀ v j → RanAll G mon t w₀ w j
-    ran-all-kept t w₀ f n p hp x = ran-kept p hp (λ u. f u p hp x) n
+    pub ran-all-kept : (t u w₀ : List ℕ) → RanAll G mon t u w₀ v j → RanAll G mon t u w₀ w j
+    ran-all-kept t u w₀ f n p hp i hi l c x = ran-kept p hp (λ z. f z p hp i hi l c x) n
 
     -- a start stays one
     pub starts-kept : (set p : ℕ) → p < 8 → StartsIn G mon set v (edge j) p → StartsIn G mon set w (edge j) p
     starts-kept set p hp x = (x .0, x .1, grew .reach-kept ((edge j) .from) p (x .0) ((is-flow s g r ready) .from-node (edge j) (member-edge j hj)) hp (x .2), x .3)
 
-  -- edge j for one entry state more: run, or reached in no state of the set
-  module _ (set tail end : ℕ) (w₀ w : List ℕ) (grew : Grew G mon tail end w₀ w) (j : ℕ) (hj : j < s .edges) (p : ℕ) (hp : p < 8)
-      (done : (i : ℕ) → i < p → RanIn G mon set w₀ w j i) where
-    pub where-run : (t : ℕ) (w′ : List ℕ) → Grew G mon end t w w′ → Ran G mon w′ j p → (i : ℕ) → i < p + 1 → RanIn G mon set w₀ w′ j i
-    where-run t w′ more ran =
-        below-more (RanIn G mon set w₀ w′ j) p (λ i h n x. ran-kept end t w w′ more j hj i (omega (arith, h, hp)) (λ u. done i h u x) n) (λ n x. ran n)
+    -- what links a caller's sets stays so, and so a call that is run from later states is run from earlier ones
+    pub links-kept : (a m i set y : ℕ) → Links G mon a m i set y v → Links G mon a m i set y w
+    links-kept c m i set y l = (
+      l .0,
+      l .1 ∙ ap (λ (f : ℕ → ℕ → ℕ). union (λ (s : ℕ). 2 ^ mon s (returns-to m c)) (f m i))
+          (sym (sums-same G mon (is-flow s g r ready) (labels-small s g r ready) (monitor-small s g r ready) a b v w grew)),
+    )
 
-    pub where-not : (n x : ℕ) → n ≡ (edge j) .from → x ≡ reach w n p → bitAnd x set ≤ 0 → (i : ℕ) → i < p + 1 → RanIn G mon set w₀ w j i
-    where-not n x from is none = below-more (RanIn G mon set w₀ w j) p done (λ u y. absurd (meets (starts-kept tail end w₀ w grew j hj set p hp y)))
+    pub ran-from : (set y p : ℕ) (w′ : List ℕ) → p < 8 → RanIn G mon set y w w′ (edge j) p → RanIn G mon set y v w′ (edge j) p
+    ran-from set y p w′ hp f i hi l c x =
+        f i hi (links-kept _ _ i set y l)
+        (covered-but-kept G mon (is-flow s g r ready) (labels-small s g r ready) (monitor-small s g r ready) a b v w grew (edge j) (member-edge j hj) p hp i c) (starts-kept set p hp x)
+
+  pub source-in : (j : ℕ) → j < s .edges → (n h : ℕ) → Call G mon (edge j) n h → n < size G
+  source-in j hj n h c = subst (λ (k : ℕ). k < size G) (sym (c .leaves)) ((is-flow s g r ready) .from-node (edge j) (member-edge j hj))
+
+  -- call j for one entry state more: its ends are added, or it is reached in no state of the set
+  module _ (set y tail end : ℕ) (w₀ w : List ℕ) (grew : Grew G mon tail end w₀ w) (j : ℕ) (hj : j < s .edges) (n h : ℕ) (c : Call G mon (edge j) n h) (p : ℕ) (hp : p < 8)
+      (done : (i : ℕ) → i < p → RanIn G mon set y w₀ w (edge j) i) (x : ℕ) (x-is : x ≡ reach w n p) where
+    pub target-in : h < size G
+    target-in = subst (λ (k : ℕ). k < size G) (sym (c .leads)) ((is-flow s g r ready) .to-node (edge j) (member-edge j hj))
+
+    pub where-added : y < 256 → x < 256 → set < 256 → (i : ℕ) × (i < 8) × Links G mon (meth G ((edge j) .from)) ((edge j) .label) i set y w₀ → 0 < bitAnd x set → (t : ℕ) (w′ : List ℕ)
+        → (t ≡ added-tail w end h p y) × (w′ ≡ added w end h p y) → Grew G mon tail t w₀ w′ × ((i : ℕ) → i < p + 1 → RanIn G mon set y w₀ w′ (edge j) i)
+    where-added hy hx hs link some t w′ d = (grew-on G mon tail end t w₀ w w′ grew (did .0), below-more (RanIn G mon set y w₀ w′ (edge j)) p before here)
+      where
+        start : StartsIn G mon set w (edge j) p
+        start = let a = sets-meet x set hx hs some in (a .0, a .1, subst (λ (k : ℕ). T (member k (a .0))) (x-is ∙ ap (λ (v : ℕ). reach w v p) (c .leaves)) (a .2), a .3)
+
+        did : Grew G mon end t w w′ × ((q : ℕ) → T (member y q) → T (member (reach w′ h p) q))
+        did = did-add end w (grew .holding) h p y target-in hp hy
+            (λ q hq m. subst (λ (k : ℕ). Inside G mon (meth G k) p k q) (sym (c .leads))
+            (links-happen G mon (is-flow s g r ready) (labels-small s g r ready) (monitor-small s g r ready) end w (grew .holding) (edge j) (member-edge j hj) (c .no-return) p hp (link .0) set y (c .is-call)
+            (links-kept tail end w₀ w grew j hj _ _ (link .0) set y (link .2)) start q hq m)) t w′ d
+
+        before : (i : ℕ) → i < p → RanIn G mon set y w₀ w′ (edge j) i
+        before i hi k hk l b z =
+            covered-kept G mon (is-flow s g r ready) (labels-small s g r ready) (monitor-small s g r ready) end t w w′ (did .0) (edge j) (member-edge j hj) i (omega (arith, hi, hp)) (done i hi k hk l b z)
+
+        here : RanIn G mon set y w₀ w′ (edge j) p
+        here k hk l b z =
+            links-cover G mon (is-flow s g r ready) (labels-small s g r ready) (monitor-small s g r ready) end t w w′ (did .0) (edge j) (member-edge j hj) p hp k set y (c .is-call) hk
+            (links-kept tail end w₀ w grew j hj _ _ k set y l)
+            (covered-but-kept G mon (is-flow s g r ready) (labels-small s g r ready) (monitor-small s g r ready) tail end w₀ w grew (edge j) (member-edge j hj) p hp k b)
+            (λ q m. subst (λ (v : ℕ). T (member (reach w′ v p) q)) (c .leads) (did .1 q m))
+
+    pub where-not : bitAnd x set ≤ 0 → (i : ℕ) → i < p + 1 → RanIn G mon set y w₀ w (edge j) i
+    where-not none = below-more (RanIn G mon set y w₀ w (edge j)) p done (λ i hi l b z. absurd (meets (starts-kept tail end w₀ w grew j hj set p hp z)))
       where
         meets : StartsIn G mon set w (edge j) p → ⊥
         meets z =
             apart-e x set (eq-eqb (bitAnd x set) 0 (omega (arith, none))) (z .0)
-            (subst (λ (k : ℕ). T (member k (z .0))) (sym (is ∙ ap (λ (v : ℕ). reach w v p) from)) (z .2)) (z .3)
+            (subst (λ (k : ℕ). T (member k (z .0))) (sym (x-is ∙ ap (λ (v : ℕ). reach w v p) (c .leaves))) (z .2)) (z .3)
+
+  -- the sets of a caller of method m link
+  pub links-of : (j : ℕ) → j < s .edges → (m i : ℕ) (callers ends w : List ℕ) → (edge j) .label ≡ m → Entering mon m i callers → Returning mon m (sums w m i) ends
+      → Links G mon (meth G ((edge j) .from)) ((edge j) .label) i (getD callers (meth G ((edge j) .from) - 1) 0) (getD ends (meth G ((edge j) .from) - 1) 0) w
+  links-of j hj m i callers ends w d into back =
+      let a = method-in s g r ready ((edge j) .from) ((is-flow s g r ready) .from-node (edge j) (member-edge j hj)) in
+      let b : suc (meth G ((edge j) .from) - 1) ≡ meth G ((edge j) .from) = omega (arith, a .0) in (
+        λ q hq t. ap₂ (λ (x z : ℕ). mon q (calls x z)) (sym b) d ∙ eqb→eq _ i (subst T (into (meth G ((edge j) .from) - 1) q (omega (arith, a .0, a .1)) hq) t),
+        back (meth G ((edge j) .from) - 1) (omega (arith, a .0, a .1)) ∙ ap₂ (λ (x z : ℕ). union (λ (k : ℕ). 2 ^ mon k (returns-to z x)) (sums w z i)) b (sym d),
+      )
 
   pub first-held : (tail : ℕ) (w : List ℕ) → Holding G mon tail w → (n x : ℕ) → n ≤ s .nodes → x ≡ cell w 33792 2 n → x ≡ first-edge G n
   first-held tail w h n x l e = e ∙ h .tables .firsts n (omega (arith, size-is s g r ready))
@@ -356,9 +418,13 @@ module _ (s : Regions) (g r : List ℕ) (ready : Ready s g r) where
           (raised-holds G mon (is-flow s g r ready) (labels-small s g r ready) (monitor-small s g r ready) (size-fits s g r ready) (edges-fit s g r ready) methods-small (d .0) tail w n p
           (node-in n hn) hp returns (d .2) small)
 
-      pub sum-spreads : (callers : List ℕ) → Entering mon m p callers → (t : ℕ) (w′ : List ℕ) → Grew G mon tail t w₁ w′ → CallsRun G mon callers w₁ w′ m
+      pub sum-now : 46949 ≤ length w → sums w₁ m p ≡ bitOr old x
+      sum-now room = ap (λ (v : List ℕ). sums v m p) put ∙ cell-same w 46612 1 (8 * m + p) (bitOr old x) (omega (arith, method-fits n m hn method-of, room)) (or-lt 8 old x ho hx)
+
+      pub sum-spreads : (callers ends : List ℕ) → Entering mon m p callers → Returning mon m (bitOr old x) ends → (t : ℕ) (w′ : List ℕ) → Grew G mon tail t w₁ w′
+          → ((i : ℕ) → i < 8 → Entering mon m i callers → Returning mon m (sums w₁ m i) ends → CallsRun G mon i callers w₁ w′ m)
           → ((k : ℕ) → k ≤ tail → PointDue G mon n p k tail w → Spread G mon k t w′) × ((tail ≤ t) × Past w w′)
-      sum-spreads callers into t w′ grew run = (spreads, (grew .longer, past))
+      sum-spreads callers ends into back t w′ grew run = (spreads, (grew .longer, past))
         where
           past : Past w w′
           past q h =
@@ -388,7 +454,14 @@ module _ (s : Regions) (g r : List ℕ) (ready : Ready s g r) where
               (subst (SpreadBut G mon Due (λ v i. ⊥) k tail) (sym put-sum)
               (raised-due G mon (is-flow s g r ready) (labels-small s g r ready) (monitor-small s g r ready) (size-fits s g r ready) (edges-fit s g r ready) methods-small k tail w n p
               (node-in n hn) hp returns d small)) l)
-              (λ e c t i hi z. calls-run-e G mon callers w₁ w′ m run e c (z .0 ∙ sym method-of) t i hi (due-starts e c i hi z)) (λ v i hv hi t z. absurd z)
+              (λ e c t i hi z. calls-run-e G mon p callers w₁ w′ m (run p hp into (λ a ha. back a ha ∙ ap (union (λ (k : ℕ). 2 ^ mon k (returns-to m (suc a)))) (sym (sum-now (d .holding .room))))) e c (z .0 ∙ sym method-of) t i hi
+              (but e c t i hi z) (due-starts e c i hi z)) (λ v i hv hi t z. absurd z)
+            where
+              but : (e : Edge) → List·Memᴰ e (G .edges) → T (not ((node G (e .from)) .ret)) → (i : ℕ) → i < 8 → Due e i → CoveredBut G mon p w₁ e i
+              but e c t i hi z =
+                  subst (λ (v : List ℕ). CoveredBut G mon p v e i) (sym put-sum)
+                  (raised-but G mon (is-flow s g r ready) (labels-small s g r ready) (monitor-small s g r ready) (size-fits s g r ready) (edges-fit s g r ready) methods-small k tail w n p
+                  (node-in n hn) hp returns d small e c t (omega (arith, z .0, (method-in s g r ready n (node-in n hn)) .0)) i hi)
 
   -- ---- a point is taken
 

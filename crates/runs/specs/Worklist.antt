@@ -89,6 +89,10 @@ TableOf w t = (m p : ℕ) → m < 8 → p < 8 → getD (getD t m []) p 0 ≡ sum
 abbrev pub Entering : Monitor → ℕ → ℕ → List ℕ → Type 0
 Entering mon m p t = (a q : ℕ) → a < 8 → q < 8 → member (getD t a 0) q ≡ eqb (mon q (calls (suc a) m)) p
 
+-- for each caller a, from method 1 on, the states in which it goes on where method m returns to it in a state of x
+abbrev pub Returning : Monitor → ℕ → ℕ → List ℕ → Type 0
+Returning mon m x t = (a : ℕ) → a < 8 → getD t a 0 ≡ union (λ (s : ℕ). 2 ^ mon s (returns-to m (suc a))) x
+
 module _ (G : Graph) (mon : Monitor) where
   -- the states after edge e, from the states x at its source
   abbrev pub after-edge : (ℕ → ℕ → ℕ) → Edge → ℕ → ℕ
@@ -162,9 +166,32 @@ module _ (G : Graph) (mon : Monitor) where
   abbrev pub Starts : List ℕ → List ℕ → Edge → ℕ → Type 0
   Starts t w e p = StartsIn (getD t (meth G (e .from) - 1) 0) w e p
 
-  -- from w on to w′ the calls of method m that start so are run
-  pub CallsRun : List ℕ → List ℕ → List ℕ → ℕ → Type 0
-  CallsRun t w w′ m = (e : Edge) → List·Memᴰ e (G .edges) → e .label ≡ m → T (not ((node G (e .from)) .ret)) → (p : ℕ) → p < 8 → Starts t w e p → Covered w′ e p
+  -- call e is covered but for what its callee yields when it is entered in state i
+  pub CoveredBut : ℕ → List ℕ → Edge → ℕ → Type 0
+  CoveredBut i w e p =
+      (waits w (e .from) p ≡ 1)
+      ⊎ ((q s : ℕ) → q < 8 → s < 8 → T (member (reach w (e .from) p) q) → (mon q (calls (meth G (e .from)) (e .label)) ≡ i → ⊥)
+      → T (member (sums w (e .label) (mon q (calls (meth G (e .from)) (e .label)))) s) → T (member (reach w (e .to) p) (mon s (returns-to (e .label) (meth G (e .from))))))
+
+  -- of a caller: from a state of the set its call of method m enters it in state i, and y has the states to which it then returns
+  abbrev pub Links : ℕ → ℕ → ℕ → ℕ → ℕ → List ℕ → Type 0
+  Links a m i set y w = ((q : ℕ) → q < 8 → T (member set q) → mon q (calls a m) ≡ i) × (y ≡ union (λ (s : ℕ). 2 ^ mon s (returns-to m a)) (sums w m i))
+
+  -- edge e is a call from node g to node h, and not from a return node
+  pub record Call (e : Edge) (g h : ℕ) : Type 0 where
+    pub leaves : g ≡ e .from
+    pub leads : h ≡ e .to
+    pub is-call : 0 < e .label
+    pub no-return : T (not ((node G (e .from)) .ret))
+
+  -- from w₀ on to w call e is run for entry state p: where it was covered but for entry state i of its callee and starts in a state of the set, it is covered
+  abbrev pub RanIn : ℕ → ℕ → List ℕ → List ℕ → Edge → ℕ → Type 0
+  RanIn set y w₀ w e p = (i : ℕ) → i < 8 → Links (meth G (e .from)) (e .label) i set y w₀ → CoveredBut i w₀ e p → StartsIn set w₀ e p → Covered w e p
+
+  -- from w on to w′ the calls of method m that start so, and were covered but for entry state i, are run
+  pub CallsRun : ℕ → List ℕ → List ℕ → List ℕ → ℕ → Type 0
+  CallsRun i t w w′ m =
+      (e : Edge) → List·Memᴰ e (G .edges) → e .label ≡ m → T (not ((node G (e .from)) .ret)) → (p : ℕ) → p < 8 → CoveredBut i w e p → Starts t w e p → Covered w′ e p
 
   -- each entry is reached in the state in which its method was entered
   abbrev pub EntriesIn : ℕ → List ℕ → Type 0

@@ -8,7 +8,7 @@ ghost use Rattle.files.specs.Decode.{decode-rules};
 ghost use Rattle.files.specs.Rules.{watch, calls};
 ghost use Rattle.maximal.specs.Masks.{member};
 ghost use Rattle.runs.specs.Prepared.{Ready, Stepped};
-ghost use Rattle.runs.specs.Worklist.{union, passed, sums, Entering};
+ghost use Rattle.runs.specs.Worklist.{union, passed, sums, Entering, Returning};
 use crate::prepare::slot;
 use crate::regions::Regions;
 use files::cells::get8;
@@ -115,6 +115,27 @@ pub(crate) fn entering_by(rules: &[u8], work: &[u8], m: u8, p: usize) -> [u8; 8]
     let mut a: u8 = 0;
     while a < 8 {
         t[a as usize] = entering(rules, work, a + 1, m, p);
+        a += 1;
+    }
+    t
+}
+
+// For each caller, from method 1 on, the states in which it goes on where method m returns to it in a state of the set.
+pub(crate) fn returning_by(
+    graph: &[u8],
+    rules: &[u8],
+    s: Regions,
+    work: &[u8],
+    m: u8,
+    x: u8,
+) -> [u8; 8]
+    requires { ⌜ (Ready s (now graph) (now rules)) × ((Stepped (watch (decode-rules (now rules))) (now work)) × ((46949 ≤ length (now work)) × ((1 ≤ m) × (m ≤ 8)))) ⌝ }
+    ensures { λ t. ⌜ Returning (watch (decode-rules (now (rules .entry)))) m x t ⌝ }
+{
+    let mut t = [0u8; 8];
+    let mut a: u8 = 0;
+    while a < 8 {
+        t[a as usize] = step_set(graph, rules, s, work, x, 2, m, a + 1);
         a += 1;
     }
     t

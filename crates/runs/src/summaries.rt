@@ -2,7 +2,7 @@
 // and `table_of` hands them on by value.
 ghost use mathlib.Core.Path.{_≡_};
 ghost use mathlib.Core.Bool.{not};
-ghost use Prim.Native.Nat.{ℕ, _+_, _≤_, _<_};
+ghost use Prim.Native.Nat.{ℕ, _+_, _-_, _≤_, _<_};
 ghost use lib.Bits.{bitOr};
 ghost use lib.Dec.{T};
 ghost use lib.ListN.{length, getD};
@@ -12,11 +12,12 @@ ghost use Rattle.files.specs.Rules.{watch};
 ghost use Rattle.maximal.specs.Masks.{member};
 ghost use Rattle.runs.specs.Prepared.{Ready, Tables};
 ghost use Rattle.runs.specs.Runs.{meth};
-ghost use Rattle.runs.specs.Worklist.{reach, added, added-tail, Holding, Grew, Covered, PointDue, Spread, EdgesRun, StartsIn, Starts, CallsRun, EntriesIn, SummariesIn, Past, TableOf};
+ghost use Rattle.runs.specs.Worklist.{reach, added, added-tail, Holding, Grew, Covered, PointDue, Spread, EdgesRun, CallsRun, EntriesIn, SummariesIn, Past, TableOf, Call, Links, RanIn, Entering, Returning, sums};
 use crate::regions::Regions;
 use crate::sets::entering_by;
 use crate::sets::one_state;
 use crate::sets::pass;
+use crate::sets::returning_by;
 use files::cells::get8;
 use files::cells::get16;
 use files::cells::put8;
@@ -113,8 +114,8 @@ fn reached_any(work: &[u8], g: usize) -> u8
     y
 }
 
-// Runs edge j, which leaves node g, for each entry state with which the node is reached in a state of the set.
-fn run_where(
+// Adds states y to node `to`, where call j leads from node g, for each entry state with which node g is reached in a state of the set.
+fn add_where(
     graph: &[u8],
     rules: &[u8],
     s: Regions,
@@ -122,35 +123,38 @@ fn run_where(
     tail: usize,
     j: usize,
     g: usize,
+    to: usize,
     set: u8,
+    y: u8,
 ) -> usize
-    requires { ⌜ (Ready s (now graph) (now rules)) × ((j < s .edges) × ((g ≡ (getD ((decode-graph (now graph)) .edges) j no-edge) .from) × ((g < s .nodes) × (Holding (decode-graph (now graph)) (watch (decode-rules (now rules))) tail (now work))))) ⌝ }
-    ensures { λ t. ⌜ (Grew (decode-graph (now (graph .entry))) (watch (decode-rules (now (rules .entry)))) tail t (now (work .entry)) (now (work .exit))) × (T (not ((node (decode-graph (now (graph .entry))) ((getD ((decode-graph (now (graph .entry))) .edges) j no-edge) .from)) .ret)) → (p : ℕ) → p < 8 → StartsIn (decode-graph (now (graph .entry))) (watch (decode-rules (now (rules .entry)))) set (now (work .entry)) (getD ((decode-graph (now (graph .entry))) .edges) j no-edge) p → Covered (decode-graph (now (graph .entry))) (watch (decode-rules (now (rules .entry)))) (now (work .exit)) (getD ((decode-graph (now (graph .entry))) .edges) j no-edge) p) ⌝ }
+    requires { ⌜ (Ready s (now graph) (now rules)) × ((j < s .edges) × ((Call (decode-graph (now graph)) (watch (decode-rules (now rules))) (getD ((decode-graph (now graph)) .edges) j no-edge) g to) × ((Holding (decode-graph (now graph)) (watch (decode-rules (now rules))) tail (now work)) × ((i : ℕ) × (i < 8) × (Links (decode-graph (now graph)) (watch (decode-rules (now rules))) (meth (decode-graph (now graph)) ((getD ((decode-graph (now graph)) .edges) j no-edge) .from)) ((getD ((decode-graph (now graph)) .edges) j no-edge) .label) i set y (now work)))))) ⌝ }
+    ensures { λ t. ⌜ (Grew (decode-graph (now (graph .entry))) (watch (decode-rules (now (rules .entry)))) tail t (now (work .entry)) (now (work .exit))) × ((p : ℕ) → p < 8 → RanIn (decode-graph (now (graph .entry))) (watch (decode-rules (now (rules .entry)))) set y (now (work .entry)) (now (work .exit)) (getD ((decode-graph (now (graph .entry))) .edges) j no-edge) p) ⌝ }
 {
     let mut p = 0;
     let mut end = tail;
     while p < 8 {
         let x = get8(work, Regions::REACHED, 8 * g + p);
         if x & set > 0 {
-            end = run_edge(graph, rules, s, work, end, j, p);
+            end = add(work, end, to, p, y);
         }
         p += 1;
     }
     end
 }
 
-// Runs call j for each entry state with which it is reached in one of its caller's states.
+// Runs call j for what its callee now yields, for each entry state with which it is reached in one of its caller's states.
 fn run_call(
     graph: &[u8],
     rules: &[u8],
     s: Regions,
     callers: &[u8; 8],
+    ends: &[u8; 8],
     work: &mut [u8],
     tail: usize,
     j: usize,
 ) -> usize
-    requires { ⌜ (Ready s (now graph) (now rules)) × ((j < s .edges) × (Holding (decode-graph (now graph)) (watch (decode-rules (now rules))) tail (now work))) ⌝ }
-    ensures { λ t. ⌜ (Grew (decode-graph (now (graph .entry))) (watch (decode-rules (now (rules .entry)))) tail t (now (work .entry)) (now (work .exit))) × (T (not ((node (decode-graph (now (graph .entry))) ((getD ((decode-graph (now (graph .entry))) .edges) j no-edge) .from)) .ret)) → (p : ℕ) → p < 8 → Starts (decode-graph (now (graph .entry))) (watch (decode-rules (now (rules .entry)))) (now (callers .entry)) (now (work .entry)) (getD ((decode-graph (now (graph .entry))) .edges) j no-edge) p → Covered (decode-graph (now (graph .entry))) (watch (decode-rules (now (rules .entry)))) (now (work .exit)) (getD ((decode-graph (now (graph .entry))) .edges) j no-edge) p) ⌝ }
+    requires { ⌜ (Ready s (now graph) (now rules)) × ((j < s .edges) × ((0 < (getD ((decode-graph (now graph)) .edges) j no-edge) .label) × ((Holding (decode-graph (now graph)) (watch (decode-rules (now rules))) tail (now work)) × ((i : ℕ) × (i < 8) × (Links (decode-graph (now graph)) (watch (decode-rules (now rules))) (meth (decode-graph (now graph)) ((getD ((decode-graph (now graph)) .edges) j no-edge) .from)) ((getD ((decode-graph (now graph)) .edges) j no-edge) .label) i (getD (now callers) (meth (decode-graph (now graph)) ((getD ((decode-graph (now graph)) .edges) j no-edge) .from) - 1) 0) (getD (now ends) (meth (decode-graph (now graph)) ((getD ((decode-graph (now graph)) .edges) j no-edge) .from) - 1) 0) (now work)))))) ⌝ }
+    ensures { λ t. ⌜ (Grew (decode-graph (now (graph .entry))) (watch (decode-rules (now (rules .entry)))) tail t (now (work .entry)) (now (work .exit))) × (T (not ((node (decode-graph (now (graph .entry))) ((getD ((decode-graph (now (graph .entry))) .edges) j no-edge) .from)) .ret)) → (p : ℕ) → p < 8 → RanIn (decode-graph (now (graph .entry))) (watch (decode-rules (now (rules .entry)))) (getD (now (callers .entry)) (meth (decode-graph (now (graph .entry))) ((getD ((decode-graph (now (graph .entry))) .edges) j no-edge) .from) - 1) 0) (getD (now (ends .entry)) (meth (decode-graph (now (graph .entry))) ((getD ((decode-graph (now (graph .entry))) .edges) j no-edge) .from) - 1) 0) (now (work .entry)) (now (work .exit)) (getD ((decode-graph (now (graph .entry))) .edges) j no-edge) p) ⌝ }
 {
     let EdgeAt::Is(e) = edge_at(graph, s.nodes, j, 0) else {
         return tail;
@@ -158,31 +162,36 @@ fn run_call(
     let NodeAt::Is(v) = node_at(graph, e.from, 0) else {
         return tail;
     };
+    if v.returns {
+        return tail;
+    }
     let set = callers[(v.method - 1) as usize];
+    let y = ends[(v.method - 1) as usize];
     if reached_any(work, e.from) & set > 0 {
-        return run_where(graph, rules, s, work, tail, j, e.from, set);
+        return add_where(graph, rules, s, work, tail, j, e.from, e.to, set, y);
     }
     tail
 }
 
-// Runs every call of method m that starts in one of its caller's states.
+// Runs every call of method m, for what it now yields, that starts in one of its caller's states.
 fn run_calls(
     graph: &[u8],
     rules: &[u8],
     s: Regions,
     callers: &[u8; 8],
+    ends: &[u8; 8],
     work: &mut [u8],
     tail: usize,
     m: usize,
 ) -> usize
-    requires { ⌜ (Ready s (now graph) (now rules)) × ((m < 9) × (Holding (decode-graph (now graph)) (watch (decode-rules (now rules))) tail (now work))) ⌝ }
-    ensures { λ t. ⌜ (Grew (decode-graph (now (graph .entry))) (watch (decode-rules (now (rules .entry)))) tail t (now (work .entry)) (now (work .exit))) × (CallsRun (decode-graph (now (graph .entry))) (watch (decode-rules (now (rules .entry)))) (now (callers .entry)) (now (work .entry)) (now (work .exit)) m) ⌝ }
+    requires { ⌜ (Ready s (now graph) (now rules)) × ((1 ≤ m) × ((m < 9) × ((Holding (decode-graph (now graph)) (watch (decode-rules (now rules))) tail (now work)) × ((i : ℕ) × (i < 8) × (Entering (watch (decode-rules (now rules))) m i (now callers)) × (Returning (watch (decode-rules (now rules))) m (sums (now work) m i) (now ends)))))) ⌝ }
+    ensures { λ t. ⌜ (Grew (decode-graph (now (graph .entry))) (watch (decode-rules (now (rules .entry)))) tail t (now (work .entry)) (now (work .exit))) × ((i : ℕ) → i < 8 → Entering (watch (decode-rules (now (rules .entry)))) m i (now (callers .entry)) → Returning (watch (decode-rules (now (rules .entry)))) m (sums (now (work .entry)) m i) (now (ends .entry)) → CallsRun (decode-graph (now (graph .entry))) (watch (decode-rules (now (rules .entry)))) i (now (callers .entry)) (now (work .entry)) (now (work .exit)) m) ⌝ }
 {
     let mut at = get16(work, Regions::LABEL_HEADS, m) as usize;
     let mut end = tail;
     while at > 0 {
         let j = at - 1;
-        end = run_call(graph, rules, s, callers, work, end, j);
+        end = run_call(graph, rules, s, callers, ends, work, end, j);
         at = get16(work, Regions::LABEL_NEXTS, j) as usize;
     }
     end
@@ -210,7 +219,8 @@ fn end_call(
     }
     put8(work, Regions::SUMS, 8 * m + p, new);
     let callers = entering_by(rules, work, m as u8, p);
-    run_calls(graph, rules, s, &callers, work, tail, m)
+    let ends = returning_by(graph, rules, s, work, m as u8, new);
+    run_calls(graph, rules, s, &callers, &ends, work, tail, m)
 }
 
 // Takes the point at place `head` of the queue.

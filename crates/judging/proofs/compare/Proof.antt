@@ -1,6 +1,8 @@
+use lib.ListN.{length}
+use Rattle.files.specs.declared.record.Limits.{Limits}
+use Rattle.judging.proofs.CallLaws.{does-desk}
 use Rattle.judging.proofs.DecideLaws.{desk-strides}
-use Rattle.judging.proofs.SimulateLaws.{does-desk}
-use Rattle.judging.specs.Compare.{compared-answer}
+use Rattle.judging.specs.Compare.{compared, compared-answer}
 use borrow.Author.Needs.{needs}
 use Rattle.judging.proofs.compare.Statement.{statement}
 use Rattle.judging.proofs.compare.Tie as tie
@@ -25,7 +27,7 @@ same-length-2 c = search needs
 returns : tie.Need-returns
 returns c = let k = c .before .before .before .before .before .before .before .before .before .before .before .before in
     let j = c .before .before .before .before .compare-within in
-    does-desk (c .before .before .before .before .before .desk .result) (k .args .first .now) (k .args .second .now) (k .args .out .now) (k .args .work .now) (j .last .1 .1 .0) (j .last .1 .1 .1 .0) (compared-answer (j .result)) (c .before .before .before .before .before .desk .ensures) (j .ensures)
+    does-desk (λ (M : Limits). compared M (k .args .first .now) (k .args .second .now) (length (k .args .out .now)) (length (k .args .work .now))) (c .before .before .before .before .before .desk .result) (k .args .out .now) (k .args .work .now) (j .last .1 .1 .0) (j .last .1 .1 .1 .0) (compared-answer (j .result)) (c .before .before .before .before .before .desk .ensures) (j .ensures)
 
 pub compare-spec : {M : Type 1} → statement M
 compare-spec =

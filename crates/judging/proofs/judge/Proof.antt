@@ -1,5 +1,8 @@
-use Rattle.judging.proofs.DecideLaws.{desk-strides, does-desk}
-use Rattle.judging.specs.Judge.{judged-answer}
+use lib.ListN.{length}
+use Rattle.files.specs.declared.record.Limits.{Limits}
+use Rattle.judging.proofs.CallLaws.{does-desk}
+use Rattle.judging.proofs.DecideLaws.{desk-strides}
+use Rattle.judging.specs.Judge.{judged, judged-answer}
 use borrow.Author.Needs.{needs}
 use Rattle.judging.proofs.judge.Statement.{statement}
 use Rattle.judging.proofs.judge.Tie as tie
@@ -24,7 +27,7 @@ same-length-2 c = search needs
 returns : tie.Need-returns
 returns c = let k = c .before .before .before .before .before .before .before .before .before .before .before .before in
     let j = c .before .before .before .before .judge-within in
-    does-desk (c .before .before .before .before .before .desk .result) (k .args .graph .now) (k .args .property .now) (k .args .out .now) (k .args .work .now) (j .last .1 .1 .0) (j .last .1 .1 .1 .0) (judged-answer (j .result)) (c .before .before .before .before .before .desk .ensures) (j .ensures)
+    does-desk (λ (M : Limits). judged M (k .args .graph .now) (k .args .property .now) (length (k .args .out .now)) (length (k .args .work .now))) (c .before .before .before .before .before .desk .result) (k .args .out .now) (k .args .work .now) (j .last .1 .1 .0) (j .last .1 .1 .1 .0) (judged-answer (j .result)) (c .before .before .before .before .before .desk .ensures) (j .ensures)
 
 pub judge-spec : {M : Type 1} → statement M
 judge-spec =

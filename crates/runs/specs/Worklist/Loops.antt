@@ -18,7 +18,7 @@ use Rattle.maximal.specs.Masks.Laws.{member-none}
 use Rattle.runs.specs.Prepared.{labelled, Tables}
 use Rattle.runs.specs.Runs.{meth}
 use Rattle.runs.specs.Summary.{Yields}
-use Rattle.runs.specs.Worklist.{passed, point, reach, waits, sums, queue, reached, Holding, Grew, Covered, Spread, EdgesRun, Starts, CallsRun, EntriesIn, SummariesIn, TableOf}
+use Rattle.runs.specs.Worklist.{passed, point, reach, waits, sums, queue, reached, Holding, Grew, Covered, Spread, EdgesRun, Starts, CoveredBut, CallsRun, EntriesIn, SummariesIn, TableOf}
 use Rattle.runs.specs.Worklist.Steps.{covered-kept, summed-kept, summed-i, small-event}
 use Rattle.runs.specs.Worklist.Unions.{passed-e}
 
@@ -35,23 +35,24 @@ module _ (G : Graph) (mon : Monitor) where
       let b = leaves g (a .0) (a .1) (ap (λ (x : Edge). x .from) (a .2) ∙ d) in
       subst (λ (x : Edge). Covered G mon w x p) (a .2) (f (a .0) (b .0) (b .1) (a .1) (subst (λ (x : Edge). T (not ((node G (x .from)) .ret))) (sym (a .2)) n))
 
-  pub calls-run : (t w w′ : List ℕ) (m : ℕ)
-      → ((j : ℕ) → j < length (G .edges) → T (labelled G m j) → T (not ((node G ((edge-at j) .from)) .ret)) → (p : ℕ) → p < 8 → Starts G mon t w (edge-at j) p → Covered G mon w′ (edge-at j) p)
-      → CallsRun G mon t w w′ m
+  pub calls-run : (i : ℕ) (t w w′ : List ℕ) (m : ℕ)
+      → ((j : ℕ) → j < length (G .edges) → T (labelled G m j) → T (not ((node G ((edge-at j) .from)) .ret)) → (p : ℕ) → p < 8 → CoveredBut G mon i w (edge-at j) p → Starts G mon t w (edge-at j) p
+      → Covered G mon w′ (edge-at j) p)
+      → CallsRun G mon i t w w′ m
   unfolding CallsRun
-  calls-run t w w′ m f e k d n p hp =
+  calls-run i t w w′ m f e k d n p hp =
       let a = index-i no-edge (G .edges) e k in
-      subst (λ (x : Edge). Starts G mon t w x p → Covered G mon w′ x p) (a .2)
+      subst (λ (x : Edge). CoveredBut G mon i w x p → Starts G mon t w x p → Covered G mon w′ x p) (a .2)
       (f (a .0) (a .1) (eq-eqb _ _ (ap (λ (x : Edge). x .label) (a .2) ∙ d)) (subst (λ (x : Edge). T (not ((node G (x .from)) .ret))) (sym (a .2)) n) p hp)
 
   pub edges-run-e : (w : List ℕ) (g p : ℕ) → EdgesRun G mon w g p → (e : Edge) → List·Memᴰ e (G .edges) → e .from ≡ g → T (not ((node G (e .from)) .ret)) → Covered G mon w e p
   unfolding EdgesRun
   edges-run-e w g p f = f
 
-  pub calls-run-e : (t w w′ : List ℕ) (m : ℕ) → CallsRun G mon t w w′ m
-      → (e : Edge) → List·Memᴰ e (G .edges) → e .label ≡ m → T (not ((node G (e .from)) .ret)) → (p : ℕ) → p < 8 → Starts G mon t w e p → Covered G mon w′ e p
+  pub calls-run-e : (i : ℕ) (t w w′ : List ℕ) (m : ℕ) → CallsRun G mon i t w w′ m
+      → (e : Edge) → List·Memᴰ e (G .edges) → e .label ≡ m → T (not ((node G (e .from)) .ret)) → (p : ℕ) → p < 8 → CoveredBut G mon i w e p → Starts G mon t w e p → Covered G mon w′ e p
   unfolding CallsRun
-  calls-run-e t w w′ m f = f
+  calls-run-e i t w w′ m f = f
 
   -- ---- a buffer of zeros
 

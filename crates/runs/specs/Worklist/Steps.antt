@@ -4,7 +4,7 @@ use mathlib.Core.Path.{_≡_, refl, sym, ap, ap₂, subst, _∙_}
 use mathlib.Core.Logic.{_⊎_, inl, inr}
 use mathlib.Core.Bool.{Bool, true, false, not, cond, _&&_}
 use mathlib.Core.List.{List, List·Memᴰ}
-use Prim.Native.Nat.{ℕ, zero, suc, _+_, _*_, _/_, _%_, _≤_, _<_}
+use Prim.Native.Nat.{ℕ, zero, suc, _+_, _*_, _/_, _%_, _≤_, _<_, _^_}
 use native.Mathlib.Nat.{eq-or-lt-of-le, le-trans}
 use native.Mathlib.Decide.{ℕ-discrete}
 use native.Mathlib.Omega.{arith}
@@ -20,13 +20,13 @@ use Rattle.files.specs.Cells.Laws.{length-put-cell, byte-outside, cell-same, ce
 use Rattle.files.specs.Graph.{Graph, Edge, size, node, Flow}
 use Rattle.files.specs.Rules.{Monitor, Event, calls, returns-to}
 use Rattle.maximal.specs.Masks.{member}
-use Rattle.maximal.specs.Masks.Laws.{member-or}
+use Rattle.maximal.specs.Masks.Laws.{member-or, member-one}
 use Rattle.runs.specs.Prepared.Files.{tables-kept}
 use Rattle.runs.specs.Runs.{meth, Runs}
 use Rattle.runs.specs.Summary.{Inside, enter, inner, over, Yields}
 use Rattle.runs.specs.Summary.Spots.{inside-now}
-use Rattle.runs.specs.Worklist.{passed, point, reach, waits, sums, queue, reached, after-edge, Queued, Holding, Grew, Covered, Summed, SpreadBut, Spread, EntersIn, SummariesIn}
-use Rattle.runs.specs.Worklist.Unions.{passed-e, passed-i}
+use Rattle.runs.specs.Worklist.{passed, point, reach, waits, sums, queue, reached, after-edge, Queued, Holding, Grew, Covered, Summed, SpreadBut, Spread, EntersIn, SummariesIn, CoveredBut, Links, StartsIn}
+use Rattle.runs.specs.Worklist.Unions.{passed-e, passed-i, union-e, union-i}
 
 module _ (G : Graph) (mon : Monitor) (flow : Flow G) (labels-small : (e : Edge) → List·Memᴰ e (G .edges) → e .label < 9)
     (mon-small : (q : ℕ) (v : Event) → q < 8 → mon q v < 8) where
@@ -67,6 +67,17 @@ module _ (G : Graph) (mon : Monitor) (flow : Flow G) (labels-small : (e : Edge) 
         (ap₂ (λ (c d : ℕ). mon (a .1) (returns-to c d)) (inside-method (e .label) _ (y .at) (a .1) (y .inside)) (flow .one-method e k) ∙ a .6)
         (over (meth G (e .from)) p (e .from) (a .0) e (y .at) (a .1) i runs z (y .inside) (y .returning))
 
+    -- so do the states to which its callee returns, where the call starts in a state of the set
+    pub links-happen : (i set y : ℕ) → 0 < e .label → Links G mon (meth G (e .from)) (e .label) i set y w → StartsIn G mon set w e p → (q : ℕ) → q < 8 → T (member y q)
+        → Inside G mon (meth G (e .to)) p (e .to) q
+    links-happen i set y z link start q hq t =
+        let a = union-e (λ (s : ℕ). 2 ^ mon s (returns-to (e .label) (meth G (e .from)))) (sums w (e .label) i) q hq (subst (λ (c : ℕ). T (member c q)) (link .1) t) in
+        let d = link .0 (start .0) (start .1) (start .3) in
+        let r : mon (a .0) (returns-to (e .label) (meth G (e .from))) ≡ q = eqb→eq _ q (subst T (member-one _ q) (a .3)) in
+        at-target q (called q z hq (subst (λ (c : ℕ). T (member (passed mon (sums w) (meth G (e .from)) (e .label) x) c)) r
+        (passed-i mon small-event (sums w) (meth G (e .from)) (e .label) x (start .0) (a .0) (start .1) (a .1) (start .2)
+        (subst (λ (c : ℕ). T (member (sums w (e .label) c) (a .0))) (sym d) (a .2)))))
+
     -- what the edge makes of the states at its source happens at its target
     pub edge-happens : (q : ℕ) → q < 8 → T (member (after-edge G mon (sums w) e x) q) → Inside G mon (meth G (e .to)) p (e .to) q
     edge-happens q h t = at-target q (go (eqb (e .label) 0) refl t)
@@ -80,7 +91,7 @@ module _ (G : Graph) (mon : Monitor) (flow : Flow G) (labels-small : (e : Edge) 
             pos (suc l) c = omega arith
 
   module _ (tail tail′ : ℕ) (w w′ : List ℕ) (grew : Grew G mon tail tail′ w w′) where
-    sums-same : sums w′ ≡ sums w
+    pub sums-same : sums w′ ≡ sums w
     sums-same = λ i m p. cell-agree w′ w 46612 1 (8 * m + p) (λ q a b. grew .rest-kept q (inr (omega arith))) i
 
     after-same : (e : Edge) (p : ℕ) → reach w′ (e .from) p ≡ reach w (e .from) p → after-edge G mon (sums w′) e (reach w′ (e .from) p) ≡ after-edge G mon (sums w) e (reach w (e .from) p)
@@ -102,6 +113,40 @@ module _ (G : Graph) (mon : Monitor) (flow : Flow G) (labels-small : (e : Edge) 
       unfolding Covered
       covered-kept (inl d) = inl (grew .waits-kept (e .from) p (flow .from-node e k) hp d)
       covered-kept (inr f) = run-covers (λ q h t. grew .reach-kept (e .to) p q (flow .to-node e k) hp (f q h t))
+
+      -- covered but for an entry state, too
+      pub covered-but-kept : (i : ℕ) → CoveredBut G mon i w e p → CoveredBut G mon i w′ e p
+      unfolding CoveredBut
+      covered-but-kept i (inl d) = inl (grew .waits-kept (e .from) p (flow .from-node e k) hp d)
+      covered-but-kept i (inr f) = go (grew .new-waits (e .from) p (flow .from-node e k) hp)
+        where
+          go : (reach w′ (e .from) p ≡ reach w (e .from) p) ⊎ (waits w′ (e .from) p ≡ 1)
+              → (waits w′ (e .from) p ≡ 1)
+              ⊎ ((q s : ℕ) → q < 8 → s < 8 → T (member (reach w′ (e .from) p) q) → (mon q (calls (meth G (e .from)) (e .label)) ≡ i → ⊥)
+              → T (member (sums w′ (e .label) (mon q (calls (meth G (e .from)) (e .label)))) s) → T (member (reach w′ (e .to) p) (mon s (returns-to (e .label) (meth G (e .from))))))
+          go (inl d) = inr (λ q s hq hs t n u. grew .reach-kept (e .to) p _ (flow .to-node e k) hp
+              (f q s hq hs (subst (λ (y : ℕ). T (member y q)) d t) n (subst (λ (v : ℕ → ℕ → ℕ). T (member (v (e .label) (mon q (calls (meth G (e .from)) (e .label)))) s)) sums-same u)))
+          go (inr d) = inl d
+
+      -- a call that was covered but for one entry state is covered once the states to which its callee returns from there are added
+      pub links-cover : (i set y : ℕ) → 0 < e .label → i < 8 → Links G mon (meth G (e .from)) (e .label) i set y w → CoveredBut G mon i w e p → ((q : ℕ) → T (member y q) → T (member (reach w′ (e .to) p) q)) → Covered G mon w′ e p
+      unfolding Covered CoveredBut
+      links-cover i set y z hi link (inl d) add = inl (grew .waits-kept (e .from) p (flow .from-node e k) hp d)
+      links-cover i set y z hi link (inr f) add = run-covers (λ q hq t. from-call q hq (subst (λ (c : ℕ). T (member c q)) (ap (λ (b : Bool). cond b (reach w (e .from) p) (passed mon (sums w) (meth G (e .from)) (e .label) (reach w (e .from) p))) (ne-eqb (e .label) 0 (λ d. omega (arith, d, z)))) t))
+        where
+          from-call : (q : ℕ) → q < 8 → T (member (passed mon (sums w) (meth G (e .from)) (e .label) (reach w (e .from) p)) q) → T (member (reach w′ (e .to) p) q)
+          from-call q hq t = go (passed-e mon small-event (sums w) (meth G (e .from)) (e .label) (reach w (e .from) p) q hq t)
+            where
+              go : (a : ℕ) × (s : ℕ) × (a < 8) × (s < 8) × T (member (reach w (e .from) p) a) × T (member (sums w (e .label) (mon a (calls (meth G (e .from)) (e .label)))) s)
+                  × (mon s (returns-to (e .label) (meth G (e .from))) ≡ q) → T (member (reach w′ (e .to) p) q)
+              go a = on (ℕ-discrete (mon (a .0) (calls (meth G (e .from)) (e .label))) i)
+                where
+                  on : Dec (mon (a .0) (calls (meth G (e .from)) (e .label)) ≡ i) → T (member (reach w′ (e .to) p) q)
+                  on (yes d) = add q (subst (λ (c : ℕ). T (member c q)) (sym (link .1))
+                      (union-i (λ (s : ℕ). 2 ^ mon s (returns-to (e .label) (meth G (e .from)))) (sums w (e .label) i) q hq (a .1) (a .3)
+                      (subst (λ (c : ℕ). T (member (sums w (e .label) c) (a .1))) d (a .5)) (subst T (sym (member-one _ q)) (eq-eqb _ q (a .6)))))
+                  on (no n) = subst (λ (c : ℕ). T (member (reach w′ (e .to) p) c)) (a .6)
+                      (grew .reach-kept (e .to) p _ (flow .to-node e k) hp (f (a .0) (a .1) (a .2) (a .3) (a .4) n (a .5)))
 
     pub summed-kept : (g p : ℕ) → g < size G → p < 8 → Summed G mon w g p → Summed G mon w′ g p
     unfolding Summed
@@ -366,6 +411,26 @@ module _ (G : Graph) (mon : Monitor) (flow : Flow G) (labels-small : (e : Edge) 
       covered-raised e k r hr n (inr f) =
           inr (λ q hq t. subst (λ (y : ℕ). T (member y q)) (sym (reach-kept (e .to) r (flow .to-node e k) hr))
           (f q hq (after-raised e k (reach w (e .from) r) n q hq (subst (λ (y : ℕ). T (member (after-edge G mon (sums raised) e y) q)) (reach-kept (e .from) r (flow .from-node e k) hr) t))))
+
+      -- a call of it that was covered is so but for entry state p
+      pub raised-but : (e : Edge) → List·Memᴰ e (G .edges) → T (not ((node G (e .from)) .ret)) → 0 < e .label → (r : ℕ) → r < 8 → CoveredBut G mon p raised e r
+      unfolding Covered CoveredBut
+      raised-but e k n z r hr = go (due-none e n r (s .edges-done e k n r hr))
+        where
+          go : (waits w (e .from) r ≡ 1) ⊎ ((q : ℕ) → q < 8 → T (member (after-edge G mon (sums w) e (reach w (e .from) r)) q) → T (member (reach w (e .to) r) q))
+              → (waits raised (e .from) r ≡ 1)
+              ⊎ ((q t : ℕ) → q < 8 → t < 8 → T (member (reach raised (e .from) r) q) → (mon q (calls (meth G (e .from)) (e .label)) ≡ p → ⊥)
+              → T (member (sums raised (e .label) (mon q (calls (meth G (e .from)) (e .label)))) t) → T (member (reach raised (e .to) r) (mon t (returns-to (e .label) (meth G (e .from))))))
+          go (inl d) = inl (waits-same (e .from) r (flow .from-node e k) hr ∙ d)
+          go (inr f) = inr (λ q t hq ht u d v.
+              let into = mon q (calls (meth G (e .from)) (e .label)) in
+              let hi : into < 8 = mon-small q _ hq in
+              let same : sums raised (e .label) into ≡ sums w (e .label) into = sum-other (e .label) into (labels-small e k) hi (λ c. d (omega (arith, c, hi, hp))) in
+              subst (λ (y : ℕ). T (member y (mon t (returns-to (e .label) (meth G (e .from)))))) (sym (reach-kept (e .to) r (flow .to-node e k) hr))
+              (f (mon t (returns-to (e .label) (meth G (e .from)))) (mon-small t _ ht)
+              (subst (λ (y : ℕ). T (member y (mon t (returns-to (e .label) (meth G (e .from)))))) (sym (ap (λ (b : Bool). cond b (reach w (e .from) r) (passed mon (sums w) (meth G (e .from)) (e .label) (reach w (e .from) r))) (ne-eqb (e .label) 0 (λ c. omega (arith, c, z)))))
+              (passed-i mon small-event (sums w) (meth G (e .from)) (e .label) (reach w (e .from) r) q t hq ht (subst (λ (y : ℕ). T (member y q)) (reach-kept (e .from) r (flow .from-node e k) hr) u)
+              (subst (λ (c : ℕ). T (member c t)) same v)))))
 
       summed-raised : (h r : ℕ) → h < size G → r < 8 → Summed G mon w h r → Summed G mon raised h r
       unfolding Summed

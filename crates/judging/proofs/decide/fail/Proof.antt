@@ -1,6 +1,7 @@
 use mathlib.Core.Path.{_∙_}
 use native.Mathlib.Omega.{arith}
-use Rattle.judging.proofs.DecideLaws.{cleared-length, no-marks, still-settled, not-satisfied, answers-full, answers-written}
+use Rattle.judging.proofs.ClearedLaws.{cleared-length}
+use Rattle.judging.proofs.DecideLaws.{no-marks, still-settled, not-satisfied, answers-full, answers-written}
 use Rattle.judging.proofs.SheetLaws.{listed-few}
 use borrow.Author.Needs.{needs}
 use Rattle.judging.proofs.decide.fail.Statement.{statement}
@@ -41,7 +42,7 @@ whole-requires c κs = search needs
 
 -- src/decide.rt:48:9
 same-length : tie.Need-same-length
-same-length c = c .before .before .before .before .walk .kept .1 .1 .1 .0 ∙ cleared-length (c .before .before .before .before .before .before .before .before .before .before .before .before .first-edges .last .1 .1 .1 .0) (c .before .before .before .before .before .before .before .before .clear .last .0) (c .before .before .before .before .before .before .before .before .before .before .before .before .first-edges .ensures .room) (c .before .before .before .before .before .before .before .before .clear .ensures) ∙ c .before .before .before .before .before .before .before .before .before .before .before .before .first-edges .kept .1 .1 .1 .0
+same-length c = c .before .before .before .before .walk .kept .1 .1 .1 .0 ∙ cleared-length 32768 1024 (c .before .before .before .before .before .before .before .before .before .before .before .before .first-edges .last .1 .1 .1 .0) (c .before .before .before .before .before .before .before .before .clear .last .0) (c .before .before .before .before .before .before .before .before .clear .ensures) ∙ c .before .before .before .before .before .before .before .before .before .before .before .before .first-edges .kept .1 .1 .1 .0
 
 -- src/decide.rt:48:9
 returns : tie.Need-returns
@@ -57,7 +58,7 @@ same-length-2 c = search needs
 
 -- src/decide.rt:40:1
 same-length-3 : tie.Need-same-length-3
-same-length-3 c = c .before .before .before .before .before .before .before .before .walk .kept .1 .1 .1 .0 ∙ cleared-length (c .before .before .before .before .before .before .before .before .before .before .before .before .before .before .before .before .first-edges .last .1 .1 .1 .0) (c .before .before .before .before .before .before .before .before .before .before .before .before .clear .last .0) (c .before .before .before .before .before .before .before .before .before .before .before .before .before .before .before .before .first-edges .ensures .room) (c .before .before .before .before .before .before .before .before .before .before .before .before .clear .ensures) ∙ c .before .before .before .before .before .before .before .before .before .before .before .before .before .before .before .before .first-edges .kept .1 .1 .1 .0
+same-length-3 c = c .before .before .before .before .before .before .before .before .walk .kept .1 .1 .1 .0 ∙ cleared-length 32768 1024 (c .before .before .before .before .before .before .before .before .before .before .before .before .before .before .before .before .first-edges .last .1 .1 .1 .0) (c .before .before .before .before .before .before .before .before .before .before .before .before .clear .last .0) (c .before .before .before .before .before .before .before .before .before .before .before .before .clear .ensures) ∙ c .before .before .before .before .before .before .before .before .before .before .before .before .before .before .before .before .first-edges .kept .1 .1 .1 .0
 
 -- src/decide.rt:40:1
 returns-2 : tie.Need-returns-2

@@ -1,4 +1,6 @@
-use Rattle.judging.proofs.DecideLaws.{graph-counts, graph-refused, graph-passed}
+use Rattle.files.specs.Outcome.Steps.{answers-file-refused, answers-file-passed}
+use Rattle.files.specs.Refusal.{graph}
+use Rattle.judging.proofs.SimulateLaws.{file-counts}
 use Rattle.judging.specs.Judge.{judged-answer}
 use borrow.Author.Needs.{needs}
 use Rattle.judging.proofs.decide.judge_files.Statement.{statement}
@@ -20,12 +22,12 @@ enum-known-nodes c = search needs
 judge-property-requires : tie.Need-judge-property-requires
 judge-property-requires c κs = let k = c .before .before .before .before .before .before .before .before .before .before in
     let x = c .before .before .before .nodes .given in
-    let n = graph-counts (k .args .limits) (k .args .graph .now) (k .args .property .now) (c .before .before .before .before .before .check-graph .result) (x .0 .0) (x .0 .1 .0) (c .before .before .before .before .before .check-graph .ensures) (x .1) in
+    let n = file-counts (k .args .limits) (k .args .graph .now) 1 (c .before .before .before .before .before .check-graph .result) (x .0 .0) (x .0 .1 .0) (c .before .before .before .before .before .check-graph .ensures) (x .1) in
     (n .0, (n .1, (n .2, (k .pre .0, k .pre .1))))
 
 -- src/decide.rt:94:1
 returns : tie.Need-returns
-returns c = let k = c .before .before .before .before .before .before .before .before in graph-refused (k .args .limits) (k .args .graph .now) (k .args .property .now) (k .args .out .now) (c .before .before .before .check-graph .result) (c .before .refusal .given .0 .0) (c .before .before .before .check-graph .ensures) (c .before .refusal .given .1)
+returns c = let k = c .before .before .before .before .before .before .before .before in answers-file-refused (k .args .limits) 1 graph (k .args .graph .now) _ _ (k .args .out .now) (c .before .before .before .check-graph .result) (c .before .before .before .check-graph .ensures) (c .before .refusal .given .0 .0) (c .before .refusal .given .1)
 
 -- src/decide.rt:94:1
 same-length : tie.Need-same-length
@@ -39,7 +41,7 @@ same-length-2 c = search needs
 returns-2 : tie.Need-returns-2
 returns-2 c = let k = c .before .before .before .before .before .before .before .before .before .before .before .before .before .before .before in
     let x = c .before .before .before .before .before .before .before .before .nodes .given in
-    graph-passed (k .args .limits) (k .args .graph .now) (k .args .property .now) (k .args .out .now) (c .before .before .before .before .before .before .before .before .before .before .check-graph .result) (x .0 .0) (x .0 .1 .0) (c .before .before .before .before .judge-property .last .1 .1 .0) (judged-answer (c .before .before .before .before .judge-property .result)) (c .before .before .before .before .before .before .before .before .before .before .check-graph .ensures) (x .1) (c .before .before .before .before .judge-property .ensures)
+    answers-file-passed (k .args .limits) 1 graph (k .args .graph .now) _ _ (k .args .out .now) (c .before .before .before .before .before .before .before .before .before .before .check-graph .result) (c .before .before .before .before .before .before .before .before .before .before .check-graph .ensures) (x .0 .0) (x .0 .1 .0) (c .before .before .before .before .judge-property .last .1 .1 .0) (judged-answer (c .before .before .before .before .judge-property .result)) (x .1) (c .before .before .before .before .judge-property .ensures)
 
 pub judge-files-spec : {M : Type 1} → statement M
 judge-files-spec =

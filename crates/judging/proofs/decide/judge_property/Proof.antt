@@ -1,4 +1,6 @@
-use Rattle.judging.proofs.DecideLaws.{nodes-first, both-ready, property-refused, property-passed}
+use Rattle.files.specs.Outcome.Steps.{answers-file-refused, answers-file-passed}
+use Rattle.files.specs.Refusal.{property}
+use Rattle.judging.proofs.DecideLaws.{nodes-first, both-ready}
 use Rattle.judging.specs.Judge.{judged-answer}
 use borrow.Author.Needs.{needs}
 use Rattle.judging.proofs.decide.judge_property.Statement.{statement}
@@ -28,7 +30,7 @@ decide-requires c κs = let k = c .before .before .before .before .before .befor
 
 -- src/decide.rt:68:1
 returns : tie.Need-returns
-returns c = let k = c .before .before .before .before .before .before .before .before in property-refused (k .args .limits) (k .args .graph .now) (k .args .property .now) (k .args .out .now) (c .before .before .before .check-property .result) (c .before .refusal .given .0 .0) (c .before .before .before .check-property .ensures) (c .before .refusal .given .1)
+returns c = let k = c .before .before .before .before .before .before .before .before in answers-file-refused (k .args .limits) 2 property (k .args .property .now) _ _ (k .args .out .now) (c .before .before .before .check-property .result) (c .before .before .before .check-property .ensures) (c .before .refusal .given .0 .0) (c .before .refusal .given .1)
 
 -- src/decide.rt:68:1
 same-length : tie.Need-same-length
@@ -42,7 +44,7 @@ same-length-2 c = search needs
 returns-2 : tie.Need-returns-2
 returns-2 c = let k = c .before .before .before .before .before .before .before .before .before .before .before .before .before .before .before in
     let x = c .before .before .before .before .before .before .before .before .rows .given in
-    property-passed (k .args .limits) (k .args .graph .now) (k .args .property .now) (k .args .out .now) (c .before .before .before .before .before .before .before .before .before .before .check-property .result) (x .0 .0) (x .0 .1 .0) (c .before .before .before .before .decide .last .1 .1 .1 .0) (judged-answer (c .before .before .before .before .decide .result)) (c .before .before .before .before .before .before .before .before .before .before .check-property .ensures) (x .1) (c .before .before .before .before .decide .ensures)
+    answers-file-passed (k .args .limits) 2 property (k .args .property .now) _ _ (k .args .out .now) (c .before .before .before .before .before .before .before .before .before .before .check-property .result) (c .before .before .before .before .before .before .before .before .before .before .check-property .ensures) (x .0 .0) (x .0 .1 .0) (c .before .before .before .before .decide .last .1 .1 .1 .0) (judged-answer (c .before .before .before .before .decide .result)) (x .1) (c .before .before .before .before .decide .ensures)
 
 pub judge-property-spec : {M : Type 1} → statement M
 judge-property-spec =

@@ -6,7 +6,8 @@ use lib.Dec.{T}
 use lib.ListN.{length}
 use borrow.Author.Needs.{needs}
 use Rattle.files.specs.Decode.{decode-graph}
-use Rattle.judging.proofs.ImageLaws.{cleared-length, cleared-outside, cleared-imaging, image-chained, image-related, image-unrelated, image-over, image-all}
+use Rattle.judging.proofs.ClearedLaws.{cleared-length, cleared-outside}
+use Rattle.judging.proofs.ImageLaws.{cleared-imaging, image-chained, image-related, image-unrelated, image-over, image-all}
 use Rattle.judging.specs.Refinement.Images.{Imaging}
 use Rattle.judging.proofs.images.images.Statement.{statement}
 use Rattle.judging.proofs.images.images.Tie as tie
@@ -42,7 +43,7 @@ row-empty-requires : tie.Need-row-empty-requires Inv-loop μ-loop
 row-empty-requires c κs =
     let k = c .before .before .before .before .before .before .before .before .before .before .before in
     let l = c .before .before .before .loop in
-    omega (arith, c .before .if1 .taken, k .pre .1 .0, k .pre .0 .few-first-nodes, k .pre .0 .few-second-nodes, l .inv .0, cleared-length (k .args .work .now) (c .before .before .before .before .before .before .clear .last .0) (k .pre .1 .1 .0) (c .before .before .before .before .before .before .clear .ensures), k .pre .1 .1 .0)
+    omega (arith, c .before .if1 .taken, k .pre .1 .0, k .pre .0 .few-first-nodes, k .pre .0 .few-second-nodes, l .inv .0, cleared-length 8192 288 (k .args .work .now) (c .before .before .before .before .before .before .clear .last .0) (c .before .before .before .before .before .before .clear .ensures), k .pre .1 .1 .0)
 
 -- src/images.rt:69:13
 add-h : tie.Need-add-h Inv-loop μ-loop
@@ -72,14 +73,14 @@ has-bit-requires : tie.Need-has-bit-requires Inv-loop μ-loop
 has-bit-requires c κs =
     let k = c .before .before .before .before .before .before .before .before .before .before .before .before .before .before in
     let l = c .before .before .before .before .before .before .loop in
-    omega (arith, c .before .before .before .before .if1 .taken, k .pre .1 .0, k .pre .0 .few-first-nodes, k .pre .0 .few-second-nodes, l .inv .0, cleared-length (k .args .work .now) (c .before .before .before .before .before .before .before .before .before .clear .last .0) (k .pre .1 .1 .0) (c .before .before .before .before .before .before .before .before .before .clear .ensures), k .pre .1 .1 .0)
+    omega (arith, c .before .before .before .before .if1 .taken, k .pre .1 .0, k .pre .0 .few-first-nodes, k .pre .0 .few-second-nodes, l .inv .0, cleared-length 8192 288 (k .args .work .now) (c .before .before .before .before .before .before .before .before .before .clear .last .0) (c .before .before .before .before .before .before .before .before .before .clear .ensures), k .pre .1 .1 .0)
 
 -- src/images.rt:73:13
 image-into-requires : tie.Need-image-into-requires Inv-loop μ-loop
 image-into-requires c κs =
     let k = c .before .before .before .before .before .before .before .before .before .before .before .before .before .before .before .before .before in
     let l = c .before .before .before .before .before .before .before .before .before .loop in
-    (k .pre .0, (c .before .before .before .before .before .before .before .if1 .taken, (omega (arith, l .inv .0, cleared-length (k .args .work .now) (c .before .before .before .before .before .before .before .before .before .before .before .before .clear .last .0) (k .pre .1 .1 .0) (c .before .before .before .before .before .before .before .before .before .before .before .before .clear .ensures), k .pre .1 .1 .0), image-chained (k .args .s) (k .args .first .now) (k .args .second .now) (k .pre .0) (k .args .work .now) _ (l .work) (k .args .v) (l .h) (cleared-outside (k .args .work .now) (c .before .before .before .before .before .before .before .before .before .before .before .before .clear .last .0) (k .pre .1 .1 .0) (c .before .before .before .before .before .before .before .before .before .before .before .before .clear .ensures)) (l .inv .1) (k .pre .1 .1 .1))))
+    (k .pre .0, (c .before .before .before .before .before .before .before .if1 .taken, (omega (arith, l .inv .0, cleared-length 8192 288 (k .args .work .now) (c .before .before .before .before .before .before .before .before .before .before .before .before .clear .last .0) (c .before .before .before .before .before .before .before .before .before .before .before .before .clear .ensures), k .pre .1 .1 .0), image-chained (k .args .s) (k .args .first .now) (k .args .second .now) (k .pre .0) (k .args .work .now) _ (l .work) (k .args .v) (l .h) (cleared-outside 8192 288 (k .args .work .now) (c .before .before .before .before .before .before .before .before .before .before .before .before .clear .last .0) (c .before .before .before .before .before .before .before .before .before .before .before .before .clear .ensures) (omega (arith, k .pre .1 .1 .0))) (l .inv .1) (k .pre .1 .1 .1))))
 
 -- src/images.rt:75:9
 add-h-2 : tie.Need-add-h-2 Inv-loop μ-loop
@@ -107,14 +108,14 @@ loop-again-2 c =
 
 -- src/images.rt:61:1
 same-length : tie.Need-same-length Inv-loop μ-loop
-same-length c = let k = c .before .before .before .before .before .before .before .before .before .before in c .before .before .loop .inv .0 ∙ cleared-length (k .args .work .now) (c .before .before .before .before .before .clear .last .0) (k .pre .1 .1 .0) (c .before .before .before .before .before .clear .ensures)
+same-length c = let k = c .before .before .before .before .before .before .before .before .before .before in c .before .before .loop .inv .0 ∙ cleared-length 8192 288 (k .args .work .now) (c .before .before .before .before .before .clear .last .0) (c .before .before .before .before .before .clear .ensures)
 
 -- src/images.rt:61:1
 returns : tie.Need-returns Inv-loop μ-loop
 returns c =
     let k = c .before .before .before .before .before .before .before .before .before .before in
     let l = c .before .before .loop in
-    image-all (k .args .s) (k .args .first .now) (k .args .second .now) (k .pre .0) (k .args .work .now) _ (l .work) (k .args .v) (l .h) (k .pre .1 .0) (omega (arith, c .if1 .left)) (cleared-outside (k .args .work .now) (c .before .before .before .before .before .clear .last .0) (k .pre .1 .1 .0) (c .before .before .before .before .before .clear .ensures)) (l .inv .1)
+    image-all (k .args .s) (k .args .first .now) (k .args .second .now) (k .pre .0) (k .args .work .now) _ (l .work) (k .args .v) (l .h) (k .pre .1 .0) (omega (arith, c .if1 .left)) (cleared-outside 8192 288 (k .args .work .now) (c .before .before .before .before .before .clear .last .0) (c .before .before .before .before .before .clear .ensures) (omega (arith, k .pre .1 .1 .0))) (l .inv .1)
 
 pub images-spec : {M : Type 1} → statement M
 images-spec =

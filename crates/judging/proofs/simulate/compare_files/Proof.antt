@@ -1,4 +1,6 @@
-use Rattle.judging.proofs.SimulateLaws.{file-counts, first-refused, first-passed}
+use Rattle.files.specs.Outcome.Steps.{answers-file-refused, answers-file-passed}
+use Rattle.files.specs.Refusal.{graph}
+use Rattle.judging.proofs.SimulateLaws.{file-counts}
 use Rattle.judging.specs.Compare.{compared-answer}
 use borrow.Author.Needs.{needs}
 use Rattle.judging.proofs.simulate.compare_files.Statement.{statement}
@@ -25,7 +27,7 @@ compare-second-requires c κs = let k = c .before .before .before .before .befor
 
 -- src/simulate.rt:101:1
 returns : tie.Need-returns
-returns c = let k = c .before .before .before .before .before .before .before .before in first-refused (k .args .limits) (k .args .first .now) (k .args .second .now) (k .args .out .now) (c .before .before .before .check-graph .result) (c .before .refusal .given .0 .0) (c .before .before .before .check-graph .ensures) (c .before .refusal .given .1)
+returns c = let k = c .before .before .before .before .before .before .before .before in answers-file-refused (k .args .limits) 1 graph (k .args .first .now) _ _ (k .args .out .now) (c .before .before .before .check-graph .result) (c .before .before .before .check-graph .ensures) (c .before .refusal .given .0 .0) (c .before .refusal .given .1)
 
 -- src/simulate.rt:101:1
 same-length : tie.Need-same-length
@@ -39,7 +41,7 @@ same-length-2 c = search needs
 returns-2 : tie.Need-returns-2
 returns-2 c = let k = c .before .before .before .before .before .before .before .before .before .before .before .before .before .before .before in
     let x = c .before .before .before .before .before .before .before .before .nodes .given in
-    first-passed (k .args .limits) (k .args .first .now) (k .args .second .now) (k .args .out .now) (c .before .before .before .before .before .before .before .before .before .before .check-graph .result) (x .0 .0) (x .0 .1 .0) (c .before .before .before .before .compare-second .last .1 .1 .0) (compared-answer (c .before .before .before .before .compare-second .result)) (c .before .before .before .before .before .before .before .before .before .before .check-graph .ensures) (x .1) (c .before .before .before .before .compare-second .ensures)
+    answers-file-passed (k .args .limits) 1 graph (k .args .first .now) _ _ (k .args .out .now) (c .before .before .before .before .before .before .before .before .before .before .check-graph .result) (c .before .before .before .before .before .before .before .before .before .before .check-graph .ensures) (x .0 .0) (x .0 .1 .0) (c .before .before .before .before .compare-second .last .1 .1 .0) (compared-answer (c .before .before .before .before .compare-second .result)) (x .1) (c .before .before .before .before .compare-second .ensures)
 
 pub compare-files-spec : {M : Type 1} → statement M
 compare-files-spec =

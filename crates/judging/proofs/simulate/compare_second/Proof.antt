@@ -1,4 +1,6 @@
-use Rattle.judging.proofs.SimulateLaws.{file-counts, both-sizes, second-refused, second-passed}
+use Rattle.files.specs.Outcome.Steps.{answers-file-refused, answers-file-passed}
+use Rattle.files.specs.Refusal.{graph}
+use Rattle.judging.proofs.SimulateLaws.{file-counts, both-sizes}
 use Rattle.judging.proofs.DecideLaws.{nodes-first}
 use Rattle.judging.specs.Compare.{compared-answer}
 use borrow.Author.Needs.{needs}
@@ -34,7 +36,7 @@ contrast-requires c κs = let k = c .before .before .before .before .before .bef
 
 -- src/simulate.rt:79:1
 returns : tie.Need-returns
-returns c = let k = c .before .before .before .before .before .before .before .before in second-refused (k .args .limits) (k .args .first .now) (k .args .second .now) (k .args .out .now) (c .before .before .before .check-graph .result) (c .before .refusal .given .0 .0) (c .before .before .before .check-graph .ensures) (c .before .refusal .given .1)
+returns c = let k = c .before .before .before .before .before .before .before .before in answers-file-refused (k .args .limits) 2 graph (k .args .second .now) _ _ (k .args .out .now) (c .before .before .before .check-graph .result) (c .before .before .before .check-graph .ensures) (c .before .refusal .given .0 .0) (c .before .refusal .given .1)
 
 -- src/simulate.rt:79:1
 same-length : tie.Need-same-length
@@ -48,7 +50,7 @@ same-length-2 c = search needs
 returns-2 : tie.Need-returns-2
 returns-2 c = let k = c .before .before .before .before .before .before .before .before .before .before .before .before .before .before .before in
     let x = c .before .before .before .before .before .before .before .before .nodes2 .given in
-    second-passed (k .args .limits) (k .args .first .now) (k .args .second .now) (k .args .out .now) (c .before .before .before .before .before .before .before .before .before .before .check-graph .result) (x .0 .0) (x .0 .1 .0) (c .before .before .before .before .contrast .last .1 .1 .1 .0) (compared-answer (c .before .before .before .before .contrast .result)) (c .before .before .before .before .before .before .before .before .before .before .check-graph .ensures) (x .1) (c .before .before .before .before .contrast .ensures)
+    answers-file-passed (k .args .limits) 2 graph (k .args .second .now) _ _ (k .args .out .now) (c .before .before .before .before .before .before .before .before .before .before .check-graph .result) (c .before .before .before .before .before .before .before .before .before .before .check-graph .ensures) (x .0 .0) (x .0 .1 .0) (c .before .before .before .before .contrast .last .1 .1 .1 .0) (compared-answer (c .before .before .before .before .contrast .result)) (x .1) (c .before .before .before .before .contrast .ensures)
 
 pub compare-second-spec : {M : Type 1} → statement M
 compare-second-spec =

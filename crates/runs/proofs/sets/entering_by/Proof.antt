@@ -1,21 +1,24 @@
-use mathlib.Core.Path.{refl}
-use Prim.Native.Nat.{_-_, _≤_}
+use mathlib.Core.Path.{_≡_, refl, ap, _∙_}
+use Prim.Native.Nat.{ℕ, suc, _-_, _≤_, _<_}
+use native.Mathlib.Numerals.{add-one}
+use lib.Dec.{eqb}
+use Rattle.maximal.specs.Masks.{member}
 use native.Mathlib.Omega.{arith}
 use Rattle.files.specs.Decode.{decode-rules}
-use Rattle.files.specs.Rules.{watch}
-use Rattle.runs.proofs.SummaryLaws.{EnteringTo, entering-more}
+use Rattle.files.specs.Rules.{watch, calls}
+use Rattle.runs.proofs.SummaryLaws.{Placed, placed-more}
 use Rattle.runs.proofs.sets.entering_by.Statement.{statement}
 use Rattle.runs.proofs.sets.entering_by.Tie as tie
 
 abbrev Inv-loop : tie.InvT-loop
-Inv-loop rules work m p t₀ a₀ t a = (a ≤ 8) × EnteringTo (watch (decode-rules rules)) m p t a
+Inv-loop rules work m p t₀ a₀ t a = (a ≤ 8) × Placed (λ b v. (q : ℕ) → q < 8 → member v q ≡ eqb (watch (decode-rules rules) q (calls (suc b) m)) p) t a
 
 abbrev μ-loop : tie.MeasureT-loop
 μ-loop rules work m p t₀ a₀ t a = 8 - a
 
 -- src/summaries.rt:192:5
 loop-holds : tie.Need-loop-holds Inv-loop μ-loop
-loop-holds c = (omega arith, (refl, λ b q h. absurd (omega (arith, h))))
+loop-holds c = (omega arith, (refl, λ b h. absurd (omega (arith, h))))
 
 -- src/summaries.rt:193:47
 add-entering : tie.Need-add-entering Inv-loop μ-loop
@@ -45,12 +48,15 @@ loop-less c = omega (arith, c .before .loop-test .taken)
 loop-again : tie.Need-loop-again Inv-loop μ-loop
 loop-again c =
     let a = c .before .before .before .before .before .args in
-    let l = c .before .before .loop in
-    (omega (arith, c .before .loop-test .taken), entering-more (watch (decode-rules (a .rules .now))) (a .m) (a .p) (l .t) (l .a) (c .entering .result) (c .before .loop-test .taken) (c .entering .ensures) (l .inv .1))
+    let l = c .before .before .loop in (
+      omega (arith, c .before .loop-test .taken),
+      placed-more (λ b v. (q : ℕ) → q < 8 → member v q ≡ eqb (watch (decode-rules (a .rules .now)) q (calls (suc b) (a .m))) (a .p)) (l .t) (l .a) (c .entering .result) (c .before .loop-test .taken)
+          (λ q h. c .entering .ensures q h ∙ ap (λ (k : ℕ). eqb (watch (decode-rules (a .rules .now)) q (calls k (a .m))) (a .p)) (add-one (l .a))) (l .inv .1),
+    )
 
 -- src/summaries.rt:186:1
 returns : tie.Need-returns Inv-loop μ-loop
-returns c = λ b q hb hq. c .before .loop .inv .1 .1 b q (omega (arith, c .loop-test .left, hb)) hq
+returns c = λ b q hb hq. c .before .loop .inv .1 .1 b (omega (arith, c .loop-test .left, hb)) q hq
 
 pub entering-by-spec : {M : Type 1} → statement M
 entering-by-spec =

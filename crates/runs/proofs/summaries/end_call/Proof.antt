@@ -1,6 +1,10 @@
-use mathlib.Core.Path.{refl}
+use mathlib.Core.Path.{refl, sym, ap, _∙_}
+use Prim.Native.Nat.{ℕ, suc, _^_}
+use Rattle.files.specs.Decode.{decode-rules}
+use Rattle.files.specs.Rules.{watch, returns-to}
+use Rattle.runs.specs.Worklist.{union}
 use native.Mathlib.Omega.{arith}
-use Rattle.runs.proofs.SummaryLaws.{method-fits, method-small, sum-same, sum-holds, sum-spreads}
+use Rattle.runs.proofs.SummaryLaws.{method-fits, sum-now, method-small, sum-same, sum-holds, sum-spreads}
 use borrow.Author.Needs.{needs}
 use Rattle.runs.proofs.summaries.end_call.Statement.{statement}
 use Rattle.runs.proofs.summaries.end_call.Tie as tie
@@ -92,18 +96,47 @@ entering-by-requires c κs =
     (omega (arith, get8 .ok)) (omega (arith, get82 .ok)) (get8 .ensures) (get82 .ensures) (put8 .last .0) (put8 .ensures) (k .pre .1 .1 .1 .1 .1) in
     (h .tables .steps, (h .room, method-small (a .s) (a .graph .now) (a .rules .now) (k .pre .0) (a .g) (a .m) (k .pre .1 .0) (k .pre .1 .1 .1 .0)))
 
+cast-returning-by : tie.Need-cast-returning-by
+cast-returning-by c =
+    let k = c .before .before .before .before .before .before .before .before .before .before .before .before .before .before .before in
+    let a = k .args in
+    omega (arith, (method-small (a .s) (a .graph .now) (a .rules .now) (k .pre .0) (a .g) (a .m) (k .pre .1 .0) (k .pre .1 .1 .1 .0)) .1)
+
+returning-by-requires : tie.Need-returning-by-requires
+returning-by-requires c κs =
+    let get8 = c .before .before .before .before .before .before .before .before .before .before .get8 in
+    let get82 = c .before .before .before .before .before .before .before .before .get82 in
+    let put8 = c .before .before .before .before .before .put8 in
+    let k = c .before .before .before .before .before .before .before .before .before .before .before .before .before .before .before in
+    let a = k .args in
+    let h = sum-holds (a .s) (a .graph .now) (a .rules .now) (k .pre .0) (a .g) (a .p) (a .m) (k .pre .1 .0) (k .pre .1 .1 .0) (k .pre .1 .1 .1 .0) (k .pre .1 .1 .1 .1 .0) (a .tail) (a .work .now) (get8 .result) (get82 .result)
+    (omega (arith, get8 .ok)) (omega (arith, get82 .ok)) (get8 .ensures) (get82 .ensures) (put8 .last .0) (put8 .ensures) (k .pre .1 .1 .1 .1 .1) in
+    (k .pre .0, (h .tables .steps, (h .room, method-small (a .s) (a .graph .now) (a .rules .now) (k .pre .0) (a .g) (a .m) (k .pre .1 .0) (k .pre .1 .1 .1 .0))))
+
 run-calls-requires : tie.Need-run-calls-requires
 run-calls-requires c κs =
-    let get8 = c .before .before .before .before .before .before .before .before .before .before .before .get8 in
-    let get82 = c .before .before .before .before .before .before .before .before .before .get82 in
-    let put8 = c .before .before .before .before .before .before .put8 in
-    let k = c .before .before .before .before .before .before .before .before .before .before .before .before .before .before .before .before in
+    let get8 = c .before .before .before .before .before .before .before .before .before .before .before .before .before .before .get8 in
+    let get82 = c .before .before .before .before .before .before .before .before .before .before .before .before .get82 in
+    let put8 = c .before .before .before .before .before .before .before .before .before .put8 in
+    let k = c .before .before .before .before .before .before .before .before .before .before .before .before .before .before .before .before .before .before .before in
     let a = k .args in (
       k .pre .0,
       (
-        method-fits (a .s) (a .graph .now) (a .rules .now) (k .pre .0) (a .g) (a .m) (k .pre .1 .0) (k .pre .1 .1 .1 .0),
-        sum-holds (a .s) (a .graph .now) (a .rules .now) (k .pre .0) (a .g) (a .p) (a .m) (k .pre .1 .0) (k .pre .1 .1 .0) (k .pre .1 .1 .1 .0) (k .pre .1 .1 .1 .1 .0) (a .tail) (a .work .now) (get8 .result) (get82 .result)
-            (omega (arith, get8 .ok)) (omega (arith, get82 .ok)) (get8 .ensures) (get82 .ensures) (put8 .last .0) (put8 .ensures) (k .pre .1 .1 .1 .1 .1),
+        (method-small (a .s) (a .graph .now) (a .rules .now) (k .pre .0) (a .g) (a .m) (k .pre .1 .0) (k .pre .1 .1 .1 .0)) .0,
+        (
+          method-fits (a .s) (a .graph .now) (a .rules .now) (k .pre .0) (a .g) (a .m) (k .pre .1 .0) (k .pre .1 .1 .1 .0),
+          (
+            sum-holds (a .s) (a .graph .now) (a .rules .now) (k .pre .0) (a .g) (a .p) (a .m) (k .pre .1 .0) (k .pre .1 .1 .0) (k .pre .1 .1 .1 .0) (k .pre .1 .1 .1 .1 .0) (a .tail) (a .work .now) (get8 .result) (get82 .result)
+                (omega (arith, get8 .ok)) (omega (arith, get82 .ok)) (get8 .ensures) (get82 .ensures) (put8 .last .0) (put8 .ensures) (k .pre .1 .1 .1 .1 .1),
+            (
+              a .p,
+              k .pre .1 .1 .0,
+              c .before .before .before .before .before .entering-by .ensures,
+              λ b hb. c .before .before .before .returning-by .ensures b hb ∙ ap (union (λ (n : ℕ). 2 ^ watch (decode-rules (a .rules .now)) n (returns-to (a .m) (suc b)))) (sym (sum-now (a .s) (a .graph .now) (a .rules .now) (k .pre .0) (a .g) (a .p) (a .m) (k .pre .1 .0) (k .pre .1 .1 .0) (k .pre .1 .1 .1 .0) (k .pre .1 .1 .1 .1 .0) (a .tail) (a .work .now) (get8 .result) (get82 .result)
+                  (omega (arith, get8 .ok)) (omega (arith, get82 .ok)) (get8 .ensures) (get82 .ensures) (put8 .last .0) (put8 .ensures) (k .pre .1 .1 .1 .1 .1 .2 .holding .room))),
+            ),
+          ),
+        ),
       ),
     )
 
@@ -112,16 +145,16 @@ same-length-2 c = search needs
 
 returns-2 : tie.Need-returns-2
 returns-2 c =
-    let get8 = c .before .before .before .before .before .before .before .before .before .before .before .before .before .before .get8 in
-    let get82 = c .before .before .before .before .before .before .before .before .before .before .before .before .get82 in
-    let put8 = c .before .before .before .before .before .before .before .before .before .put8 in
-    let k = c .before .before .before .before .before .before .before .before .before .before .before .before .before .before .before .before .before .before .before in
+    let get8 = c .before .before .before .before .before .before .before .before .before .before .before .before .before .before .before .before .before .get8 in
+    let get82 = c .before .before .before .before .before .before .before .before .before .before .before .before .before .before .before .get82 in
+    let put8 = c .before .before .before .before .before .before .before .before .before .before .before .before .put8 in
+    let k = c .before .before .before .before .before .before .before .before .before .before .before .before .before .before .before .before .before .before .before .before .before .before in
     let a = k .args in
     let x = c .before .before .run-calls in
-    let y = c .before .before .before .before .before .entering-by in
-    sum-spreads (a .s) (a .graph .now) (a .rules .now) (k .pre .0) (a .g) (a .p) (a .m) (k .pre .1 .0) (k .pre .1 .1 .0) (k .pre .1 .1 .1 .0) (k .pre .1 .1 .1 .1 .0) (a .tail) (a .work .now)
-    (get8 .result) (get82 .result) (omega (arith, get8 .ok)) (omega (arith, get82 .ok)) (get8 .ensures) (get82 .ensures) (put8 .last .0) (put8 .ensures) (y .result) (y .ensures) (x .result)
-    (x .last .1 .1 .1 .1 .0) (x .ensures .0) (x .ensures .1)
+    let y = c .before .before .before .before .before .before .before .before .entering-by in
+    let z = c .before .before .before .before .before .before .returning-by in
+    sum-spreads (a .s) (a .graph .now) (a .rules .now) (k .pre .0) (a .g) (a .p) (a .m) (k .pre .1 .0) (k .pre .1 .1 .0) (k .pre .1 .1 .1 .0) (k .pre .1 .1 .1 .1 .0) (a .tail) (a .work .now) (get8 .result) (get82 .result)
+    (omega (arith, get8 .ok)) (omega (arith, get82 .ok)) (get8 .ensures) (get82 .ensures) (put8 .last .0) (put8 .ensures) (y .result) (z .result) (y .ensures) (z .ensures) (x .result) (x .last .1 .1 .1 .1 .1 .0) (x .ensures .0) (x .ensures .1)
 
 pub end-call-spec : {M : Type 1} → statement M
 end-call-spec =
@@ -140,6 +173,8 @@ end-call-spec =
     put8-requires
     cast-entering-by
     entering-by-requires
+    cast-returning-by
+    returning-by-requires
     run-calls-requires
     same-length-2
     returns-2)

@@ -1,8 +1,10 @@
 use mathlib.Core.Path.{_≡_, refl, _∙_}
-use Prim.Native.Nat.{_-_}
+use Prim.Native.Nat.{_-_, _<_}
 use native.Mathlib.Omega.{arith}
-use lib.ListN.{length}
+use lib.Dec.{eqb→eq}
+use lib.ListN.{length, getD}
 use Rattle.files.specs.Decode.{decode-graph, decode-rules}
+use Rattle.files.specs.Graph.{no-edge}
 use Rattle.files.specs.Rules.{watch}
 use Rattle.judging.proofs.LevelLaws.{Walk, walk-start, walk-item, walk-turn, walk-less}
 use Rattle.runs.specs.Prepared.{labelled}
@@ -10,22 +12,22 @@ use Rattle.runs.specs.Prepared.Files.{edges-is, edges-fit}
 use Rattle.runs.specs.Worklist.{Grew}
 use Rattle.runs.specs.Worklist.Growth.{grew-none, grew-on}
 use Rattle.runs.specs.Worklist.Loops.{calls-run}
-use Rattle.runs.proofs.SummaryLaws.{RanAll, ran-all-kept, starts-kept}
+use Rattle.runs.proofs.SummaryLaws.{RanAll, ran-all-kept, links-kept, links-of, ran-from}
 use borrow.Author.Needs.{needs}
 use Rattle.runs.proofs.summaries.run_calls.Statement.{statement}
 use Rattle.runs.proofs.summaries.run_calls.Tie as tie
 
 abbrev Inv-loop : tie.InvT-loop
-Inv-loop graph rules s callers work₀ tail m at₀ end₀ work at end =
+Inv-loop graph rules s callers ends work₀ tail m at₀ end₀ work at end =
     (length work ≡ length work₀) × (Grew (decode-graph graph) (watch (decode-rules rules)) tail end work₀ work)
-    × (Walk (labelled (decode-graph graph) m) (length ((decode-graph graph) .edges)) at (RanAll (decode-graph graph) (watch (decode-rules rules)) callers work₀ work))
+    × (Walk (labelled (decode-graph graph) m) (length ((decode-graph graph) .edges)) at (RanAll (decode-graph graph) (watch (decode-rules rules)) callers ends work₀ work))
 
 abbrev μ-loop : tie.MeasureT-loop
-μ-loop graph rules s callers work₀ tail m at₀ end₀ work at end = at
+μ-loop graph rules s callers ends work₀ tail m at₀ end₀ work at end = at
 
 -- src/summaries.rt:162:18
 get16-requires : tie.Need-get16-requires Inv-loop μ-loop
-get16-requires c κs = let k = c .before .before .before .before in omega (arith, k .pre .1 .0, k .pre .1 .1 .room)
+get16-requires c κs = let k = c .before .before .before .before in omega (arith, k .pre .1 .1 .0, k .pre .1 .1 .1 .0 .room)
 
 -- src/summaries.rt:162:18
 cast-at : tie.Need-cast-at Inv-loop μ-loop
@@ -37,9 +39,9 @@ loop-holds c =
     let k = c .before .before .before .before .before in
     let a = k .args in (
       refl,
-      grew-none (decode-graph (a .graph .now)) (watch (decode-rules (a .rules .now))) (a .tail) (a .work .now) (k .pre .1 .1),
+      grew-none (decode-graph (a .graph .now)) (watch (decode-rules (a .rules .now))) (a .tail) (a .work .now) (k .pre .1 .1 .1 .0),
       walk-start (labelled (decode-graph (a .graph .now)) (a .m)) (length ((decode-graph (a .graph .now)) .edges)) (c .get16 .result)
-          (RanAll (decode-graph (a .graph .now)) (watch (decode-rules (a .rules .now))) (a .callers .now) (a .work .now) (a .work .now)) (c .get16 .ensures ∙ k .pre .1 .1 .tables .by-label .heads-are (a .m) (k .pre .1 .0)),
+          (RanAll (decode-graph (a .graph .now)) (watch (decode-rules (a .rules .now))) (a .callers .now) (a .ends .now) (a .work .now) (a .work .now)) (c .get16 .ensures ∙ k .pre .1 .1 .1 .0 .tables .by-label .heads-are (a .m) (k .pre .1 .1 .0)),
     )
 
 -- src/summaries.rt:165:17
@@ -54,8 +56,27 @@ run-call-requires c κs =
     let a = k .args in
     let l = c .before .before .loop in
     let i = walk-item (labelled (decode-graph (a .graph .now)) (a .m)) (length ((decode-graph (a .graph .now)) .edges)) (l .at)
-    (RanAll (decode-graph (a .graph .now)) (watch (decode-rules (a .rules .now))) (a .callers .now) (a .work .now) (l .work)) (l .inv .2) (loop-test .taken) in
-    (k .pre .0, (omega (arith, i .1, edges-is (a .s) (a .graph .now) (a .rules .now) (k .pre .0)), l .inv .1 .holding))
+    (RanAll (decode-graph (a .graph .now)) (watch (decode-rules (a .rules .now))) (a .callers .now) (a .ends .now) (a .work .now) (l .work)) (l .inv .2) (loop-test .taken) in
+    let hj : l .at - 1 < a .s .edges = omega (arith, i .1, edges-is (a .s) (a .graph .now) (a .rules .now) (k .pre .0)) in
+    let d : (getD ((decode-graph (a .graph .now)) .edges) (l .at - 1) no-edge) .label ≡ a .m = eqb→eq _ (a .m) (i .0) in
+    let z = k .pre .1 .1 .1 .1 in (
+      k .pre .0,
+      (
+        hj,
+        (
+          omega (arith, d, k .pre .1 .0),
+          (
+            l .inv .1 .holding,
+            (
+              z .0,
+              z .1,
+              links-kept (a .s) (a .graph .now) (a .rules .now) (k .pre .0) (a .tail) (l .end) (a .work .now) (l .work) (l .inv .1) (l .at - 1) hj _ _ (z .0) _ _
+                  (links-of (a .s) (a .graph .now) (a .rules .now) (k .pre .0) (l .at - 1) hj (a .m) (z .0) (a .callers .now) (a .ends .now) (a .work .now) d (z .2) (z .3)),
+            ),
+          ),
+        ),
+      ),
+    )
 
 -- src/summaries.rt:167:14
 get16-requires-2 : tie.Need-get16-requires-2 Inv-loop μ-loop
@@ -66,7 +87,7 @@ get16-requires-2 c κs =
     let a = k .args in
     let l = c .before .before .before .before .before .before .loop in
     let i = walk-item (labelled (decode-graph (a .graph .now)) (a .m)) (length ((decode-graph (a .graph .now)) .edges)) (l .at)
-    (RanAll (decode-graph (a .graph .now)) (watch (decode-rules (a .rules .now))) (a .callers .now) (a .work .now) (l .work)) (l .inv .2) (loop-test .taken) in
+    (RanAll (decode-graph (a .graph .now)) (watch (decode-rules (a .rules .now))) (a .callers .now) (a .ends .now) (a .work .now) (l .work)) (l .inv .2) (loop-test .taken) in
     omega (arith, i .1, edges-fit (a .s) (a .graph .now) (a .rules .now) (k .pre .0), run-call .ensures .0 .holding .room)
 
 -- src/summaries.rt:167:14
@@ -83,9 +104,9 @@ loop-less c =
     let l = c .before .before .before .before .before .before .before .loop in
     let t = loop-test .taken in
     let i = walk-item (labelled (decode-graph (a .graph .now)) (a .m)) (length ((decode-graph (a .graph .now)) .edges)) (l .at)
-    (RanAll (decode-graph (a .graph .now)) (watch (decode-rules (a .rules .now))) (a .callers .now) (a .work .now) (l .work)) (l .inv .2) (loop-test .taken) in
+    (RanAll (decode-graph (a .graph .now)) (watch (decode-rules (a .rules .now))) (a .callers .now) (a .ends .now) (a .work .now) (l .work)) (l .inv .2) (loop-test .taken) in
     walk-less (labelled (decode-graph (a .graph .now)) (a .m)) (l .at) (c .get162 .result) t
-    (c .get162 .ensures ∙ run-call .ensures .0 .holding .tables .by-label .nexts-are (a .m) (l .at - 1) (k .pre .1 .0) (i .1) (i .0))
+    (c .get162 .ensures ∙ run-call .ensures .0 .holding .tables .by-label .nexts-are (a .m) (l .at - 1) (k .pre .1 .1 .0) (i .1) (i .0))
 
 -- src/summaries.rt:164:5
 loop-again : tie.Need-loop-again Inv-loop μ-loop
@@ -97,17 +118,16 @@ loop-again c =
     let x = c .before .before .before .before .run-call in
     let t = loop-test .taken in
     let i = walk-item (labelled (decode-graph (a .graph .now)) (a .m)) (length ((decode-graph (a .graph .now)) .edges)) (l .at)
-    (RanAll (decode-graph (a .graph .now)) (watch (decode-rules (a .rules .now))) (a .callers .now) (a .work .now) (l .work)) (l .inv .2) (loop-test .taken) in
-    let n = c .get162 .ensures ∙ x .ensures .0 .holding .tables .by-label .nexts-are (a .m) (l .at - 1) (k .pre .1 .0) (i .1) (i .0) in (
-      x .kept .1 .1 .1 .1 .0 ∙ l .inv .0,
-      grew-on (decode-graph (a .graph .now)) (watch (decode-rules (a .rules .now))) (a .tail) (l .end) (x .result) (a .work .now) (l .work) (x .last .1 .1 .1 .1 .0) (l .inv .1) (x .ensures .0),
+    (RanAll (decode-graph (a .graph .now)) (watch (decode-rules (a .rules .now))) (a .callers .now) (a .ends .now) (a .work .now) (l .work)) (l .inv .2) (loop-test .taken) in
+    let n = c .get162 .ensures ∙ x .ensures .0 .holding .tables .by-label .nexts-are (a .m) (l .at - 1) (k .pre .1 .1 .0) (i .1) (i .0) in (
+      x .kept .1 .1 .1 .1 .1 .0 ∙ l .inv .0,
+      grew-on (decode-graph (a .graph .now)) (watch (decode-rules (a .rules .now))) (a .tail) (l .end) (x .result) (a .work .now) (l .work) (x .last .1 .1 .1 .1 .1 .0) (l .inv .1) (x .ensures .0),
       walk-turn (labelled (decode-graph (a .graph .now)) (a .m)) (length ((decode-graph (a .graph .now)) .edges)) (l .at) (c .get162 .result)
-          (RanAll (decode-graph (a .graph .now)) (watch (decode-rules (a .rules .now))) (a .callers .now) (a .work .now) (l .work)) (RanAll (decode-graph (a .graph .now)) (watch (decode-rules (a .rules .now))) (a .callers .now) (a .work .now) (x .last .1 .1 .1 .1 .0))
+          (RanAll (decode-graph (a .graph .now)) (watch (decode-rules (a .rules .now))) (a .callers .now) (a .ends .now) (a .work .now) (l .work)) (RanAll (decode-graph (a .graph .now)) (watch (decode-rules (a .rules .now))) (a .callers .now) (a .ends .now) (a .work .now) (x .last .1 .1 .1 .1 .1 .0))
           (l .inv .2) t n
-          (λ j h. ran-all-kept (a .s) (a .graph .now) (a .rules .now) (k .pre .0) (l .end) (x .result) (l .work) (x .last .1 .1 .1 .1 .0) (x .ensures .0) j
-          (omega (arith, h, edges-is (a .s) (a .graph .now) (a .rules .now) (k .pre .0))) (a .callers .now) (a .work .now)) (λ u p hp y. x .ensures .1 u p hp
-          (starts-kept (a .s) (a .graph .now) (a .rules .now) (k .pre .0) (a .tail) (l .end) (a .work .now) (l .work) (l .inv .1) (l .at - 1)
-          (omega (arith, i .1, edges-is (a .s) (a .graph .now) (a .rules .now) (k .pre .0))) _ p hp y)),
+          (λ j h. ran-all-kept (a .s) (a .graph .now) (a .rules .now) (k .pre .0) (l .end) (x .result) (l .work) (x .last .1 .1 .1 .1 .1 .0) (x .ensures .0) j
+          (omega (arith, h, edges-is (a .s) (a .graph .now) (a .rules .now) (k .pre .0))) (a .callers .now) (a .ends .now) (a .work .now))
+          (λ u p hp. ran-from (a .s) (a .graph .now) (a .rules .now) (k .pre .0) (a .tail) (l .end) (a .work .now) (l .work) (l .inv .1) (l .at - 1) (omega (arith, i .1, edges-is (a .s) (a .graph .now) (a .rules .now) (k .pre .0))) _ _ p (x .last .1 .1 .1 .1 .1 .0) hp (x .ensures .1 u p hp)),
     )
 
 -- src/summaries.rt:158:1
@@ -119,8 +139,12 @@ returns : tie.Need-returns Inv-loop μ-loop
 returns c =
     let k = c .before .before .before .before .before .before .before in
     let a = k .args in
-    let l = c .before .loop in
-    (l .inv .1, calls-run (decode-graph (a .graph .now)) (watch (decode-rules (a .rules .now))) (a .callers .now) (a .work .now) (l .work) (a .m) (λ j h t. l .inv .2 .3 j h t (omega (arith, c .loop-test .left))))
+    let l = c .before .loop in (
+      l .inv .1,
+      λ i hi into back. calls-run (decode-graph (a .graph .now)) (watch (decode-rules (a .rules .now))) i (a .callers .now) (a .work .now) (l .work) (a .m)
+          (λ j h t n p hp. l .inv .2 .3 j h t (omega (arith, c .loop-test .left)) n p hp i hi
+          (links-of (a .s) (a .graph .now) (a .rules .now) (k .pre .0) j (omega (arith, h, edges-is (a .s) (a .graph .now) (a .rules .now) (k .pre .0))) (a .m) i (a .callers .now) (a .ends .now) (a .work .now) (eqb→eq _ (a .m) t) into back)),
+    )
 
 pub run-calls-spec : {M : Type 1} → statement M
 run-calls-spec =
