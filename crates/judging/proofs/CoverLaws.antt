@@ -14,7 +14,7 @@ use Rattle.files.specs.Line.{relation-line}
 use Rattle.judging.specs.declared.sizes.Sizes.{Sizes}
 use Rattle.judging.specs.Refinement.{Both, Settled}
 use Rattle.judging.specs.Refinement.Cover.{settled-e, lines-of, lines-more, lines-all}
-use Rattle.judging.specs.Refinement.Lost.{first-size, second-size}
+use Rattle.judging.specs.Refinement.Files.{first-size, second-size}
 use Rattle.judging.specs.Simulation.{covered, uncovered, relation-bytes}
 use Rattle.judging.specs.Simulation.Laws.{meets, misses, covered-at, covered-none, uncovered-at, uncovered-none}
 use Rattle.judging.proofs.CauseLaws.{none-on}
@@ -40,13 +40,13 @@ module _ (s : Sizes) (f g : List ℕ) (both : Both s f g) where
     -- ---- which entries meet a node
 
     module _ (v : ℕ) (is-node : v < s .nodes) where
-      meets-is : (h : ℕ) → h < s .nodes2 → (t b : Bool) → t ≡ (node H h) .entry → b ≡ has-bit w 0 (256 * v + h) → (t && b) ≡ meets G H v h
-      meets-is h l t b x y = ap₂ _&&_ x (y ∙ settled-e G H w found v h (omega (arith, is-node, both .few-first-nodes)) (omega (arith, l, both .few-second-nodes)))
+      meets-is : (h : ℕ) → h < s .nodes2 → (t b : Bool) → t ≡ (node H h) .entry → b ≡ has-bit w (32 * v) h → (t && b) ≡ meets G H v h
+      meets-is h l t b x y = ap₂ _&&_ x (y ∙ settled-e G H w found v h (omega (arith, is-node, first-size s f g both)) (omega (arith, l, both .few-second-nodes)))
 
-      pub met : (h : ℕ) → h < s .nodes2 → (t b : Bool) → t ≡ (node H h) .entry → b ≡ has-bit w 0 (256 * v + h) → (t && b) ≡ true → true ≡ covered G H v
+      pub met : (h : ℕ) → h < s .nodes2 → (t b : Bool) → t ≡ (node H h) .entry → b ≡ has-bit w (32 * v) h → (t && b) ≡ true → true ≡ covered G H v
       met h l t b x y e = sym (covered-at G H v h (omega (arith, l, second-size s f g both)) (subst T (sym (sym (meets-is h l t b x y) ∙ e)) tt))
 
-      pub unmet : (h : ℕ) → h < s .nodes2 → ((u : ℕ) → u < h → T (not (meets G H v u))) → (t b : Bool) → t ≡ (node H h) .entry → b ≡ has-bit w 0 (256 * v + h) → (t && b) ≡ false
+      pub unmet : (h : ℕ) → h < s .nodes2 → ((u : ℕ) → u < h → T (not (meets G H v u))) → (t b : Bool) → t ≡ (node H h) .entry → b ≡ has-bit w (32 * v) h → (t && b) ≡ false
           → (u : ℕ) → u < h + 1 → T (not (meets G H v u))
       unmet h l n t b x y e = none-on (meets G H v) h n (sym (meets-is h l t b x y) ∙ e)
 
@@ -60,7 +60,7 @@ module _ (s : Sizes) (f g : List ℕ) (both : Both s f g) where
     line-on out₀ out out′ v h e d =
         d
         ∙ ap (λ (o : List ℕ). put-at o (32 * v) (relation-line (has-bit w (32 * v)))) e
-        ∙ lines-more G H w out₀ v found (omega (arith, h, both .few-first-nodes))
+        ∙ lines-more G H w out₀ v found (omega (arith, h, first-size s f g both))
         ∙ ap (λ (k : ℕ). put-at out₀ 0 (lines-of G H k)) (sym (add-one v))
 
     pub line-end : (out₀ out : List ℕ) (v : ℕ) → v ≤ s .nodes → s .nodes ≤ v → out ≡ put-at out₀ 0 (lines-of G H v)

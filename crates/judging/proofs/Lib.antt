@@ -5,9 +5,10 @@ pub mod ClearedLaws
 pub mod CoverLaws
 pub mod DecideLaws
 pub mod HeldLaws
-pub mod ImageLaws
 pub mod LevelLaws
-pub mod LookLaws
-pub mod LostLaws
+pub mod MatchLaws
+pub mod OrderLaws
+pub mod RelationLaws
+pub mod RowLaws
 pub mod SheetLaws
 pub mod SimulateLaws

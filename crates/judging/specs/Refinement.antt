@@ -1,29 +1,27 @@
--- The search for the largest simulation in a lent buffer: a bit for each pair that is still related, a queue of the pairs that were dropped, a bit for each
--- pair that is related or still waits there, and the chains of both graphs' edges by the node they lead to.
+-- The search for the largest simulation in a lent buffer: a row of bits for each node of the first graph, what it is still related to; beside it what the row was when it was
+-- last taken; and, to look up, the first graph's edges by where they lead to and their label, and the neighbours of each node of the second graph by label.
 use mathlib.Core.Path.{_≡_}
 use mathlib.Core.Logic.{_⊎_}
-use mathlib.Core.Bool.{Bool, cond, _&&_, _||_}
+use mathlib.Core.Bool.{Bool, _&&_}
 use mathlib.Core.List.{List}
-use Prim.Native.Nat.{ℕ, suc, _+_, _*_, _-_, _/_, _%_, _≤_, _<_}
-use lib.Dec.{T, eqb, ltb, leb}
+use Prim.Native.Nat.{ℕ, _+_, _*_, _-_, _/_, _%_, _≤_, _<_}
+use lib.Dec.{T, eqb, ltb}
 use lib.ListN.{length, getD}
 use Rattle.files.specs.Access.{GraphFile}
 use Rattle.files.specs.Basics.Tables.{tally}
-use Rattle.files.specs.Basics.Tests.{any}
-use Rattle.files.specs.Cells.{cell, put-cell, has-bit, drop-bit}
-use Rattle.files.specs.Graph.{Graph, Edge, size, node, no-edge}
+use Rattle.files.specs.Basics.Tests.{any, one}
+use Rattle.files.specs.Cells.{has-bit}
+use Rattle.files.specs.Graph.{Graph, Node, Edge, size, node, no-edge}
 use Rattle.files.specs.Record.{count}
 use Rattle.files.specs.Refusal.{nodes-of}
 use Rattle.judging.specs.declared.sizes.Sizes.{Sizes}
-use Rattle.judging.specs.Chains.{Chained, Outside, into}
+use Rattle.judging.specs.Chains.{Chained}
 use Rattle.judging.specs.Simulation.{alike, related}
 pub mod Files
-pub mod Laws
 pub mod Rows
-pub mod Matches
-pub mod Images
-pub mod Narrowing
-pub mod Lost
+pub mod Preparing
+pub mod Handing
+pub mod Taking
 pub mod Cover
 
 -- both files are accepted, their counts are the sizes, and fit the buffer's strides
@@ -39,134 +37,138 @@ pub record Both (s : Sizes) (f g : List ℕ) : Type 0 where
   pub few-second-nodes : s .nodes2 ≤ 256
   pub few-second-edges : s .edges2 ≤ 4096
 
-abbrev pub code : ℕ → ℕ → ℕ
-code g h = 256 * g + h
+-- ---- what the buffer holds
 
 -- g and h are still related
 abbrev pub rel : List ℕ → ℕ → ℕ → Bool
-rel w g h = has-bit w 0 (code g h)
+rel w g h = has-bit w (32 * g) h
 
--- bit h of the image of label l: h has an edge with that label to what one node of the first graph is related to
-abbrev pub image : List ℕ → ℕ → ℕ → Bool
-image w l h = has-bit w (8192 + 32 * l) h
-
--- g and h are related, or were until they were dropped and are not yet worked off: a match counts as one until then
+-- they were when the row of g was last taken
 abbrev pub held : List ℕ → ℕ → ℕ → Bool
-held w g h = has-bit w 156960 (code g h)
+held w g h = has-bit w (8192 + 32 * g) h
 
-abbrev pub lost-at : List ℕ → ℕ → ℕ
-lost-at w i = cell w 25888 2 i
+-- how many pairs of the first n nodes are held
+abbrev pub load : ℕ → List ℕ → ℕ
+load n w = tally (λ (p : ℕ). held w (p / 256) (p % 256)) (256 * n)
+
+-- an edge with label l leads from x to y, looked up by where it comes from, and by where it leads to
+abbrev pub follows : List ℕ → ℕ → ℕ → ℕ → Bool
+follows w x l y = has-bit w (30816 + 64 * (9 * x + l)) y
+
+abbrev pub comes : List ℕ → ℕ → ℕ → ℕ → Bool
+comes w y l x = has-bit w (30848 + 64 * (9 * y + l)) x
+
+-- method and return flag as one number
+abbrev pub kind : Node → ℕ
+kind v = 2 * v .method + one (v .ret)
+
+-- h stands in the row of kind k
+abbrev pub of-kind : List ℕ → ℕ → ℕ → Bool
+of-kind w k h = has-bit w (16384 + 32 * k) h
 
 abbrev pub edge : Graph → ℕ → Edge
 edge G e = getD (G .edges) e no-edge
 
--- the list after a pair was dropped, if it was related, and put at the queue's end; and that end
-pub dropped : List ℕ → ℕ → ℕ → ℕ → List ℕ
-dropped w tail g h = cond (rel w g h) (put-cell (drop-bit w 0 (code g h)) 25888 2 tail (code g h)) w
-
-abbrev pub tail-after : List ℕ → ℕ → ℕ → ℕ → ℕ
-tail-after w tail g h = cond (rel w g h) (suc tail) tail
+-- edge e leads to node k / 9 with label k % 9
+abbrev pub labelled-into : Graph → ℕ → ℕ → Bool
+labelled-into G k e = eqb (9 * (edge G e) .to + (edge G e) .label) k
 
 -- node h has an edge with label l to a node that v has
 abbrev pub Reaches : Graph → (ℕ → Type 0) → ℕ → ℕ → Type 0
 Reaches H v h l = (d : ℕ) × (d < length (H .edges)) × ((edge H d) .from ≡ h) × ((edge H d) .label ≡ l) × v ((edge H d) .to)
 
--- a bit of the relation after node g was related to all of the second graph's nodes below m that agree with it
-abbrev pub row-related : Graph → Graph → List ℕ → ℕ → ℕ → ℕ → Bool
-row-related G H w g m p = has-bit w 0 p || (eqb (p / 256) g && (ltb (p % 256) m && alike (node G g) (node H (p % 256))))
-
 -- some edge with label l leads from node g to node h
 pub leads-into : Graph → ℕ → ℕ → ℕ → Bool
 leads-into H h l g = any (λ (d : Edge). eqb (d .to) h && (eqb (d .label) l && eqb (d .from) g)) (H .edges)
 
--- w has the images of node v, by the relation of w₀
-pub record Imaged (H : Graph) (w₀ : List ℕ) (v : ℕ) (w : List ℕ) : Type 0 where
-  pub sound : (l h : ℕ) → l < 9 → h < 256 → T (image w l h) → Reaches H (λ (t : ℕ). T (rel w₀ v t)) h l
-  pub complete : (l h : ℕ) → l < 9 → h < 256 → Reaches H (λ (t : ℕ). T (rel w₀ v t)) h l → T (image w l h)
+-- the rows of kinds have the nodes below n
+abbrev pub KindRows : Graph → ℕ → List ℕ → Type 0
+KindRows H n w = (k h : ℕ) → k < 18 → h < 256 → of-kind w k h ≡ (ltb h n && eqb (kind (node H h)) k)
 
--- ---- looking for another match beside edge j
+-- the neighbours of the nodes below n
+pub record Neighbours (H : Graph) (n : ℕ) (w : List ℕ) : Type 0 where
+  pub successors : (x l y : ℕ) → x < n → l < 9 → y < 256 → follows w x l y ≡ leads-into H y l x
+  pub predecessors : (y l x : ℕ) → y < n → l < 9 → x < 256 → comes w y l x ≡ leads-into H y l x
 
--- the edges of one node and label are a run; edge i is of the run of node f and label l
-abbrev pub of-run : Graph → ℕ → ℕ → ℕ → Bool
-of-run H f l i = eqb ((edge H i) .from) f && eqb ((edge H i) .label) l
+-- ---- a row apart
 
--- what edge i is in the run of node f and label l: 0 not of the run, 1 of it and to what v does not hold, 2 to what v holds
-abbrev pub look : Graph → List ℕ → ℕ → ℕ → ℕ → ℕ → ℕ
-look H w v f l i = cond (of-run H f l i) (cond (held w v ((edge H i) .to)) 2 1) 0
+abbrev pub In : List ℕ → ℕ → Type 0
+In r h = T (has-bit r 0 h)
 
--- the same at distance k below and above edge j, 0 where the run has ended
-abbrev pub look-below : Graph → List ℕ → ℕ → ℕ → ℕ → ℕ → ℕ → Bool → ℕ
-look-below H w v f l j k more = cond (more && leb k j) (look H w v f l (j - k)) 0
+-- the row has nodes below n only
+abbrev pub Within : ℕ → List ℕ → Type 0
+Within n r = (h : ℕ) → h < 256 → In r h → h < n
 
-abbrev pub look-above : Graph → List ℕ → ℕ → ℕ → ℕ → ℕ → ℕ → Bool → ℕ
-look-above H w v f l j k more = cond (more && ltb (j + k) (length (H .edges))) (look H w v f l (j + k)) 0
+-- node v holds nodes below n only
+abbrev pub HeldInside : ℕ → List ℕ → ℕ → Type 0
+HeldInside n w v = (h : ℕ) → h < 256 → T (held w v h) → h < n
 
--- what v is related to is held
-abbrev pub RowHeld : List ℕ → ℕ → Type 0
-RowHeld w v = (h : ℕ) → h < 256 → T (rel w v h) → T (held w v h)
+-- from c to c′ by adding the predecessors by label l of the nodes from a up to b that v held and that the row r has not
+pub record Handed (n : ℕ) (w : List ℕ) (v l : ℕ) (r c c′ : List ℕ) (a b : ℕ) : Type 0 where
+  pub within : Within n c′
+  pub grown : (x : ℕ) → x < 256 → In c x → In c′ x
+  pub added : (h x : ℕ) → a ≤ h → h < b → x < 256 → T (held w v h) → (In r h → ⊥) → T (comes w h l x) → In c′ x
 
--- what any node is related to is held
-pub Holding : List ℕ → Type 0
-Holding w = (g : ℕ) → g < 256 → RowHeld w g
+-- an edge of x with label l leads into the row r
+abbrev pub Meets : List ℕ → ℕ → List ℕ → ℕ → Type 0
+Meets w l r x = (y : ℕ) × (y < 256) × In r y × T (follows w x l y)
+
+-- from c to c′ by taking out, of the nodes from a up to b, those of which an edge with label l leads into the row r
+pub record Sifted (w : List ℕ) (l : ℕ) (r c c′ : List ℕ) (a b : ℕ) : Type 0 where
+  pub fewer : (x : ℕ) → x < 256 → In c′ x → In c x
+  pub beside : (x : ℕ) → x < 256 → (x < a) ⊎ (b ≤ x) → In c x → In c′ x
+  pub taken-out : (x : ℕ) → a ≤ x → x < b → In c x → (In c′ x → ⊥) → Meets w l r x
+  pub left-in : (x : ℕ) → a ≤ x → x < b → In c′ x → Meets w l r x → ⊥
 
 module _ (G H : Graph) where
-  -- the chains of both graphs stand in w′, and nothing else of w has changed
-  pub record Linked (w w′ : List ℕ) : Type 0 where
-    pub first-linked : Chained w′ 8480 8992 (into G) (size G) (length (G .edges))
-    pub second-linked : Chained w′ 17184 17696 (into H) (size H) (length (H .edges))
-    pub rest-kept : Outside 8480 25888 w w′
+  -- ---- the search
 
-  -- nothing of the largest simulation is lost, and what is related agrees; `tail` pairs were dropped, and stand in the queue
-  pub record Refining (tail : ℕ) (w : List ℕ) : Type 0 where
-    pub room : 165152 ≤ length w
-    pub by-first : Chained w 8480 8992 (into G) (size G) (length (G .edges))
-    pub by-second : Chained w 17184 17696 (into H) (size H) (length (H .edges))
-    pub inside : (g h : ℕ) → g < 256 → h < 256 → T (rel w g h) → (g < size G) × (h < size H) × T (alike (node G g) (node H h))
+  -- nothing of the largest simulation is lost, what is related agrees, and what is looked up stands beside it
+  pub record Refining (w : List ℕ) : Type 0 where
+    pub room : 178272 ≤ length w
+    pub by-slot : Chained w 16960 21568 (labelled-into G) (9 * size G) (length (G .edges))
+    pub neighbours : Neighbours H (size H) w
+    pub inside : (g h : ℕ) → g < size G → h < 256 → T (rel w g h) → (h < size H) × T (alike (node G g) (node H h))
     pub contains : (g h : ℕ) → T (related G H g h) → T (rel w g h)
-    pub queued : (i : ℕ) → i < tail → (g h : ℕ) × (g < size G) × (h < size H) × (lost-at w i ≡ code g h) × (T (rel w g h) → ⊥)
-    pub counted : tail + tally (has-bit w 0) (256 * size G) ≤ 256 * size G
 
   -- from w on to w′ by dropping pairs that no simulation has
-  pub record Shrank (tail tail′ : ℕ) (w w′ : List ℕ) : Type 0 where
-    pub refining : Refining tail′ w′
-    pub longer : tail ≤ tail′
-    pub rel-less : (g h : ℕ) → g < 256 → h < 256 → T (rel w′ g h) → T (rel w g h)
-    pub held-kept : (g h : ℕ) → g < 256 → h < 256 → held w′ g h ≡ held w g h
-    pub images-kept : (l h : ℕ) → l < 9 → h < 256 → image w′ l h ≡ image w l h
-    pub queue-kept : (i : ℕ) → i < tail → lost-at w′ i ≡ lost-at w i
-    pub lost-queued : (g h : ℕ) → g < 256 → h < 256 → T (rel w g h) → (T (rel w′ g h) → ⊥) → (i : ℕ) × (tail ≤ i) × (i < tail′) × (lost-at w′ i ≡ code g h)
+  pub record Shrank (w w′ : List ℕ) : Type 0 where
+    pub refining : Refining w′
+    pub rel-less : (g h : ℕ) → g < size G → h < 256 → T (rel w′ g h) → T (rel w g h)
+    pub held-kept : (g h : ℕ) → g < size G → h < 256 → held w′ g h ≡ held w g h
 
-  -- the pair was dropped and waits in the queue from `head` on
-  abbrev pub Waiting : ℕ → ℕ → List ℕ → ℕ → ℕ → Type 0
-  Waiting head tail w g t = (i : ℕ) × (head ≤ i) × (i < tail) × (lost-at w i ≡ code g t)
+  -- the row r has what the largest simulation gives v
+  abbrev pub Contained : ℕ → List ℕ → Type 0
+  Contained v r = (h : ℕ) → T (related G H v h) → In r h
 
-  -- what is held is related, or waits in the queue from `head` on
-  pub Awaited : ℕ → ℕ → List ℕ → Type 0
-  Awaited head tail w = (g h : ℕ) → g < 256 → h < 256 → T (held w g h) → T (rel w g h) ⊎ Waiting head tail w g h
+  -- every edge into v with label l is matched by the row r: by an equally labelled edge that leads into it
+  pub LabelMatched : List ℕ → ℕ → ℕ → List ℕ → Type 0
+  LabelMatched w v l r = (e h : ℕ) → e < length (G .edges) → (edge G e) .to ≡ v → (edge G e) .label ≡ l → h < 256 → T (rel w ((edge G e) .from) h) → Reaches H (In r) h l
 
-  -- edge e of the first graph is matched for h: by an equally labelled edge of h to what the edge's end holds
-  abbrev pub Matched : List ℕ → ℕ → ℕ → Type 0
-  Matched w e h = T (rel w ((edge G e) .from) h) → Reaches H (λ (t : ℕ). T (held w ((edge G e) .to) t)) h ((edge G e) .label)
-
-  -- every edge into node v of the first graph is matched for every node
+  -- every edge into v is matched by what v holds
   pub NodeMatched : List ℕ → ℕ → Type 0
-  NodeMatched w v = (e : ℕ) → e < length (G .edges) → (edge G e) .to ≡ v → (h : ℕ) → h < 256 → Matched w e h
+  NodeMatched w v = (e h : ℕ) → e < length (G .edges) → (edge G e) .to ≡ v → h < 256 → T (rel w ((edge G e) .from) h) → Reaches H (λ (t : ℕ). T (held w v t)) h ((edge G e) .label)
 
-  -- every edge is
-  pub AllMatched : List ℕ → Type 0
-  AllMatched w = (e : ℕ) → e < length (G .edges) → (h : ℕ) → h < 256 → Matched w e h
+  -- what an edge into v with label l may lack a match for stands in the row c
+  pub record Candidates (w : List ℕ) (v l : ℕ) (r c : List ℕ) : Type 0 where
+    pub within : Within (size H) c
+    pub complete : (e h : ℕ) → e < length (G .edges) → (edge G e) .to ≡ v → (edge G e) .label ≡ l → h < 256 → T (rel w ((edge G e) .from) h) → In c h ⊎ Reaches H (In r) h l
 
-  -- every edge into v with the label of edge j of the second graph is matched for where edge j comes from
-  pub EdgeDone : List ℕ → ℕ → ℕ → Type 0
-  EdgeDone w v j = (e : ℕ) → e < length (G .edges) → (edge G e) .to ≡ v → (edge G e) .label ≡ (edge H j) .label → Matched w e ((edge H j) .from)
+  -- from w on to w′ by taking the row of v
+  pub record Took (v : ℕ) (w w′ : List ℕ) : Type 0 where
+    pub refining : Refining w′
+    pub rel-less : (g h : ℕ) → g < size G → h < 256 → T (rel w′ g h) → T (rel w g h)
+    pub held-now : (h : ℕ) → h < 256 → held w′ v h ≡ rel w v h
+    pub held-kept : (g h : ℕ) → g < size G → h < 256 → (g ≡ v → ⊥) → held w′ g h ≡ held w g h
+    pub matched : NodeMatched w′ v
 
-  -- the queue is worked off up to `head`: every edge is matched by what is held, and what is held and no longer related waits from there on
-  pub record Settling (head tail : ℕ) (w : List ℕ) : Type 0 where
-    pub refining : Refining tail w
-    pub holding : Holding w
-    pub all-matched : AllMatched w
-    pub awaited : Awaited head tail w
+  -- the first n nodes hold what they are related to, and the edges into them are matched by what they hold
+  pub record Matching (n : ℕ) (w : List ℕ) : Type 0 where
+    pub refining : Refining w
+    pub holding : (v h : ℕ) → v < n → h < 256 → T (rel w v h) → T (held w v h)
+    pub held-inside : (v : ℕ) → v < n → HeldInside (size H) w v
+    pub node-matched : (v : ℕ) → v < n → NodeMatched w v
 
   -- what is related is the largest simulation
   pub Settled : List ℕ → Type 0
-  Settled w = (g h : ℕ) → g < 256 → h < 256 → rel w g h ≡ related G H g h
+  Settled w = (g h : ℕ) → g < size G → h < 256 → rel w g h ≡ related G H g h

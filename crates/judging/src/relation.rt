@@ -1,75 +1,136 @@
-// The relation as bits: which pairs of nodes agree at first, and dropping a pair. A dropped pair goes to the end of a queue.
+// The relation at first, and what the search looks up beside it: the second graph's nodes by method and return flag, a row of bits each; the edges of the first graph by
+// where they lead to and their label, as chains; the neighbours of each node of the second graph by label, as rows of bits. `prepare` states that all of it stands in the buffer.
 ghost use mathlib.Core.Path.{_≡_};
-ghost use mathlib.Core.Bool.{true, false, _&&_};
-ghost use Prim.Native.Nat.{ℕ, _≤_, _<_};
+ghost use mathlib.Core.Bool.{false, _&&_};
+ghost use Prim.Native.Nat.{ℕ, _+_, _*_, _≤_, _<_};
 ghost use lib.Dec.{ltb};
-ghost use lib.ListN.{length};
-ghost use Rattle.files.specs.Cells.{has-bit};
-ghost use Rattle.files.specs.Graph.{size, node};
+ghost use lib.ListN.{length, getD};
+ghost use Rattle.files.specs.Access.{GraphFile};
+ghost use Rattle.files.specs.Cells.{put-bit};
 ghost use Rattle.files.specs.Decode.{decode-graph};
-ghost use Rattle.judging.specs.Chains.{Outside};
-ghost use Rattle.judging.specs.Refinement.{Both, rel, row-related, dropped, tail-after};
+ghost use Rattle.files.specs.Graph.{size, node};
+ghost use Rattle.files.specs.Refusal.{nodes-of};
+ghost use Rattle.judging.specs.Chains.{Chained, Outside};
+ghost use Rattle.judging.specs.Refinement.{Both, rel, edge, kind, KindRows, labelled-into, follows, comes, Neighbours, Refining};
 ghost use Rattle.judging.specs.Simulation.{alike};
+use crate::chains::link;
+use crate::rows::put_row;
+use crate::rows::row_at;
 use crate::sizes::Sizes;
-use files::cells::drop_bit;
-use files::cells::has_bit;
+use files::cells::clear;
 use files::cells::put_bit;
-use files::cells::put16;
+use files::encode::LINE;
+use files::graph::EdgeAt;
 use files::graph::NodeAt;
+use files::graph::edge_at;
 use files::graph::node_at;
 
-// Whether two nodes agree on method and return flag.
-fn agree(first: &[u8], second: &[u8], s: Sizes, g: usize, h: usize) -> bool
-    requires { ⌜ ((Both s (now first) (now second))) × ((g < s .nodes) × (h < s .nodes2)) ⌝ }
-    ensures { λ t. ⌜ t ≡ alike (node (decode-graph (now (first .entry))) g) (node (decode-graph (now (second .entry))) h) ⌝ }
+// The kind of a node: twice its method, and one more where it returns.
+fn kind_of(graph: &[u8], g: usize) -> usize
+    requires { ⌜ (GraphFile (now graph)) × (g < nodes-of (now graph)) ⌝ }
+    ensures { λ r. ⌜ (r ≡ kind (node (decode-graph (now (graph .entry))) g)) × (r < 18) ⌝ }
 {
-    let NodeAt::Is(v) = node_at(first, g, 1) else {
-        return false;
+    let NodeAt::Is(v) = node_at(graph, g, 0) else {
+        return 0;
     };
-    let NodeAt::Is(w) = node_at(second, h, 2) else {
-        return false;
-    };
-    let both = v.returns & w.returns;
-    let neither = !v.returns & !w.returns;
-    (w.method == v.method) & (both | neither)
+    if v.returns {
+        return 2 * (v.method as usize) + 1;
+    }
+    2 * (v.method as usize)
 }
 
-// Relates node g to every node of the second graph that agrees with it.
-fn relate_row(first: &[u8], second: &[u8], s: Sizes, work: &mut [u8], g: usize)
-    requires { ⌜ ((Both s (now first) (now second))) × ((g < s .nodes) × (165152 ≤ length (now work))) ⌝ }
-    ensures { λ _. ⌜ ((p : ℕ) → p < 65536 → has-bit (now (work .exit)) 0 p ≡ row-related (decode-graph (now (first .entry))) (decode-graph (now (second .entry))) (now (work .entry)) g (s .nodes2) p) × (Outside 0 8192 (now (work .entry)) (now (work .exit))) ⌝ }
+// Puts the second graph's nodes into the rows of their kinds.
+fn put_kinds(first: &[u8], second: &[u8], s: Sizes, work: &mut [u8])
+    requires { ⌜ (Both s (now first) (now second)) × ((178272 ≤ length (now work)) × ((q : ℕ) → 16384 ≤ q → q < 16960 → getD (now work) q 0 ≡ 0)) ⌝ }
+    ensures { λ _. ⌜ (KindRows (decode-graph (now (second .entry))) (s .nodes2) (now (work .exit))) × (Outside 16384 16960 (now (work .entry)) (now (work .exit))) ⌝ }
 {
     let mut h = 0;
     while h < s.nodes2 {
-        if agree(first, second, s, g, h) {
-            put_bit(work, 0, Sizes::STRIDE * g + h);
-        }
+        let k = kind_of(second, h);
+        put_bit(work, Sizes::KINDS + LINE * k, h);
         h += 1;
     }
 }
 
-// Relates all nodes that agree.
-pub(crate) fn relate(first: &[u8], second: &[u8], s: Sizes, work: &mut [u8])
-    requires { ⌜ ((Both s (now first) (now second))) × ((165152 ≤ length (now work)) × ((p : ℕ) → p < 65536 → has-bit (now work) 0 p ≡ false)) ⌝ }
-    ensures { λ _. ⌜ ((g h : ℕ) → g < 256 → h < 256 → rel (now (work .exit)) g h ≡ (ltb g (size (decode-graph (now (first .entry)))) && (ltb h (size (decode-graph (now (second .entry)))) && alike (node (decode-graph (now (first .entry))) g) (node (decode-graph (now (second .entry))) h)))) × (Outside 0 8192 (now (work .entry)) (now (work .exit))) ⌝ }
+// Relates every node of the first graph to all of its kind.
+fn relate(first: &[u8], second: &[u8], s: Sizes, work: &mut [u8])
+    requires { ⌜ (Both s (now first) (now second)) × ((178272 ≤ length (now work)) × (KindRows (decode-graph (now second)) (s .nodes2) (now work))) ⌝ }
+    ensures { λ _. ⌜ ((g h : ℕ) → g < s .nodes → h < 256 → rel (now (work .exit)) g h ≡ (ltb h (s .nodes2) && alike (node (decode-graph (now (first .entry))) g) (node (decode-graph (now (second .entry))) h))) × (Outside 0 8192 (now (work .entry)) (now (work .exit))) ⌝ }
 {
     let mut g = 0;
     while g < s.nodes {
-        relate_row(first, second, s, work, g);
+        let k = kind_of(first, g);
+        let row = row_at(work, Sizes::KINDS + LINE * k);
+        put_row(work, LINE * g, &row);
         g += 1;
     }
 }
 
-// Drops a pair, if it is related, and puts it at the queue's end. The queue's end after it.
-pub(crate) fn drop_pair(work: &mut [u8], tail: usize, g: usize, h: usize) -> usize
-    requires { ⌜ (g < 256) × ((h < 256) × ((rel (now work) g h ≡ true → tail < 65536) × (165152 ≤ length (now work)))) ⌝ }
-    ensures { λ t. ⌜ (t ≡ tail-after (now (work .entry)) tail g h) × ((now (work .exit)) ≡ dropped (now (work .entry)) tail g h) ⌝ }
+// The slot of edge e of the first graph: nine times the node it leads to, and its label.
+fn slot_of(first: &[u8], second: &[u8], s: Sizes, e: usize) -> usize
+    requires { ⌜ (Both s (now first) (now second)) × (e < s .edges) ⌝ }
+    ensures { λ r. ⌜ r ≡ 9 * (edge (decode-graph (now (first .entry))) e) .to + (edge (decode-graph (now (first .entry))) e) .label ⌝ }
 {
-    let p = Sizes::STRIDE * g + h;
-    if has_bit(work, 0, p) {
-        drop_bit(work, 0, p);
-        put16(work, Sizes::QUEUE, tail, p as u16);
-        return tail + 1;
+    let EdgeAt::Is(x) = edge_at(first, s.nodes, e, 0) else {
+        return 0;
+    };
+    9 * x.to + (x.label as usize)
+}
+
+// Links every edge of the first graph to its slot.
+fn link_slots(first: &[u8], second: &[u8], s: Sizes, work: &mut [u8])
+    requires { ⌜ (Both s (now first) (now second)) × ((178272 ≤ length (now work)) × ((q : ℕ) → 16960 ≤ q → q < 21568 → getD (now work) q 0 ≡ 0)) ⌝ }
+    ensures { λ _. ⌜ (Chained (now (work .exit)) 16960 21568 (labelled-into (decode-graph (now (first .entry)))) (9 * s .nodes) (s .edges)) × (Outside 16960 29760 (now (work .entry)) (now (work .exit))) ⌝ }
+{
+    let mut e = 0;
+    while e < s.edges {
+        let slot = slot_of(first, second, s, e);
+        link(work, Sizes::HEADS, Sizes::NEXTS, slot, e);
+        e += 1;
     }
-    tail
+}
+
+// Puts edge j of the second graph into the successors of where it comes from and the predecessors of where it leads to.
+fn put_edge(first: &[u8], second: &[u8], s: Sizes, work: &mut [u8], j: usize)
+    requires { ⌜ (Both s (now first) (now second)) × ((j < s .edges2) × (178272 ≤ length (now work))) ⌝ }
+    ensures { λ _. ⌜ now (work .exit) ≡ put-bit (put-bit (now (work .entry)) (30816 + 64 * (9 * (edge (decode-graph (now (second .entry))) j) .from + (edge (decode-graph (now (second .entry))) j) .label)) ((edge (decode-graph (now (second .entry))) j) .to)) (30848 + 64 * (9 * (edge (decode-graph (now (second .entry))) j) .to + (edge (decode-graph (now (second .entry))) j) .label)) ((edge (decode-graph (now (second .entry))) j) .from) ⌝ }
+{
+    let EdgeAt::Is(x) = edge_at(second, s.nodes2, j, 0) else {
+        return;
+    };
+    let label = x.label as usize;
+    put_bit(
+        work,
+        Sizes::SUCCESSORS + Sizes::SLOT * (9 * x.from + label),
+        x.to,
+    );
+    put_bit(
+        work,
+        Sizes::PREDECESSORS + Sizes::SLOT * (9 * x.to + label),
+        x.from,
+    );
+}
+
+// Puts all edges of the second graph.
+fn put_edges(first: &[u8], second: &[u8], s: Sizes, work: &mut [u8])
+    requires { ⌜ (Both s (now first) (now second)) × ((178272 ≤ length (now work)) × ((q : ℕ) → 30816 ≤ q → q < 30816 + 576 * s .nodes2 → getD (now work) q 0 ≡ 0)) ⌝ }
+    ensures { λ _. ⌜ (Neighbours (decode-graph (now (second .entry))) (s .nodes2) (now (work .exit))) × (Outside 30816 178272 (now (work .entry)) (now (work .exit))) ⌝ }
+{
+    let mut j = 0;
+    while j < s.edges2 {
+        put_edge(first, second, s, work, j);
+        j += 1;
+    }
+}
+
+// All that the search starts from, whatever the buffer held.
+pub(crate) fn prepare(first: &[u8], second: &[u8], s: Sizes, work: &mut [u8])
+    requires { ⌜ (Both s (now first) (now second)) × (178272 ≤ length (now work)) ⌝ }
+    ensures { λ _. ⌜ Refining (decode-graph (now (first .entry))) (decode-graph (now (second .entry))) (now (work .exit)) ⌝ }
+{
+    clear(&mut work[Sizes::KINDS..Sizes::SUCCESSORS + 9 * Sizes::SLOT * s.nodes2]);
+    put_kinds(first, second, s, work);
+    link_slots(first, second, s, work);
+    put_edges(first, second, s, work);
+    relate(first, second, s, work);
 }

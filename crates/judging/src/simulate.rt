@@ -1,21 +1,17 @@
 // The call "compare": refusals in the published order, then the largest simulation, its bytes and the verdict.
 ghost use mathlib.Core.Path.{_≡_};
 ghost use Prim.Native.Nat.{_≤_, _<_};
-ghost use lib.ListN.{length, replicate};
+ghost use lib.ListN.{length};
 ghost use Rattle.files.specs.Outcome.{Answers, Does};
 ghost use Rattle.files.specs.Record.{count};
 ghost use Rattle.files.specs.Refusal.{nodes-of};
-ghost use Rattle.files.specs.Decode.{decode-graph};
 ghost use Rattle.judging.specs.Judge.{GraphWithin, Strides};
 ghost use Rattle.judging.specs.Compare.{compared, compared-answer, from-first, from-second, from-relation};
-ghost use Rattle.judging.specs.Refinement.{Both, Linked, Settled};
+ghost use Rattle.judging.specs.Refinement.{Both};
 use crate::answers::Compared;
-use crate::chains::link_graph;
 use crate::cover::first_uncovered;
 use crate::cover::write_relation;
-use crate::images::match_all;
-use crate::lost::settle;
-use crate::relation::relate;
+use crate::refine::refine;
 use crate::sizes::Sizes;
 use files::cells::clear;
 use files::check::Checked;
@@ -24,43 +20,9 @@ use files::encode::LINE;
 use files::record::Limits;
 use files::refusal::Refusal;
 
-// The chains of both graphs, in a buffer of zeros.
-fn link_both(first: &[u8], second: &[u8], s: Sizes, work: &mut [u8])
-    requires { ⌜ ((Both s (now first) (now second))) × (((now work) ≡ replicate (length (now work)) 0) × (165152 ≤ length (now work))) ⌝ }
-    ensures { λ _. ⌜ Linked (decode-graph (now (first .entry))) (decode-graph (now (second .entry))) (now (work .entry)) (now (work .exit)) ⌝ }
-{
-    link_graph(
-        first,
-        s.nodes,
-        s.edges,
-        work,
-        Sizes::FIRST_HEADS,
-        Sizes::FIRST_NEXTS,
-    );
-    link_graph(
-        second,
-        s.nodes2,
-        s.edges2,
-        work,
-        Sizes::SECOND_HEADS,
-        Sizes::SECOND_NEXTS,
-    );
-}
-
-// The largest simulation, in a buffer of zeros.
-fn refine(first: &[u8], second: &[u8], s: Sizes, work: &mut [u8])
-    requires { ⌜ ((Both s (now first) (now second))) × (((now work) ≡ replicate (length (now work)) 0) × (165152 ≤ length (now work))) ⌝ }
-    ensures { λ _. ⌜ Settled (decode-graph (now (first .entry))) (decode-graph (now (second .entry))) (now (work .exit)) ⌝ }
-{
-    link_both(first, second, s, work);
-    relate(first, second, s, work);
-    let tail = match_all(first, second, s, work);
-    settle(first, second, s, work, tail);
-}
-
-// The verdict on two accepted graphs, in a buffer of zeros.
+// The verdict on two accepted graphs.
 fn contrast(first: &[u8], second: &[u8], s: Sizes, out: &mut [u8], work: &mut [u8]) -> Compared
-    requires { ⌜ ((Both s (now first) (now second))) × (((now work) ≡ replicate (length (now work)) 0) × (165152 ≤ length (now work))) ⌝ }
+    requires { ⌜ ((Both s (now first) (now second))) × (178272 ≤ length (now work)) ⌝ }
     ensures { λ t. ⌜ Answers (from-relation (now (first .entry)) (now (second .entry)) (length (now (out .entry)))) (now (out .entry)) (now (out .exit)) (compared-answer t) ⌝ }
 {
     if out.len() < LINE * s.nodes {
@@ -85,7 +47,7 @@ fn compare_second(
     nodes: usize,
     records: usize,
 ) -> Compared
-    requires { ⌜ (GraphWithin limits (now first)) × ((nodes ≡ nodes-of (now first)) × ((records ≡ count (now first)) × ((Strides limits) × (((now work) ≡ replicate (length (now work)) 0) × (165152 ≤ length (now work)))))) ⌝ }
+    requires { ⌜ (GraphWithin limits (now first)) × ((nodes ≡ nodes-of (now first)) × ((records ≡ count (now first)) × ((Strides limits) × (178272 ≤ length (now work))))) ⌝ }
     ensures { λ t. ⌜ Answers (from-second limits (now (first .entry)) (now (second .entry)) (length (now (out .entry)))) (now (out .entry)) (now (out .exit)) (compared-answer t) ⌝ }
 {
     match check_graph(second, 2, limits) {
@@ -113,7 +75,7 @@ fn compare_files(
     work: &mut [u8],
     limits: Limits,
 ) -> Compared
-    requires { ⌜ (Strides limits) × (((now work) ≡ replicate (length (now work)) 0) × (165152 ≤ length (now work))) ⌝ }
+    requires { ⌜ (Strides limits) × (178272 ≤ length (now work)) ⌝ }
     ensures { λ t. ⌜ Answers (from-first limits (now (first .entry)) (now (second .entry)) (length (now (out .entry)))) (now (out .entry)) (now (out .exit)) (compared-answer t) ⌝ }
 {
     match check_graph(first, 1, limits) {
@@ -138,7 +100,6 @@ pub fn compare_within(
     if work.len() < Sizes::ROOM {
         return Compared::Refused(Refusal::whole(13));
     }
-    clear(work);
     let answer = compare_files(first, second, out, work, limits);
     clear(work);
     answer

@@ -8,28 +8,33 @@ pub struct Sizes {
 }
 
 impl Sizes {
-    // Pairs of nodes are numbered 256 * g + h: the rows of the relation, 32 bytes each, stand at the buffer's start.
-    pub const STRIDE: usize = 256;
+    // The rows of the relation, 32 bytes for each node of the first graph, stand at the buffer's start; then what each row was when it was last taken.
+    pub const HELD: usize = 8192;
 
-    // For each label the nodes of the second graph that an edge of that label leads from to what one node is related to.
-    pub const IMAGES: usize = 8192;
+    // For each method and return flag, as twice the one and the other, the nodes of the second graph that have them.
+    pub const KINDS: usize = 16384;
 
-    // The first graph's edges by the node they lead to.
-    pub const FIRST_HEADS: usize = 8480;
+    // The first graph's edges by the node they lead to and their label.
+    pub const HEADS: usize = 16960;
 
-    pub const FIRST_NEXTS: usize = 8992;
+    pub const NEXTS: usize = 21568;
 
-    // The second graph's.
-    pub const SECOND_HEADS: usize = 17184;
+    // The walk that puts the first graph's nodes in order: the next edge of each node, the node from which it was met, the nodes as they are left, and which were met.
+    pub const CURSORS: usize = 29760;
 
-    pub const SECOND_NEXTS: usize = 17696;
+    pub const PARENTS: usize = 30272;
 
-    // The pairs that were dropped, in order.
-    pub const QUEUE: usize = 25888;
+    pub const ORDER: usize = 30528;
 
-    // The pairs that are related, or were until they were dropped and are not yet worked off: rows as those of the relation.
-    pub const HELD: usize = 156960;
+    pub const SEEN: usize = 30784;
+
+    // Slot 9 * x + l of the second graph: where edges of node x with label l lead to, then where those that lead to x with label l come from.
+    pub const SUCCESSORS: usize = 30816;
+
+    pub const PREDECESSORS: usize = 30848;
+
+    pub const SLOT: usize = 64;
 
     // The published length of the buffer.
-    pub const ROOM: usize = 165152;
+    pub const ROOM: usize = 178272;
 }

@@ -97,7 +97,7 @@ cells-on f l l′ base w i v put fits small e held j h = ap (λ (m : List ℕ). 
 -- ---- bits
 
 -- digit j of the number x
-abbrev digit : ℕ → ℕ → ℕ
+abbrev pub digit : ℕ → ℕ → ℕ
 digit x j = x / 2 ^ j % 2
 
 -- the digits of the two masks, computed
@@ -138,10 +138,10 @@ at-other l base h k g keeps f = ap (λ (x : ℕ). eqb x 1) (go (ℕ-discrete (h 
         ∙ keeps (λ c. f (omega arith)) x
         ∙ ap (λ (q : ℕ). digit (getD l (base + q) 0) (k % 8)) e
 
-digit-or : (x y j : ℕ) → digit (bitOr x y) j ≡ bitOr (digit x j) (digit y j)
+pub digit-or : (x y j : ℕ) → digit (bitOr x y) j ≡ bitOr (digit x j) (digit y j)
 digit-or x y j = ap (λ (n : ℕ). n % 2) (or-shr x y j) ∙ or-mod (x / 2 ^ j) (y / 2 ^ j) 1
 
-digit-and : (x y j : ℕ) → digit (bitAnd x y) j ≡ bitAnd (digit x j) (digit y j)
+pub digit-and : (x y j : ℕ) → digit (bitAnd x y) j ≡ bitAnd (digit x j) (digit y j)
 digit-and x y j = ap (λ (n : ℕ). n % 2) (and-shr x y j) ∙ and-mod (x / 2 ^ j) (y / 2 ^ j) 1
 
 or-one : (a : ℕ) → a < 2 → bitOr a 1 ≡ 1

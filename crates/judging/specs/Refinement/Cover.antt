@@ -14,7 +14,6 @@ use Rattle.files.specs.Graph.{Graph, size}
 use Rattle.files.specs.Line.{relation-line}
 use Rattle.files.specs.Line.Laws.{line-size}
 use Rattle.judging.specs.Refinement.{rel, Settled}
-use Rattle.judging.specs.Refinement.Rows.{row-bit}
 use Rattle.judging.specs.Sheets.Queue.{table-same}
 use Rattle.judging.specs.Sheets.Walk.{put-next}
 use Rattle.judging.specs.Simulation.{related, relation-bytes}
@@ -29,13 +28,13 @@ line-same u v e = table-same (λ k. value (table u (8 * k) 8)) (λ k. value (tab
 -- ---- lines, one after the other
 
 module _ (G H : Graph) where
-  pub settled-e : (w : List ℕ) → Settled G H w → (g h : ℕ) → g < 256 → h < 256 → rel w g h ≡ related G H g h
+  pub settled-e : (w : List ℕ) → Settled G H w → (g h : ℕ) → g < size G → h < 256 → rel w g h ≡ related G H g h
   unfolding Settled
   settled-e w z = z
 
   -- the row of a node is its line
-  settled-line : (w : List ℕ) → Settled G H w → (g : ℕ) → g < 256 → relation-line (has-bit w (32 * g)) ≡ relation-line (related G H g)
-  settled-line w z g hg = line-same (has-bit w (32 * g)) (related G H g) (λ h hh. row-bit w g h ∙ settled-e w z g h hg hh)
+  settled-line : (w : List ℕ) → Settled G H w → (g : ℕ) → g < size G → relation-line (has-bit w (32 * g)) ≡ relation-line (related G H g)
+  settled-line w z g hg = line-same (has-bit w (32 * g)) (related G H g) (λ h hh. settled-e w z g h hg hh)
 
   -- the lines of the first n nodes
   abbrev pub lines-of : ℕ → List ℕ
@@ -48,7 +47,7 @@ module _ (G H : Graph) where
   lines-none out = sym (put-at-is out 0 [])
 
   -- one line more
-  pub lines-more : (w out : List ℕ) (n : ℕ) → Settled G H w → n < 256 → put-at (put-at out 0 (lines-of n)) (32 * n) (relation-line (has-bit w (32 * n))) ≡ put-at out 0 (lines-of (suc n))
+  pub lines-more : (w out : List ℕ) (n : ℕ) → Settled G H w → n < size G → put-at (put-at out 0 (lines-of n)) (32 * n) (relation-line (has-bit w (32 * n))) ≡ put-at out 0 (lines-of (suc n))
   lines-more w out n z h =
       ap₂ (λ (k : ℕ) (l : List ℕ). put-at (put-at out 0 (lines-of n)) k l) (sym (lines-length n)) (settled-line w z n h)
       ∙ put-next out (lines-of n) (relation-line (related G H n))

@@ -1,204 +1,135 @@
--- Laws of the relation at first: a bit and its byte, a byte of a row, nodes that agree, and rows of bits as they are filled.
+-- Laws of rows of bits: bytes stored one after the other, the bits of a byte made of two others, bytes put together by "or", and a row by its bytes.
 use mathlib.Core.Path.{_≡_, refl, sym, ap, ap₂, subst, _∙_}
-use mathlib.Core.Logic.{inl, inr}
+use mathlib.Core.Logic.{_⊎_, inl, inr}
 use mathlib.Core.Bool.{Bool, true, false, not, _&&_, _||_}
 use mathlib.Core.List.{List}
-use Prim.Native.Nat.{ℕ, _+_, _*_, _/_, _%_, _^_, _≤_, _<_}
-use native.Mathlib.Nat.{zero-div}
-use native.Mathlib.Decide.{ℕ-discrete, decLt}
+use Prim.Native.Nat.{ℕ, zero, suc, _+_, _*_, _-_, _/_, _%_, _^_, _≤_, _<_}
+use native.Mathlib.Nat.{zero-div, eq-or-lt-of-le, le-of-suc-le-suc, not-suc-le-zero}
+use native.Mathlib.Decide.{ℕ-discrete}
 use native.Mathlib.Omega.{arith}
-use lib.Bits.{bitOr, or-shr, or-mod, or-zero-r}
-use lib.Dec.{T, eqb, eqb→eq, ltb}
-use lib.ListN.{length, getD}
-use borrow.Author.Tests.{eq-eqb, ne-eqb, lt-ltb, le-ltb}
-use Rattle.files.specs.Basics.Tests.{same-test, same, same-refl, same→eq, and-l, and-r, and-i, eq-eqb as T-eqb}
-use Rattle.files.specs.Cells.{cell, has-bit, put-bit}
-use Rattle.files.specs.Cells.Laws.{bit-same, bit-other, bit-outside, has-bit-is, cell-one}
-use Rattle.files.specs.Graph.{Graph, Node, size, node}
+use lib.Bits.{bitOr, bitAnd}
+use lib.Dec.{T, eqb, eqb→eq}
+use lib.ListN.{length, getD, set}
+use lib.Seq.{getD-set-same, getD-set-other}
+use Rattle.files.specs.Basics.Tests.{all, all-e, any, any-e, upto, upto-i, upto-e, same, same→eq, or-e, or-l, or-r}
+use Rattle.files.specs.Cells.{has-bit}
+use Rattle.files.specs.Cells.Laws.{digit, digit-or, digit-and, has-bit-is}
 use Rattle.judging.specs.Chains.{Outside}
-use Rattle.judging.specs.Refinement.{code, rel, row-related}
-use Rattle.judging.specs.Simulation.{alike}
-use Rattle.judging.specs.Simulation.Laws.{alike-e, alike-i}
 
--- ---- bits
+-- ---- bytes, one after the other
 
--- row g of the relation
-pub row-bit : (w : List ℕ) (g h : ℕ) → has-bit w (32 * g) h ≡ rel w g h
-row-bit w g h =
-    let a : 32 * g + h / 8 ≡ 0 + (256 * g + h) / 8 = omega arith in
-    let b : h % 8 ≡ (256 * g + h) % 8 = omega arith in
-    has-bit-is w (32 * g) h
-    ∙ ap (λ (n : ℕ). eqb (getD w n 0 / 2 ^ (h % 8) % 2) 1) a
-    ∙ ap (λ (n : ℕ). eqb (getD w (0 + (256 * g + h) / 8) 0 / 2 ^ n % 2) 1) b
-    ∙ sym (has-bit-is w 0 (256 * g + h))
+-- the k bytes from `at` on are f 0, f 1, .., and the rest of l is that of l₀
+abbrev pub Bytes : (ℕ → ℕ) → List ℕ → ℕ → ℕ → List ℕ → Type 0
+Bytes f l₀ at k l = ((j : ℕ) → j < k → getD l (at + j) 0 ≡ f j) × Outside at (at + k) l₀ l
 
--- a number that adds no digit to another has none that the other has not
-digit-within : (x y j : ℕ) → bitOr x y ≡ y → x / 2 ^ j % 2 ≡ 1 → y / 2 ^ j % 2 ≡ 1
-digit-within x y j e d = go (ℕ-discrete (y / 2 ^ j % 2) 1)
+pub bytes-none : (f : ℕ → ℕ) (l : List ℕ) (at : ℕ) → Bytes f l at 0 l
+bytes-none f l at = (λ j h. absurd (not-suc-le-zero h), λ q d. refl)
+
+-- one byte more
+pub bytes-on : (f : ℕ → ℕ) (l₀ l l′ : List ℕ) (at k x : ℕ) → at + k < length l → x ≡ f k → l′ ≡ set l (at + k) x → Bytes f l₀ at k l → Bytes f l₀ at (k + 1) l′
+bytes-on f l₀ l l′ at k x room is put b =
+    (λ j h. ap (λ (m : List ℕ). getD m (at + j) 0) put ∙ here j (ℕ-discrete j k) h, λ q d. ap (λ (m : List ℕ). getD m q 0) put ∙ there q d)
   where
-    joined : y / 2 ^ j % 2 ≡ bitOr (x / 2 ^ j % 2) (y / 2 ^ j % 2)
-    joined = ap (λ (n : ℕ). n / 2 ^ j % 2) (sym e) ∙ ap (λ (n : ℕ). n % 2) (or-shr x y j) ∙ or-mod (x / 2 ^ j) (y / 2 ^ j) 1
+    here : (j : ℕ) → Dec (j ≡ k) → j < k + 1 → getD (set l (at + k) x) (at + j) 0 ≡ f j
+    here j (yes e) h = ap (λ (n : ℕ). getD (set l (at + k) x) (at + n) 0) e ∙ getD-set-same l (at + k) x 0 room ∙ is ∙ ap f (sym e)
+    here j (no n) h = getD-set-other l (at + k) (at + j) x 0 (λ e. n (omega arith)) ∙ b .0 j (omega arith)
 
-    go : Dec (y / 2 ^ j % 2 ≡ 1) → y / 2 ^ j % 2 ≡ 1
-    go (yes q) = q
-    go (no q) =
-        let z : y / 2 ^ j % 2 ≡ 0 = omega arith in
-        joined ∙ ap (bitOr (x / 2 ^ j % 2)) z ∙ or-zero-r (x / 2 ^ j % 2) ∙ d
+    there : (q : ℕ) → (q < at) ⊎ (at + (k + 1) ≤ q) → getD (set l (at + k) x) q 0 ≡ getD l₀ q 0
+    there q (inl h) = getD-set-other l (at + k) q x 0 (λ e. omega arith) ∙ b .1 q (inl h)
+    there q (inr h) = getD-set-other l (at + k) q x 0 (λ e. omega arith) ∙ b .1 q (inr (omega arith))
 
--- the eight bits of row g from h on, where h starts a byte
-module _ (w : List ℕ) (g h : ℕ) (starts : h % 8 ≡ 0) where
-  bit-here : (base k : ℕ) → h ≤ k → k < h + 8 → has-bit w base k ≡ eqb (getD w (base + h / 8) 0 / 2 ^ (k % 8) % 2) 1
-  bit-here base k a b =
-      let e : k / 8 ≡ h / 8 = omega arith in
-      has-bit-is w base k ∙ ap (λ (n : ℕ). eqb (getD w (base + n) 0 / 2 ^ (k % 8) % 2) 1) e
+-- ---- bits of bytes
 
-  -- a byte that adds nothing to that of another row
-  pub byte-within : (base row over : ℕ) → row ≡ cell w (32 * g) 1 (h / 8) → over ≡ cell w base 1 (h / 8) → T (eqb (bitOr row over) over)
-      → (k : ℕ) → h ≤ k → k < h + 8 → T (rel w g k) → T (has-bit w base k)
-  byte-within base row over r o t k a b s =
-      let x : row ≡ getD w (32 * g + h / 8) 0 = r ∙ cell-one w (32 * g) (h / 8) in
-      let y : over ≡ getD w (base + h / 8) 0 = o ∙ cell-one w base (h / 8) in
-      subst T (sym (bit-here base k a b))
-      (T-eqb (getD w (base + h / 8) 0 / 2 ^ (k % 8) % 2) 1
-      (digit-within (getD w (32 * g + h / 8) 0) (getD w (base + h / 8) 0) (k % 8) (ap₂ bitOr (sym x) (sym y) ∙ eqb→eq (bitOr row over) over t ∙ y)
-      (eqb→eq (getD w (32 * g + h / 8) 0 / 2 ^ (k % 8) % 2) 1 (subst T (sym (row-bit w g k) ∙ bit-here (32 * g) k a b) s))))
+-- x has digit j
+abbrev pub lit : ℕ → ℕ → Bool
+lit x j = eqb (digit x j) 1
 
-  -- a byte that is 0
-  pub byte-empty : (row : ℕ) → row ≡ cell w (32 * g) 1 (h / 8) → T (eqb row 0) → (k : ℕ) → h ≤ k → k < h + 8 → rel w g k ≡ false
-  byte-empty row r t k a b =
-      sym (row-bit w g k)
-      ∙ bit-here (32 * g) k a b
-      ∙ ap (λ (x : ℕ). eqb (x / 2 ^ (k % 8) % 2) 1) (sym (r ∙ cell-one w (32 * g) (h / 8)) ∙ eqb→eq row 0 t)
-      ∙ ap (λ (x : ℕ). eqb (x % 2) 1) (zero-div (2 ^ (k % 8)))
-
--- ---- nodes that agree
-
-pub same-as : (x y : Bool) → same x y ≡ ((y && x) || (not y && not x))
-same-as true true = refl
-same-as true false = refl
-same-as false true = refl
-same-as false false = refl
-
-pub alike-is : (a b : Node) → alike a b ≡ (eqb (b .method) (a .method) && ((a .ret && b .ret) || (not (a .ret) && not (b .ret))))
-alike-is a b =
-    same-test (alike a b) (eqb (b .method) (a .method) && same (b .ret) (a .ret))
-    (λ t. let e = alike-e a b t in and-i (eqb (b .method) (a .method)) (same (b .ret) (a .ret)) (T-eqb (b .method) (a .method) (e .0)) (subst (λ (c : Bool). T (same (b .ret) c)) (e .1) (same-refl (b .ret))))
-    (λ t. let m = and-l (eqb (b .method) (a .method)) (same (b .ret) (a .ret)) t in
-    let r = and-r (eqb (b .method) (a .method)) (same (b .ret) (a .ret)) t in
-    alike-i a b (eqb→eq (b .method) (a .method) m) (same→eq (b .ret) (a .ret) r))
-    ∙ ap (λ (t : Bool). eqb (b .method) (a .method) && t) (same-as (b .ret) (a .ret))
-
--- ---- the relation at first
-
-or-none : (a b : Bool) → b ≡ false → a || b ≡ a
-or-none true b e = refl
-or-none false b e = e
-
-and-none : (a b : Bool) → b ≡ false → a && b ≡ false
-and-none true b e = e
-and-none false b e = refl
-
--- a bound one higher says the same of every other number
-above-one : (n m : ℕ) → (n ≡ m → ⊥) → ltb n (m + 1) ≡ ltb n m
-above-one n m f = go (decLt n m)
+-- a digit is 0 or 1
+digit-cases : (x j : ℕ) → (digit x j ≡ 0) ⊎ (digit x j ≡ 1)
+digit-cases x j = go (x / 2 ^ j % 2) (omega arith)
   where
-    go : Dec (n < m) → ltb n (m + 1) ≡ ltb n m
-    go (yes h) = lt-ltb n (m + 1) (omega arith) ∙ sym (lt-ltb n m h)
-    go (no h) = le-ltb n (m + 1) (omega arith) ∙ sym (le-ltb n m (omega arith))
+    go : (d : ℕ) → d < 2 → (d ≡ 0) ⊎ (d ≡ 1)
+    go zero h = inl refl
+    go (suc zero) h = inr refl
+    go (suc (suc d)) h = absurd (omega arith)
 
-module _ (G H : Graph) where
-  -- no node of the second graph yet
-  pub row-start : (w : List ℕ) (g p : ℕ) → has-bit w 0 p ≡ row-related G H w g 0 p
-  row-start w g p =
-      sym (or-none (has-bit w 0 p) _ (and-none (eqb (p / 256) g) _ (ap (λ (b : Bool). b && alike (node G g) (node H (p % 256))) (le-ltb (p % 256) 0 (omega arith)))))
-
-  module _ (w₀ w : List ℕ) (g h : ℕ) (hg : g < 256) (hh : h < 256) (room : 8192 ≤ length w) (is : (p : ℕ) → p < 65536 → has-bit w 0 p ≡ row-related G H w₀ g h p) where
-    elsewhere : (p : ℕ) → (code g h ≡ p → ⊥) → row-related G H w₀ g (h + 1) p ≡ row-related G H w₀ g h p
-    elsewhere p n = go (ℕ-discrete (p / 256) g)
-      where
-        tail-of : ℕ → Bool
-        tail-of m = ltb (p % 256) m && alike (node G g) (node H (p % 256))
-
-        go : Dec (p / 256 ≡ g) → (has-bit w₀ 0 p || (eqb (p / 256) g && tail-of (h + 1))) ≡ (has-bit w₀ 0 p || (eqb (p / 256) g && tail-of h))
-        go (yes e) = ap (λ (b : Bool). has-bit w₀ 0 p || (eqb (p / 256) g && (b && alike (node G g) (node H (p % 256))))) (above-one (p % 256) h (λ d. n (omega arith)))
-        go (no f) =
-            ap (λ (b : Bool). has-bit w₀ 0 p || (b && tail-of (h + 1))) (ne-eqb (p / 256) g f)
-            ∙ sym (ap (λ (b : Bool). has-bit w₀ 0 p || (b && tail-of h)) (ne-eqb (p / 256) g f))
-
-    here : row-related G H w₀ g (h + 1) (code g h) ≡ (has-bit w₀ 0 (code g h) || alike (node G g) (node H h))
-    here =
-        let a : (256 * g + h) / 256 ≡ g = omega arith in
-        let b : (256 * g + h) % 256 ≡ h = omega arith in
-        ap (λ (n : ℕ). has-bit w₀ 0 (code g h) || (eqb n g && (ltb (code g h % 256) (h + 1) && alike (node G g) (node H (code g h % 256))))) a
-        ∙ ap (λ (n : ℕ). has-bit w₀ 0 (code g h) || (eqb g g && (ltb n (h + 1) && alike (node G g) (node H n)))) b
-        ∙ ap (λ (t : Bool). has-bit w₀ 0 (code g h) || (t && (ltb h (h + 1) && alike (node G g) (node H h)))) (eq-eqb g g refl)
-        ∙ ap (λ (t : Bool). has-bit w₀ 0 (code g h) || (t && alike (node G g) (node H h))) (lt-ltb h (h + 1) (omega arith))
-
-    was : has-bit w 0 (code g h) ≡ has-bit w₀ 0 (code g h)
-    was =
-        let b : (256 * g + h) % 256 ≡ h = omega arith in
-        is (code g h) (omega arith)
-        ∙ or-none (has-bit w₀ 0 (code g h)) _ (and-none (eqb (code g h / 256) g) _ (ap (λ (t : Bool). t && alike (node G g) (node H (code g h % 256))) (le-ltb (code g h % 256) h (omega arith))))
-
-    -- a node that agrees
-    pub row-yes : (w′ : List ℕ) → alike (node G g) (node H h) ≡ true → w′ ≡ put-bit w 0 (code g h) → (p : ℕ) → p < 65536 → has-bit w′ 0 p ≡ row-related G H w₀ g (h + 1) p
-    row-yes w′ t d p l = ap (λ (v : List ℕ). has-bit v 0 p) d ∙ go (ℕ-discrete (code g h) p)
-      where
-        or-yes : (a b : Bool) → b ≡ true → a || b ≡ true
-        or-yes true b e = refl
-        or-yes false b e = e
-
-        go : Dec (code g h ≡ p) → has-bit (put-bit w 0 (code g h)) 0 p ≡ row-related G H w₀ g (h + 1) p
-        go (yes e) =
-            subst (λ (n : ℕ). has-bit (put-bit w 0 (code g h)) 0 n ≡ row-related G H w₀ g (h + 1) n) e
-            (bit-same w 0 (code g h) (omega arith) ∙ sym (here ∙ or-yes (has-bit w₀ 0 (code g h)) (alike (node G g) (node H h)) t))
-        go (no n) = bit-other w 0 (code g h) p n ∙ is p l ∙ sym (elsewhere p n)
-
-    -- a node that does not
-    pub row-no : alike (node G g) (node H h) ≡ false → (p : ℕ) → p < 65536 → has-bit w 0 p ≡ row-related G H w₀ g (h + 1) p
-    row-no t p l = go (ℕ-discrete (code g h) p)
-      where
-        go : Dec (code g h ≡ p) → has-bit w 0 p ≡ row-related G H w₀ g (h + 1) p
-        go (yes e) =
-            subst (λ (n : ℕ). has-bit w 0 n ≡ row-related G H w₀ g (h + 1) n) e
-            (was ∙ sym (here ∙ or-none (has-bit w₀ 0 (code g h)) (alike (node G g) (node H h)) t))
-        go (no n) = is p l ∙ sym (elsewhere p n)
-
-    pub row-outside : (w′ : List ℕ) → w′ ≡ put-bit w 0 (code g h) → Outside 0 8192 w₀ w → Outside 0 8192 w₀ w′
-    row-outside w′ d o q (inl l) = absurd (omega arith)
-    row-outside w′ d o q (inr l) = ap (λ (v : List ℕ). getD v q 0) d ∙ bit-outside w 0 (code g h) q (λ e. omega arith) ∙ o q (inr l)
-
-  -- a bit of the relation after the rows below g
-  abbrev pub rows-related : ℕ → ℕ → ℕ → Bool
-  rows-related m g p = ltb (p / 256) g && (ltb (p % 256) m && alike (node G (p / 256)) (node H (p % 256)))
-
-  pub rows-start : (m p : ℕ) → rows-related m 0 p ≡ false
-  rows-start m p = ap (λ (b : Bool). b && (ltb (p % 256) m && alike (node G (p / 256)) (node H (p % 256)))) (le-ltb (p / 256) 0 (omega arith))
-
-  -- one row more
-  pub rows-more : (w : List ℕ) (m g p : ℕ) → has-bit w 0 p ≡ rows-related m g p → row-related G H w g m p ≡ rows-related m (g + 1) p
-  rows-more w m g p e = go (ℕ-discrete (p / 256) g)
+-- a test of two digits is what it is of 0 and 1
+module _ (f : ℕ → ℕ → ℕ) (g : Bool → Bool → Bool) (both : eqb (f 1 1) 1 ≡ g true true) (left : eqb (f 1 0) 1 ≡ g true false) (right : eqb (f 0 1) 1 ≡ g false true) (none : eqb (f 0 0) 1 ≡ g false false) where
+  by-digits : (x y j : ℕ) → eqb (f (digit x j) (digit y j)) 1 ≡ g (lit x j) (lit y j)
+  by-digits x y j = go (digit-cases x j) (digit-cases y j)
     where
-      go : Dec (p / 256 ≡ g) → row-related G H w g m p ≡ rows-related m (g + 1) p
-      go (yes d) =
-          ap (λ (b : Bool). b || (eqb (p / 256) g && (ltb (p % 256) m && alike (node G g) (node H (p % 256)))))
-          (e ∙ ap (λ (b : Bool). b && (ltb (p % 256) m && alike (node G (p / 256)) (node H (p % 256)))) (le-ltb (p / 256) g (omega arith)))
-          ∙ ap (λ (b : Bool). b && (ltb (p % 256) m && alike (node G g) (node H (p % 256)))) (eq-eqb (p / 256) g d)
-          ∙ ap (λ (n : ℕ). ltb (p % 256) m && alike (node G n) (node H (p % 256))) (sym d)
-          ∙ sym (ap (λ (b : Bool). b && (ltb (p % 256) m && alike (node G (p / 256)) (node H (p % 256)))) (lt-ltb (p / 256) (g + 1) (omega arith)))
-      go (no f) =
-          ap (λ (b : Bool). has-bit w 0 p || (b && (ltb (p % 256) m && alike (node G g) (node H (p % 256))))) (ne-eqb (p / 256) g f)
-          ∙ or-none (has-bit w 0 p) false refl
-          ∙ e
-          ∙ sym (ap (λ (b : Bool). b && (ltb (p % 256) m && alike (node G (p / 256)) (node H (p % 256)))) (above-one (p / 256) g f))
+      at : (a b : ℕ) → digit x j ≡ a → digit y j ≡ b → eqb (f a b) 1 ≡ g (eqb a 1) (eqb b 1) → eqb (f (digit x j) (digit y j)) 1 ≡ g (lit x j) (lit y j)
+      at a b p q e = ap₂ (λ (m n : ℕ). eqb (f m n) 1) p q ∙ e ∙ sym (ap₂ (λ (m n : ℕ). g (eqb m 1) (eqb n 1)) p q)
 
-  pub rows-all : (w : List ℕ) (n m : ℕ) → size G ≡ n → size H ≡ m → ((p : ℕ) → p < 65536 → has-bit w 0 p ≡ rows-related m n p) → (g h : ℕ) → g < 256 → h < 256
-      → rel w g h ≡ (ltb g (size G) && (ltb h (size H) && alike (node G g) (node H h)))
-  rows-all w n m a b f g h hg hh =
-      let x : (256 * g + h) / 256 ≡ g = omega arith in
-      let y : (256 * g + h) % 256 ≡ h = omega arith in
-      f (code g h) (omega arith)
-      ∙ ap (λ (k : ℕ). ltb k n && (ltb (code g h % 256) m && alike (node G k) (node H (code g h % 256)))) x
-      ∙ ap (λ (k : ℕ). ltb g n && (ltb k m && alike (node G g) (node H k))) y
-      ∙ ap (λ (k : ℕ). ltb g k && (ltb h m && alike (node G g) (node H h))) (sym a)
-      ∙ ap (λ (k : ℕ). ltb g (size G) && (ltb h k && alike (node G g) (node H h))) (sym b)
+      go : (digit x j ≡ 0) ⊎ (digit x j ≡ 1) → (digit y j ≡ 0) ⊎ (digit y j ≡ 1) → eqb (f (digit x j) (digit y j)) 1 ≡ g (lit x j) (lit y j)
+      go (inl a) (inl b) = at 0 0 a b none
+      go (inl a) (inr b) = at 0 1 a b right
+      go (inr a) (inl b) = at 1 0 a b left
+      go (inr a) (inr b) = at 1 1 a b both
+
+pub lit-or : (x y j : ℕ) → lit (bitOr x y) j ≡ (lit x j || lit y j)
+lit-or x y j = ap (λ (n : ℕ). eqb n 1) (digit-or x y j) ∙ by-digits bitOr _||_ refl refl refl refl x y j
+
+pub lit-and : (x y j : ℕ) → lit (bitAnd x y) j ≡ (lit x j && lit y j)
+lit-and x y j = ap (λ (n : ℕ). eqb n 1) (digit-and x y j) ∙ by-digits bitAnd _&&_ refl refl refl refl x y j
+
+-- the digits that a byte lacks, computed
+pub lit-not : (y j : ℕ) → y < 256 → j < 8 → lit (255 - y) j ≡ not (lit y j)
+lit-not y j h m = same→eq (lit (255 - y) j) (not (lit y j)) (all-e (right y) (upto 8) (all-e (λ (a : ℕ). all (right a) (upto 8)) (upto 256) tt y (upto-i 256 y h)) j (upto-i 8 j m))
+  where
+    right : ℕ → ℕ → Bool
+    right a i = same (lit (255 - a) i) (not (lit a i))
+
+pub lit-zero : (j : ℕ) → lit 0 j ≡ false
+lit-zero j = ap (λ (n : ℕ). eqb (n % 2) 1) (zero-div (2 ^ j))
+
+-- a byte that is not 0 has a digit, computed
+pub some-lit : (x : ℕ) → x < 256 → (x ≡ 0 → ⊥) → (j : ℕ) × (j < 8) × T (lit x j)
+some-lit x h n = go (or-e (eqb x 0) (any (lit x) (upto 8)) (all-e right (upto 256) tt x (upto-i 256 x h)))
+  where
+    right : ℕ → Bool
+    right a = eqb a 0 || any (lit a) (upto 8)
+
+    go : T (eqb x 0) ⊎ T (any (lit x) (upto 8)) → (j : ℕ) × (j < 8) × T (lit x j)
+    go (inl t) = absurd (n (eqb→eq x 0 t))
+    go (inr t) = let r = any-e (lit x) (upto 8) t in (r .0, upto-e 8 (r .0) (r .1), r .2)
+
+-- ---- bytes put together
+
+-- f 0 or f 1 or .. : n of them
+abbrev pub joined : (ℕ → ℕ) → ℕ → ℕ
+joined f zero = 0
+joined f (suc n) = bitOr (joined f n) (f n)
+
+-- a digit of theirs is one of theirs
+pub joined-e : (f : ℕ → ℕ) (n j : ℕ) → T (lit (joined f n) j) → (k : ℕ) × (k < n) × T (lit (f k) j)
+joined-e f zero j t = absurd (subst T (lit-zero j) t)
+joined-e f (suc n) j t = go (joined-e f n j) (or-e (lit (joined f n) j) (lit (f n) j) (subst T (lit-or (joined f n) (f n) j) t))
+  where
+    go : (T (lit (joined f n) j) → (k : ℕ) × (k < n) × T (lit (f k) j)) → T (lit (joined f n) j) ⊎ T (lit (f n) j) → (k : ℕ) × (k < suc n) × T (lit (f k) j)
+    go u (inl s) = let r = u s in (r .0, omega (arith, r .1), r .2)
+    go u (inr s) = (n, omega arith, s)
+
+pub joined-i : (f : ℕ → ℕ) (n k j : ℕ) → k < n → T (lit (f k) j) → T (lit (joined f n) j)
+joined-i f zero k j h t = absurd (not-suc-le-zero h)
+joined-i f (suc n) k j h t = subst T (sym (lit-or (joined f n) (f n) j)) (go (λ l. joined-i f n k j l t) (eq-or-lt-of-le (le-of-suc-le-suc h)))
+  where
+    go : (k < n → T (lit (joined f n) j)) → (k ≡ n) ⊎ (k < n) → T (lit (joined f n) j || lit (f n) j)
+    go u (inl e) = or-r (lit (joined f n) j) (lit (f n) j) (subst (λ (m : ℕ). T (lit (f m) j)) e t)
+    go u (inr l) = or-l (lit (joined f n) j) (lit (f n) j) (u l)
+
+-- ---- a row by its bytes
+
+pub row-lit : (l : List ℕ) (at h : ℕ) → has-bit l at h ≡ lit (getD l (at + h / 8) 0) (h % 8)
+row-lit l at h = has-bit-is l at h
+
+-- bit 8 k + j is digit j of byte k
+pub byte-lit : (l : List ℕ) (at k j : ℕ) → j < 8 → has-bit l at (8 * k + j) ≡ lit (getD l (at + k) 0) j
+byte-lit l at k j h =
+    let a : (8 * k + j) / 8 ≡ k = omega arith in
+    let b : (8 * k + j) % 8 ≡ j = omega arith in
+    has-bit-is l at (8 * k + j) ∙ ap₂ (λ (m n : ℕ). lit (getD l (at + m) 0) n) a b
+
+-- a row whose 32 bytes are known
+pub row-bits : (f : ℕ → ℕ) (l : List ℕ) (at : ℕ) → ((j : ℕ) → j < 32 → getD l (at + j) 0 ≡ f j) → (h : ℕ) → h < 256 → has-bit l at h ≡ lit (f (h / 8)) (h % 8)
+row-bits f l at b h m = has-bit-is l at h ∙ ap (λ (n : ℕ). lit n (h % 8)) (b (h / 8) (omega arith))

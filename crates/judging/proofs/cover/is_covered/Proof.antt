@@ -26,10 +26,6 @@ is-entry-requires c κs = (c .before .before .before .before .before .before .pr
 mul-has-bit : tie.Need-mul-has-bit Inv-loop μ-loop
 mul-has-bit c = let k = c .before .before .before .before .before .before .before in omega (arith, k .pre .1 .0, k .pre .0 .few-first-nodes)
 
--- src/cover.rt:37:37
-add-has-bit : tie.Need-add-has-bit Inv-loop μ-loop
-add-has-bit c = let k = c .before .before .before .before .before .before .before in omega (arith, k .pre .1 .0, k .pre .0 .few-first-nodes, c .before .if1 .taken, k .pre .0 .few-second-nodes)
-
 -- src/cover.rt:37:20
 has-bit-requires : tie.Need-has-bit-requires Inv-loop μ-loop
 has-bit-requires c κs = let k = c .before .before .before .before .before .before .before in omega (arith, k .pre .1 .0, k .pre .0 .few-first-nodes, c .before .if1 .taken, k .pre .0 .few-second-nodes, k .pre .1 .1 .0)
@@ -63,7 +59,6 @@ is-covered-spec =
     loop-holds
     is-entry-requires
     mul-has-bit
-    add-has-bit
     has-bit-requires
     returns
     add-h

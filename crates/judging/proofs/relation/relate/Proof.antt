@@ -1,61 +1,89 @@
-use mathlib.Core.Path.{_≡_, refl, sym, _∙_}
+use mathlib.Core.Path.{_≡_, refl, sym, ap, subst, _∙_}
+use mathlib.Core.Bool.{_&&_}
+use Prim.Native.Nat.{ℕ, _+_, _*_, _-_, _≤_, _<_}
 use native.Mathlib.Omega.{arith}
+use lib.Dec.{ltb}
+use lib.ListN.{length, getD}
+use borrow.Author.Needs.{needs}
 use Rattle.files.specs.Decode.{decode-graph}
-use Rattle.judging.specs.Refinement.Files.{first-size, second-size}
-use Rattle.judging.specs.Refinement.Rows.{rows-related, rows-start, rows-more, rows-all}
-use Prim.Native.Nat.{ℕ, _-_, _≤_, _<_}
-use lib.ListN.{length}
-use Rattle.files.specs.Cells.{has-bit}
-use Rattle.files.specs.Graph.{size}
-use Rattle.judging.specs.Chains.{Outside}
+use Rattle.files.specs.Graph.{node, no-edge}
+use Rattle.judging.specs.Chains.{Chained, Outside}
+use Rattle.judging.specs.Refinement.{rel, edge, KindRows, labelled-into}
+use Rattle.judging.specs.Refinement.Preparing.{Putting}
+use Rattle.judging.specs.Simulation.{alike}
+use Rattle.judging.proofs.HeldLaws.{held-edge, held-node}
+use Rattle.judging.proofs.RelationLaws.{kind-returns, kind-goes-on, kinds-start, kinds-turn, related-turn, slot-is, slots-start, may-slot, slots-turn, edge-fits, edge-put, putting-start, putting-turn, putting-all}
 use Rattle.judging.proofs.relation.relate.Statement.{statement}
 use Rattle.judging.proofs.relation.relate.Tie as tie
+use Rattle.judging.proofs.relation.relate.Reads as reads
+use Rattle.judging.proofs.relation.relate.Lts as lts
+use Rattle.judging.proofs.relation.kind_of.Reads as kind-of-reads
+use Rattle.judging.proofs.rows.put_row.Reads as put-row-reads
+use Rattle.judging.proofs.rows.row_at.Reads as row-at-reads
 
 abbrev Inv-loop : tie.InvT-loop
-Inv-loop first second s work₀ g₀ work g = (g ≤ s .nodes) × (length work ≡ length work₀) × ((p : ℕ) → p < 65536 → has-bit work 0 p ≡ rows-related (decode-graph first) (decode-graph second) (s .nodes2) g p) × (Outside 0 8192 work₀ work)
+Inv-loop first second s work₀ g₀ work g = (g ≤ s .nodes) × (length work ≡ length work₀) × ((u h : ℕ) → u < g → h < 256 → rel work u h ≡ (ltb h (s .nodes2) && alike (node (decode-graph first) u) (node (decode-graph second) h))) × Outside 0 8192 work₀ work
 
 abbrev μ-loop : tie.MeasureT-loop
 μ-loop first second s work₀ g₀ work g = s .nodes - g
 
--- src/relation.rt:57:5
+-- src/relation.rt:61:5
 loop-holds : tie.Need-loop-holds Inv-loop μ-loop
-loop-holds c = let k = c .before .before .before in let a = k .args in (omega arith, refl, (λ p l. k .pre .1 .1 p l ∙ sym (rows-start (decode-graph (a .first .now)) (decode-graph (a .second .now)) (a .s .nodes2) p)), λ q d. refl)
+loop-holds c = (omega arith, refl, λ u h a b. absurd (omega (arith, a)), λ q d. refl)
 
--- src/relation.rt:58:9
-relate-row-requires : tie.Need-relate-row-requires Inv-loop μ-loop
-relate-row-requires c κs = let k = c .before .before .before .before .before .before .before in (k .pre .0, (c .before .if1 .taken, omega (arith, c .before .before .before .loop .inv .1, k .pre .1 .0)))
+-- src/relation.rt:62:13
+kind-of-requires : tie.Need-kind-of-requires Inv-loop μ-loop
+kind-of-requires c κs = (c .before .before .before .before .before .before .pre .0 .first-file, omega (arith, c .if1 .taken, c .before .before .before .before .before .before .pre .0 .first-nodes-are))
 
--- src/relation.rt:59:9
+-- src/relation.rt:63:47
+mul-row-at : tie.Need-mul-row-at Inv-loop μ-loop
+mul-row-at c = omega (arith, c .before .kind-of .ensures .1)
+
+-- src/relation.rt:63:32
+add-row-at : tie.Need-add-row-at Inv-loop μ-loop
+add-row-at c = omega (arith, c .before .kind-of .ensures .1)
+
+-- src/relation.rt:63:19
+row-at-requires : tie.Need-row-at-requires Inv-loop μ-loop
+row-at-requires c κs = omega (arith, c .before .kind-of .ensures .1, c .before .before .before .before .loop .inv .1, c .before .before .before .before .before .before .before .before .pre .1 .0)
+
+-- src/relation.rt:64:23
+mul-put-row : tie.Need-mul-put-row Inv-loop μ-loop
+mul-put-row c = omega (arith, c .before .before .before .before .if1 .taken, c .before .before .before .before .before .before .before .before .before .before .pre .0 .few-first-nodes)
+
+-- src/relation.rt:64:33
+slice-aggregate-put-row : tie.Need-slice-aggregate-put-row Inv-loop μ-loop
+slice-aggregate-put-row c = omega (arith, c .before .before .row-at .ensures .0)
+
+-- src/relation.rt:64:9
+put-row-requires : tie.Need-put-row-requires Inv-loop μ-loop
+put-row-requires c κs = (omega (arith, c .before .before .before .before .before .if1 .taken, c .before .before .before .before .before .before .before .before .before .before .before .pre .0 .few-first-nodes, c .before .before .before .before .before .before .before .loop .inv .1, c .before .before .before .before .before .before .before .before .before .before .before .pre .1 .0), omega (arith, c .before .before .row-at .ensures .0))
+
+-- src/relation.rt:65:9
 add-g : tie.Need-add-g Inv-loop μ-loop
-add-g c = omega (arith, c .before .before .before .before .if1 .taken, c .before .before .before .before .before .before .before .before .before .before .pre .0 .few-first-nodes)
+add-g c = omega (arith, c .before .before .before .before .before .before .before .before .if1 .taken, c .before .before .before .before .before .before .before .before .before .before .before .before .before .before .pre .0 .few-first-nodes)
 
--- src/relation.rt:57:5
+-- src/relation.rt:61:5
 loop-less : tie.Need-loop-less Inv-loop μ-loop
-loop-less c = omega (arith, c .before .before .before .before .if1 .taken)
+loop-less c = omega (arith, c .before .before .before .before .before .before .before .before .if1 .taken)
 
--- src/relation.rt:57:5
+-- src/relation.rt:61:5
 loop-again : tie.Need-loop-again Inv-loop μ-loop
-loop-again c = let k = c .before .before .before .before .before .before .before .before .before .before in
-    let a = k .args in
-    let l = c .before .before .before .before .before .before .loop in
-    let x = c .before .before .relate-row in (
-      omega (arith, c .before .before .before .before .if1 .taken),
-      x .kept .1 .1 .1 .0 ∙ l .inv .1,
-      (λ p b. x .ensures .0 p b ∙ rows-more (decode-graph (a .first .now)) (decode-graph (a .second .now)) (l .work) (a .s .nodes2) (l .g) p (l .inv .2 p b)),
-      λ q d. x .ensures .1 q d ∙ l .inv .3 q d,
-    )
+loop-again c = let k = c .before .before .before .before .before .before .before .before .before .before .before .before .before .before in
+    let l = c .before .before .before .before .before .before .before .before .before .before .loop in
+    let p = c .before .before .put-row in
+    let r = related-turn (c .before .before .before .before .before .before .before .before .before .before .before .before .before .before .args .s) (c .before .before .before .before .before .before .before .before .before .before .before .before .before .before .args .first .now) (c .before .before .before .before .before .before .before .before .before .before .before .before .before .before .args .second .now) (c .before .before .before .before .before .before .before .before .before .before .before .before .before .before .pre .0) (k .args .work .now) (l .work) (p .last .0) (c .before .before .before .before .before .row-at .result) (l .g) (c .before .before .before .before .before .before .before .kind-of .result) (c .before .before .before .before .before .before .before .before .if1 .taken) (k .pre .1 .1) (l .inv .3) (l .inv .2) (c .before .before .before .before .before .before .before .kind-of .ensures) (c .before .before .before .before .before .row-at .ensures .1) (p .ensures .0) (p .ensures .1) in
+    (omega (arith, c .before .before .before .before .before .before .before .before .if1 .taken), p .kept .0 ∙ l .inv .1, r .0, r .1)
 
--- src/relation.rt:52:1
+-- src/relation.rt:56:1
 same-length : tie.Need-same-length Inv-loop μ-loop
 same-length c = c .before .before .loop .inv .1
 
--- src/relation.rt:52:1
+-- src/relation.rt:56:1
 returns : tie.Need-returns Inv-loop μ-loop
-returns c = let k = c .before .before .before .before .before .before in
-    let a = k .args in
-    let l = c .before .before .loop in
-    let e : size (decode-graph (a .first .now)) ≡ l .g = omega (arith, c .if1 .left, l .inv .0, first-size (a .s) (a .first .now) (a .second .now) (k .pre .0)) in
-    (rows-all (decode-graph (a .first .now)) (decode-graph (a .second .now)) (l .work) (l .g) (a .s .nodes2) e (second-size (a .s) (a .first .now) (a .second .now) (k .pre .0)) (l .inv .2), l .inv .3)
+returns c = let l = c .before .before .loop in
+    let e : l .g ≡ c .before .before .before .before .before .before .args .s .nodes = omega (arith, c .if1 .left, l .inv .0) in
+    (λ u h a b. l .inv .2 u h (omega (arith, a, e)) b, l .inv .3)
 
 pub relate-spec : {M : Type 1} → statement M
 relate-spec =
@@ -64,7 +92,13 @@ relate-spec =
     Inv-loop
     μ-loop
     loop-holds
-    relate-row-requires
+    kind-of-requires
+    mul-row-at
+    add-row-at
+    row-at-requires
+    mul-put-row
+    slice-aggregate-put-row
+    put-row-requires
     add-g
     loop-less
     loop-again

@@ -1,5 +1,4 @@
-use mathlib.Core.Path.{sym, ap, _∙_}
-use native.Mathlib.Omega.{arith}
+use mathlib.Core.Path.{ap, _∙_}
 use Prim.Native.Nat.{ℕ}
 use lib.ListN.{length, replicate}
 use Rattle.files.specs.Decode.{decode-graph}
@@ -20,19 +19,13 @@ whole-requires c κs = search needs
 returns : tie.Need-returns
 returns c = let k = c .before .before .before .before .before .before in does-left _ (c .whole .result) (k .args .out .now) (k .args .work .now) (compared-short (k .args .limits) (k .args .first .now) (k .args .second .now) (length (k .args .out .now)) (length (k .args .work .now)) (c .before .if1 .taken)) (c .whole .ensures)
 
--- src/simulate.rt:121:5
-clear-requires : tie.Need-clear-requires
-clear-requires c κs = search needs
-
 -- src/simulate.rt:122:9
 compare-files-requires : tie.Need-compare-files-requires
-compare-files-requires c κs = let k = c .before .before .before .before .before .before .before .before .before .before .before in
-    let x = c .before .before .before .before .clear in
-    (k .pre, (x .ensures ∙ ap (λ (n : ℕ). replicate n 0) (sym (x .kept .0)), omega (arith, x .kept .0, c .before .before .before .before .before .before .if1 .left)))
+compare-files-requires c κs = (c .before .before .before .before .before .before .before .pre, c .before .before .if1 .left)
 
 -- src/simulate.rt:123:5
-clear-requires-2 : tie.Need-clear-requires-2
-clear-requires-2 c κs = search needs
+clear-requires : tie.Need-clear-requires
+clear-requires c κs = search needs
 
 -- src/simulate.rt:114:1
 same-length : tie.Need-same-length
@@ -44,9 +37,9 @@ same-length-2 c = search needs
 
 -- src/simulate.rt:114:1
 returns-2 : tie.Need-returns-2
-returns-2 c = let k = c .before .before .before .before .before .before .before .before .before .before .before .before .before .before .before .before .before .before .before .before in
+returns-2 c = let k = c .before .before .before .before .before .before .before .before .before .before .before .before .before .before .before .before in
     let j = c .before .before .before .before .before .before .before .before .compare-files in
-    does-checked (k .args .limits) graph graph (k .args .first .now) (k .args .second .now) (compare-said (decode-graph (k .args .first .now)) (decode-graph (k .args .second .now))) (k .args .out .now) _ (k .args .work .now) (j .last .1 .1 .0) (c .before .before .clear2 .last .0) (compared-answer (j .result)) (compared-on (k .args .limits) (k .args .first .now) (k .args .second .now) (length (k .args .out .now)) (length (k .args .work .now)) (c .before .before .before .before .before .before .before .before .before .before .before .before .before .before .before .if1 .left)) (j .ensures) (c .before .before .clear2 .ensures ∙ ap (λ (n : ℕ). replicate n 0) (j .kept .1 .1 .1 .0 ∙ c .before .before .before .before .before .before .before .before .before .before .before .before .before .clear .kept .0))
+    does-checked (k .args .limits) graph graph (k .args .first .now) (k .args .second .now) (compare-said (decode-graph (k .args .first .now)) (decode-graph (k .args .second .now))) (k .args .out .now) _ (k .args .work .now) (j .last .1 .1 .0) (c .before .before .clear .last .0) (compared-answer (j .result)) (compared-on (k .args .limits) (k .args .first .now) (k .args .second .now) (length (k .args .out .now)) (length (k .args .work .now)) (c .before .before .before .before .before .before .before .before .before .before .before .if1 .left)) (j .ensures) (c .before .before .clear .ensures ∙ ap (λ (n : ℕ). replicate n 0) (j .kept .1 .1 .1 .0))
 
 pub compare-within-spec : {M : Type 1} → statement M
 compare-within-spec =
@@ -54,9 +47,8 @@ compare-within-spec =
     (tie.spec
     whole-requires
     returns
-    clear-requires
     compare-files-requires
-    clear-requires-2
+    clear-requires
     same-length
     same-length-2
     returns-2)

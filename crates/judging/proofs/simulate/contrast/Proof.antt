@@ -22,11 +22,11 @@ refine-requires c κs = search needs
 
 -- src/simulate.rt:70:5
 write-relation-requires : tie.Need-write-relation-requires
-write-relation-requires c κs = let k = c .before .before .before .before .before .before .before .before .before .before .before .before in let x = c .before .before .before .before .refine in (k .pre .0, (omega (arith, x .kept .1 .1 .1 .0, k .pre .1 .1), (x .ensures, c .before .before .before .before .before .before .if1 .left)))
+write-relation-requires c κs = let k = c .before .before .before .before .before .before .before .before .before .before .before .before in let x = c .before .before .before .before .refine in (k .pre .0, (omega (arith, x .kept .1 .1 .1 .0, k .pre .1), (x .ensures, c .before .before .before .before .before .before .if1 .left)))
 
 -- src/simulate.rt:71:9
 first-uncovered-requires : tie.Need-first-uncovered-requires
-first-uncovered-requires c κs = let k = c .before .before .before .before .before .before .before .before .before .before .before .before .before .before .before .before in let x = c .before .before .before .before .before .before .before .before .refine in (k .pre .0, (omega (arith, x .kept .1 .1 .1 .0, k .pre .1 .1), x .ensures))
+first-uncovered-requires c κs = let k = c .before .before .before .before .before .before .before .before .before .before .before .before .before .before .before .before in let x = c .before .before .before .before .before .before .before .before .refine in (k .pre .0, (omega (arith, x .kept .1 .1 .1 .0, k .pre .1), x .ensures))
 
 -- src/simulate.rt:73:9
 same-length : tie.Need-same-length

@@ -1,0 +1,85 @@
+use mathlib.Core.Path.{_≡_, refl, sym, ap, subst, _∙_}
+use mathlib.Core.Logic.{inl, inr}
+use mathlib.Core.Bool.{not}
+use Prim.Native.Nat.{ℕ, _+_, _*_, _-_, _≤_, _<_}
+use native.Mathlib.Omega.{arith}
+use lib.Dec.{T}
+use lib.ListN.{length, getD}
+use borrow.Author.Needs.{needs}
+use Rattle.files.specs.Decode.{decode-graph}
+use Rattle.judging.specs.Refinement.{rel, held, load, edge, labelled-into, In, Within, Handed, Sifted, Shrank, LabelMatched, Matching}
+use Rattle.judging.specs.Refinement.Handing.{handed-none, handed-on, handed-over, sifted-none, sifted-on, sifted-over, sifted-absent, sifted-unmet, sifted-met, shrank-none, shrank-on}
+use Rattle.judging.proofs.LevelLaws.{Walk}
+use Rattle.judging.proofs.MatchLaws.{byte-kept, byte-blank, slot-start, slot-item, slot-less, source-added, all-added, source-dropped, all-dropped, lost-added, not-lost, found-all, found-lost, may-drop, label-done, label-empty, labels-kept, contained, taken, matching-start, matching-more, matching-still, load-down, load-less, may-take, settled-all}
+use Rattle.judging.proofs.matches.add_lost_byte.Statement.{statement}
+use Rattle.judging.proofs.matches.add_lost_byte.Tie as tie
+use Rattle.judging.proofs.matches.add_lost_byte.Reads as reads
+use Rattle.judging.proofs.matches.add_lost_byte.Lts as lts
+use Rattle.judging.proofs.matches.add_lost_at.Reads as add-lost-at-reads
+
+abbrev Inv-loop : tie.InvT-loop
+Inv-loop first second s work v label row gone₀ k i₀ gone i = (i ≤ 8) × (length gone ≡ length gone₀) × Handed (s .nodes2) work v label row gone₀ gone (8 * k) (8 * k + i)
+
+abbrev μ-loop : tie.MeasureT-loop
+μ-loop first second s work v label row gone₀ k i₀ gone i = 8 - i
+
+-- src/matches.rt:96:5
+loop-holds : tie.Need-loop-holds Inv-loop μ-loop
+loop-holds c = let k = c .before .before .before .before .before in
+    let e : 8 * k .args .k + 0 ≡ 8 * k .args .k = omega arith in
+    (omega arith, refl, subst (Handed (k .args .s .nodes2) (k .args .work .now) (k .args .v) (k .args .label) (k .args .row .now) (k .args .gone .now) (k .args .gone .now) (8 * k .args .k)) (sym e) (handed-none (k .args .s .nodes2) (k .args .work .now) (k .args .v) (k .args .label) (k .args .row .now) (k .args .gone .now) (8 * k .args .k) (k .pre .1 .1 .1 .1 .1 .1 .1)))
+
+-- src/matches.rt:97:66
+mul-add-lost-at : tie.Need-mul-add-lost-at Inv-loop μ-loop
+mul-add-lost-at c = omega (arith, c .before .before .before .before .before .before .before .before .pre .1 .1 .1 .1 .0)
+
+-- src/matches.rt:97:66
+add-add-lost-at : tie.Need-add-add-lost-at Inv-loop μ-loop
+add-add-lost-at c = omega (arith, c .before .before .before .before .before .before .before .before .pre .1 .1 .1 .1 .0, c .before .loop-test .taken)
+
+-- src/matches.rt:97:9
+add-lost-at-requires : tie.Need-add-lost-at-requires Inv-loop μ-loop
+add-lost-at-requires c κs = let k = c .before .before .before .before .before .before .before .before in ((k .pre .0 .0, omega (arith, c .before .before .loop .inv .1, k .pre .0 .1)), (k .pre .1 .0, (k .pre .1 .1 .0, (k .pre .1 .1 .1 .0, (omega (arith, k .pre .1 .1 .1 .1 .0, c .before .loop-test .taken), (k .pre .1 .1 .1 .1 .1 .0, (k .pre .1 .1 .1 .1 .1 .1 .0, c .before .before .loop .inv .2 .within)))))))
+
+-- src/matches.rt:98:9
+add-i : tie.Need-add-i Inv-loop μ-loop
+add-i c = omega (arith, c .before .before .before .before .loop-test .taken)
+
+-- src/matches.rt:96:5
+loop-less : tie.Need-loop-less Inv-loop μ-loop
+loop-less c = omega (arith, c .before .before .before .before .loop-test .taken)
+
+-- src/matches.rt:96:5
+loop-again : tie.Need-loop-again Inv-loop μ-loop
+loop-again c = let k = c .before .before .before .before .before .before .before .before .before .before .before in
+    let l = c .before .before .before .before .before .loop in
+    let p = c .before .before .add-lost-at in
+    let e : 8 * k .args .k + l .i + 1 ≡ 8 * k .args .k + (l .i + 1) = omega arith in
+    (omega (arith, c .before .before .before .before .loop-test .taken), p .kept .1 .1 .1 .1 .1 .1 .1 .0 ∙ l .inv .1, handed-on (k .args .s .nodes2) (k .args .work .now) (k .args .v) (k .args .label) (k .args .row .now) (k .args .gone .now) (l .gone) (p .last .1 .1 .1 .1 .1 .1 .1 .0) (8 * k .args .k) (8 * k .args .k + l .i) (8 * k .args .k + (l .i + 1)) (l .inv .2) (subst (Handed (k .args .s .nodes2) (k .args .work .now) (k .args .v) (k .args .label) (k .args .row .now) (l .gone) (p .last .1 .1 .1 .1 .1 .1 .1 .0) (8 * k .args .k + l .i)) e (p .ensures)))
+
+-- src/matches.rt:81:1
+same-length : tie.Need-same-length Inv-loop μ-loop
+same-length c = c .before .loop .inv .1
+
+-- src/matches.rt:81:1
+returns : tie.Need-returns Inv-loop μ-loop
+returns c = let k = c .before .before .before .before .before .before .before in
+    let l = c .before .loop in
+    let e : l .i ≡ 8 = omega (arith, c .loop-test .left, l .inv .0) in
+    subst (λ (n : ℕ). Handed (k .args .s .nodes2) (k .args .work .now) (k .args .v) (k .args .label) (k .args .row .now) (k .args .gone .now) (l .gone) (8 * k .args .k) (8 * k .args .k + n)) e (l .inv .2)
+
+pub add-lost-byte-spec : {M : Type 1} → statement M
+add-lost-byte-spec =
+    tie.close
+    (tie.spec
+    Inv-loop
+    μ-loop
+    loop-holds
+    mul-add-lost-at
+    add-add-lost-at
+    add-lost-at-requires
+    add-i
+    loop-less
+    loop-again
+    same-length
+    returns)

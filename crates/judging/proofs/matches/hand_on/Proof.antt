@@ -1,0 +1,69 @@
+use mathlib.Core.Path.{_≡_, refl, sym, ap, subst, _∙_}
+use mathlib.Core.Logic.{inl, inr}
+use mathlib.Core.Bool.{not}
+use Prim.Native.Nat.{ℕ, _+_, _*_, _-_, _≤_, _<_}
+use native.Mathlib.Omega.{arith}
+use lib.Dec.{T}
+use lib.ListN.{length, getD}
+use borrow.Author.Needs.{needs}
+use Rattle.files.specs.Decode.{decode-graph}
+use Rattle.judging.specs.Refinement.{rel, held, load, edge, labelled-into, In, Within, Handed, Sifted, Shrank, LabelMatched, Matching}
+use Rattle.judging.specs.Refinement.Handing.{handed-none, handed-on, handed-over, sifted-none, sifted-on, sifted-over, sifted-absent, sifted-unmet, sifted-met, shrank-none, shrank-on}
+use Rattle.judging.proofs.LevelLaws.{Walk}
+use Rattle.judging.proofs.MatchLaws.{byte-kept, byte-blank, slot-start, slot-item, slot-less, source-added, all-added, source-dropped, all-dropped, lost-added, not-lost, found-all, found-lost, may-drop, label-done, label-empty, labels-kept, contained, taken, matching-start, matching-more, matching-still, load-down, load-less, may-take, settled-all, held-still, none-within}
+use Rattle.judging.proofs.matches.hand_on.Statement.{statement}
+use Rattle.judging.proofs.matches.hand_on.Tie as tie
+use Rattle.judging.proofs.matches.hand_on.Reads as reads
+use Rattle.judging.proofs.matches.hand_on.Lts as lts
+use Rattle.judging.proofs.matches.hand_on_by.Reads as hand-on-by-reads
+
+abbrev Inv-loop : tie.InvT-loop
+Inv-loop first second s work₀ v row all label₀ work label = (label ≤ 9) × (length work ≡ length work₀) × Shrank (decode-graph first) (decode-graph second) work₀ work × ((l : ℕ) → l < label → LabelMatched (decode-graph first) (decode-graph second) work v l row)
+
+abbrev μ-loop : tie.MeasureT-loop
+μ-loop first second s work₀ v row all label₀ work label = 9 - label
+
+-- src/matches.rt:251:5
+loop-holds : tie.Need-loop-holds Inv-loop μ-loop
+loop-holds c = (omega arith, refl, shrank-none (decode-graph (c .before .before .before .before .args .first .now)) (decode-graph (c .before .before .before .before .args .second .now)) (c .before .before .before .before .args .work .now) (c .before .before .before .before .pre .1 .1 .1 .0), λ l h. absurd (omega (arith, h)))
+
+-- src/matches.rt:252:9
+hand-on-by-requires : tie.Need-hand-on-by-requires Inv-loop μ-loop
+hand-on-by-requires c κs = let k = c .before .before .before .before .before .before .before in let l = c .before .before .loop in (k .pre .0, (k .pre .1 .0, (k .pre .1 .1 .0, (c .before .loop-test .taken, (l .inv .2 .refining, (λ n. held-still (c .before .before .before .before .before .before .before .args .s) (c .before .before .before .before .before .before .before .args .first .now) (c .before .before .before .before .before .before .before .args .second .now) (c .before .before .before .before .before .before .before .pre .1 .0) (k .args .work .now) (l .work) (k .args .v) (k .pre .1 .1 .0) (l .inv .2) (k .pre .1 .1 .1 .1 .0 n), k .pre .1 .1 .1 .1 .1))))))
+
+-- src/matches.rt:253:9
+add-label : tie.Need-add-label Inv-loop μ-loop
+add-label c = omega (arith, c .before .before .before .before .loop-test .taken)
+
+-- src/matches.rt:251:5
+loop-less : tie.Need-loop-less Inv-loop μ-loop
+loop-less c = omega (arith, c .before .before .before .before .loop-test .taken)
+
+-- src/matches.rt:251:5
+loop-again : tie.Need-loop-again Inv-loop μ-loop
+loop-again c = let k = c .before .before .before .before .before .before .before .before .before .before in
+    let l = c .before .before .before .before .before .loop in
+    let p = c .before .before .hand-on-by in
+    (omega (arith, c .before .before .before .before .loop-test .taken), p .kept .1 .1 .1 .0 ∙ l .inv .1, shrank-on (decode-graph (c .before .before .before .before .before .before .before .before .before .before .args .first .now)) (decode-graph (c .before .before .before .before .before .before .before .before .before .before .args .second .now)) (k .args .work .now) (l .work) (p .last .1 .1 .1 .0) (l .inv .2) (p .ensures .0), labels-kept (c .before .before .before .before .before .before .before .before .before .before .args .s) (c .before .before .before .before .before .before .before .before .before .before .args .first .now) (c .before .before .before .before .before .before .before .before .before .before .args .second .now) (c .before .before .before .before .before .before .before .before .before .before .pre .1 .0) (l .work) (p .last .1 .1 .1 .0) (k .args .v) (k .args .row .now) (l .label) (p .ensures .0) (l .inv .3) (p .ensures .1))
+
+-- src/matches.rt:238:1
+same-length : tie.Need-same-length Inv-loop μ-loop
+same-length c = c .before .loop .inv .1
+
+-- src/matches.rt:238:1
+returns : tie.Need-returns Inv-loop μ-loop
+returns c = let l = c .before .loop in (l .inv .2, λ n h. l .inv .3 n (omega (arith, c .loop-test .left, h)))
+
+pub hand-on-spec : {M : Type 1} → statement M
+hand-on-spec =
+    tie.close
+    (tie.spec
+    Inv-loop
+    μ-loop
+    loop-holds
+    hand-on-by-requires
+    add-label
+    loop-less
+    loop-again
+    same-length
+    returns)

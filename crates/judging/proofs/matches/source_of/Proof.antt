@@ -1,0 +1,37 @@
+use mathlib.Core.Path.{_≡_, refl, sym, ap, _∙_}
+use native.Mathlib.Omega.{arith}
+use Rattle.files.specs.Decode.{decode-graph}
+use Rattle.files.specs.Graph.{node, no-edge}
+use lib.ListN.{getD}
+use Rattle.files.specs.declared.graph.GraphEdge.{GraphEdge}
+use Rattle.files.specs.declared.graph.GraphNode.{GraphNode}
+use Rattle.judging.proofs.HeldLaws.{held-edge, held-node}
+use borrow.Author.Needs.{needs}
+use Rattle.judging.proofs.matches.source_of.Statement.{statement}
+use Rattle.judging.proofs.matches.source_of.Tie as tie
+use Rattle.judging.proofs.matches.source_of.Reads as reads
+use Rattle.judging.proofs.matches.source_of.Lts as lts
+use Rattle.files.proofs.graph.edge_at.Reads as edge-at-reads
+
+-- src/matches.rt:32:25
+edge-at-requires : tie.Need-edge-at-requires
+edge-at-requires c κs = search needs
+
+-- src/matches.rt:32:20
+enum-known-x : tie.Need-enum-known-x
+enum-known-x c = search needs
+
+-- src/matches.rt:33:9
+enum-told : tie.Need-enum-told
+enum-told c = search needs
+
+-- src/matches.rt:33:9
+returns : tie.Need-returns
+returns c = search needs
+
+-- src/matches.rt:28:1
+returns-2 : tie.Need-returns-2
+returns-2 c = let a = c .before .before .before .before .before .args in ap (λ (y : GraphEdge). y .from) (held-edge (c .before .before .before .edge-at .result) _ (getD ((decode-graph (a .graph .now)) .edges) (a .e) no-edge) (c .before .x .given .1) (c .before .before .before .edge-at .ensures))
+
+pub source-of-spec : {M : Type 1} → statement M
+source-of-spec = tie.close (tie.spec edge-at-requires enum-known-x enum-told returns returns-2)

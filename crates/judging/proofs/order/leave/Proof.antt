@@ -1,0 +1,70 @@
+use Rattle.judging.proofs.OrderLaws.{outside-on, byte-put, pair-put, bit-put, none-reaches}
+use mathlib.Core.Path.{_≡_, refl, sym, ap, subst, _∙_}
+use Prim.Native.Nat.{ℕ, _+_, _*_, _-_, _≤_, _<_}
+use native.Mathlib.Omega.{arith}
+use lib.ListN.{length, getD}
+use Rattle.files.specs.Decode.{decode-graph}
+use Rattle.files.specs.declared.graph.GraphEdge.{GraphEdge}
+use Rattle.judging.specs.Chains.{Outside}
+use Rattle.judging.specs.Refinement.{edge}
+use Rattle.judging.specs.Refinement.Files.{first-edge-in}
+use Rattle.judging.proofs.HeldLaws.{held-edge}
+use Rattle.judging.proofs.OrderLaws.{outside-on, byte-put, pair-put, bit-put, none-reaches}
+use Rattle.judging.proofs.RelationLaws.{slot-is}
+use borrow.Author.Needs.{needs}
+use Rattle.judging.proofs.order.leave.Statement.{statement}
+use Rattle.judging.proofs.order.leave.Tie as tie
+use Rattle.judging.proofs.order.leave.Reads as reads
+use Rattle.judging.proofs.order.leave.Lts as lts
+use Rattle.files.proofs.cells.get8.Reads as get8-reads
+use Rattle.files.proofs.cells.put8.Reads as put8-reads
+
+-- src/order.rt:33:14
+get8-requires : tie.Need-get8-requires
+get8-requires c κs = search needs
+
+-- src/order.rt:33:14
+cast-up : tie.Need-cast-up
+cast-up c = search needs
+
+-- src/order.rt:35:9
+same-length : tie.Need-same-length
+same-length c = search needs
+
+-- src/order.rt:35:9
+returns : tie.Need-returns
+returns c = search needs
+
+-- src/order.rt:41:36
+cast-put8 : tie.Need-cast-put8
+cast-put8 c = search needs
+
+-- src/order.rt:41:5
+put8-requires : tie.Need-put8-requires
+put8-requires c κs = omega (arith, (none-reaches (c .before .before .before .before .before .before .before .before .before .args .s .nodes) (c .before .before .before .before .before .before .before .before .before .args .w .left) (c .before .before .before .before .get8 .result) (c .before .if1 .left)) .0, c .before .before .before .before .before .before .before .before .before .pre .0 .few-first-nodes, c .before .before .before .before .before .before .before .before .before .pre .1 .1)
+
+-- src/order.rt:44:15
+add-t18 : tie.Need-add-t18
+add-t18 c = omega (arith, (none-reaches (c .before .before .before .before .before .before .before .before .before .before .before .before .args .s .nodes) (c .before .before .before .before .before .before .before .before .before .before .before .before .args .w .left) (c .before .before .before .before .before .before .before .get8 .result) (c .before .before .before .before .if1 .left)) .0, c .before .before .before .before .before .before .before .before .before .before .before .before .pre .0 .few-first-nodes)
+
+-- src/order.rt:27:1
+same-length-2 : tie.Need-same-length-2
+same-length-2 c = search needs
+
+-- src/order.rt:27:1
+returns-2 : tie.Need-returns-2
+returns-2 c = ((none-reaches (c .before .before .before .before .before .before .before .before .before .before .before .before .args .s .nodes) (c .before .before .before .before .before .before .before .before .before .before .before .before .args .w .left) (c .before .before .before .before .before .before .before .get8 .result) (c .before .before .before .before .if1 .left)) .1, byte-put (c .before .before .before .before .before .before .before .before .before .before .before .before .args .work .now) (c .before .before .put8 .last .0) 30528 (c .before .before .before .before .before .before .before .before .before .before .before .before .args .w .left) _ 29760 30816 (c .before .before .put8 .ensures) (omega arith) (omega (arith, (none-reaches (c .before .before .before .before .before .before .before .before .before .before .before .before .args .s .nodes) (c .before .before .before .before .before .before .before .before .before .before .before .before .args .w .left) (c .before .before .before .before .before .before .before .get8 .result) (c .before .before .before .before .if1 .left)) .0, c .before .before .before .before .before .before .before .before .before .before .before .before .pre .0 .few-first-nodes)))
+
+pub leave-spec : {M : Type 1} → statement M
+leave-spec =
+    tie.close
+    (tie.spec
+    get8-requires
+    cast-up
+    same-length
+    returns
+    cast-put8
+    put8-requires
+    add-t18
+    same-length-2
+    returns-2)

@@ -1,0 +1,73 @@
+use mathlib.Core.Path.{_≡_, refl, sym, ap, subst, _∙_}
+use Prim.Native.Nat.{ℕ, _+_, _*_, _-_, _≤_, _<_}
+use native.Mathlib.Omega.{arith}
+use lib.ListN.{length, getD}
+use Rattle.files.specs.Decode.{decode-graph}
+use Rattle.files.specs.declared.graph.GraphEdge.{GraphEdge}
+use Rattle.judging.specs.Chains.{Outside}
+use Rattle.judging.specs.Refinement.{edge}
+use Rattle.judging.specs.Refinement.Files.{first-edge-in}
+use Rattle.judging.proofs.HeldLaws.{held-edge}
+use Rattle.judging.proofs.OrderLaws.{outside-on, byte-put, pair-put, bit-put, none-reaches}
+use Rattle.judging.proofs.RelationLaws.{slot-is}
+use borrow.Author.Needs.{needs}
+use Rattle.judging.proofs.order.visit.Statement.{statement}
+use Rattle.judging.proofs.order.visit.Tie as tie
+use Rattle.judging.proofs.order.visit.Reads as reads
+use Rattle.judging.proofs.order.visit.Lts as lts
+use Rattle.files.proofs.cells.has_bit.Reads as has-bit-reads
+use Rattle.files.proofs.cells.put8.Reads as put8-reads
+use Rattle.files.proofs.cells.put_bit.Reads as put-bit-reads
+use Rattle.judging.proofs.order.walk_from.Reads as walk-from-reads
+
+-- src/order.rt:104:8
+has-bit-requires : tie.Need-has-bit-requires
+has-bit-requires c κs = search needs
+
+-- src/order.rt:105:9
+same-length : tie.Need-same-length
+same-length c = search needs
+
+-- src/order.rt:105:9
+returns : tie.Need-returns
+returns c = search needs
+
+-- src/order.rt:107:5
+put-bit-requires : tie.Need-put-bit-requires
+put-bit-requires c κs = search needs
+
+-- src/order.rt:108:38
+cast-put8 : tie.Need-cast-put8
+cast-put8 c = search needs
+
+-- src/order.rt:108:5
+put8-requires : tie.Need-put8-requires
+put8-requires c κs = search needs
+
+-- src/order.rt:109:5
+walk-from-requires : tie.Need-walk-from-requires
+walk-from-requires c κs = search needs
+
+-- src/order.rt:100:1
+same-length-2 : tie.Need-same-length-2
+same-length-2 c = search needs
+
+-- src/order.rt:100:1
+returns-2 : tie.Need-returns-2
+returns-2 c = let k = c .before .before .before .before .before .before .before .before .before .before .before .before .before .before .before .before .before .before in
+    outside-on 29760 30816 (k .args .work .now) (c .before .before .before .before .before .before .before .before .before .before .put-bit .last .0) (c .before .before .walk-from .last .1 .1 .1 .0) (bit-put (k .args .work .now) (c .before .before .before .before .before .before .before .before .before .before .put-bit .last .0) 30784 (k .args .root) 29760 30816 (c .before .before .before .before .before .before .before .before .before .before .put-bit .ensures) (omega arith) (omega (arith, k .pre .1 .0, k .pre .0 .few-first-nodes)))
+    (outside-on 29760 30816 (c .before .before .before .before .before .before .before .before .before .before .put-bit .last .0) (c .before .before .before .before .before .before .put8 .last .0) (c .before .before .walk-from .last .1 .1 .1 .0) (byte-put (c .before .before .before .before .before .before .before .before .before .before .put-bit .last .0) (c .before .before .before .before .before .before .put8 .last .0) 30272 (k .args .root) _ 29760 30816 (c .before .before .before .before .before .before .put8 .ensures) (omega arith) (omega (arith, k .pre .1 .0, k .pre .0 .few-first-nodes))) (c .before .before .walk-from .ensures))
+
+pub visit-spec : {M : Type 1} → statement M
+visit-spec =
+    tie.close
+    (tie.spec
+    has-bit-requires
+    same-length
+    returns
+    put-bit-requires
+    cast-put8
+    put8-requires
+    walk-from-requires
+    same-length-2
+    returns-2)

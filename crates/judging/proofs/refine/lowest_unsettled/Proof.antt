@@ -1,0 +1,66 @@
+use mathlib.Core.Path.{_≡_, refl, sym, ap, subst, _∙_}
+use mathlib.Core.Logic.{inl, inr}
+use mathlib.Core.Bool.{not}
+use Prim.Native.Nat.{ℕ, _+_, _*_, _-_, _≤_, _<_}
+use native.Mathlib.Omega.{arith}
+use lib.Dec.{T}
+use lib.ListN.{length, getD}
+use borrow.Author.Needs.{needs}
+use Rattle.files.specs.Decode.{decode-graph}
+use Rattle.judging.specs.Refinement.{rel, held, load, edge, labelled-into, In, Within, Handed, Sifted, Shrank, LabelMatched, Matching}
+use Rattle.judging.specs.Refinement.Handing.{handed-none, handed-on, handed-over, sifted-none, sifted-on, sifted-over, sifted-absent, sifted-unmet, sifted-met, shrank-none, shrank-on}
+use Rattle.judging.proofs.LevelLaws.{Walk, below-more}
+use Rattle.judging.proofs.MatchLaws.{byte-kept, byte-blank, slot-start, slot-item, slot-less, source-added, all-added, source-dropped, all-dropped, lost-added, not-lost, found-all, found-lost, may-drop, label-done, label-empty, labels-kept, contained, taken, matching-start, matching-more, matching-still, load-down, load-less, may-take, settled-all, held-still, none-within}
+use Rattle.judging.proofs.refine.lowest_unsettled.Statement.{statement}
+use Rattle.judging.proofs.refine.lowest_unsettled.Tie as tie
+use Rattle.judging.proofs.refine.lowest_unsettled.Reads as reads
+use Rattle.judging.proofs.refine.lowest_unsettled.Lts as lts
+use Rattle.judging.proofs.refine.has_lost.Reads as has-lost-reads
+
+abbrev Inv-loop : tie.InvT-loop
+Inv-loop first second s work v₀ v = (v ≤ s .nodes) × ((u h : ℕ) → u < v → h < 256 → T (held work u h) → T (rel work u h))
+
+abbrev μ-loop : tie.MeasureT-loop
+μ-loop first second s work v₀ v = s .nodes - v
+
+-- src/refine.rt:81:5
+loop-holds : tie.Need-loop-holds Inv-loop μ-loop
+loop-holds c = (omega arith, λ u h a. absurd (omega (arith, a)))
+
+-- src/refine.rt:82:12
+has-lost-requires : tie.Need-has-lost-requires Inv-loop μ-loop
+has-lost-requires c κs = (c .before .before .before .before .before .before .pre .0, (c .if1 .taken, c .before .before .before .before .before .before .pre .1))
+
+-- src/refine.rt:83:13
+returns : tie.Need-returns Inv-loop μ-loop
+returns c = (λ l. c .before .has-lost .ensures .0 (subst T (sym (c .if2 .taken)) tt), λ l. absurd (omega (arith, l, c .before .before .if1 .taken)))
+
+-- src/refine.rt:85:9
+add-v : tie.Need-add-v Inv-loop μ-loop
+add-v c = omega (arith, c .before .before .if1 .taken, c .before .before .before .before .before .before .before .before .pre .0 .few-first-nodes)
+
+-- src/refine.rt:81:5
+loop-less : tie.Need-loop-less Inv-loop μ-loop
+loop-less c = omega (arith, c .before .before .if1 .taken)
+
+-- src/refine.rt:81:5
+loop-again : tie.Need-loop-again Inv-loop μ-loop
+loop-again c = let l = c .before .before .before .before .loop in (omega (arith, c .before .before .if1 .taken), λ u h a. below-more (λ u. (h : ℕ) → h < 256 → T (held (c .before .before .before .before .before .before .before .before .args .work .now) u h) → T (rel (c .before .before .before .before .before .before .before .before .args .work .now) u h)) (l .v) (λ j i h b t. l .inv .1 j h i b t) (c .before .has-lost .ensures .1 (subst (λ b. T (not b)) (sym (c .if2 .left)) tt)) u a h)
+
+-- src/refine.rt:76:1
+returns-2 : tie.Need-returns-2 Inv-loop μ-loop
+returns-2 c = (λ l. absurd (omega (arith, l, c .if1 .left)), λ l u h a b t. c .before .before .loop .inv .1 u h (omega (arith, a, l)) b t)
+
+pub lowest-unsettled-spec : {M : Type 1} → statement M
+lowest-unsettled-spec =
+    tie.close
+    (tie.spec
+    Inv-loop
+    μ-loop
+    loop-holds
+    has-lost-requires
+    returns
+    add-v
+    loop-less
+    loop-again
+    returns-2)

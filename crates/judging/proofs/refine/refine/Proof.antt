@@ -1,0 +1,57 @@
+use mathlib.Core.Path.{_≡_, refl, sym, ap, subst, _∙_}
+use mathlib.Core.Logic.{inl, inr}
+use mathlib.Core.Bool.{not}
+use Prim.Native.Nat.{ℕ, _+_, _*_, _-_, _≤_, _<_}
+use native.Mathlib.Omega.{arith}
+use lib.Dec.{T}
+use lib.ListN.{length, getD}
+use Rattle.files.specs.Decode.{decode-graph}
+use Rattle.judging.specs.Refinement.{rel, held, load, edge, labelled-into, In, Within, Handed, Sifted, Shrank, LabelMatched, Matching}
+use Rattle.judging.specs.Refinement.Handing.{handed-none, handed-on, handed-over, sifted-none, sifted-on, sifted-over, sifted-absent, sifted-unmet, sifted-met, shrank-none, shrank-on}
+use Rattle.judging.proofs.LevelLaws.{Walk}
+use Rattle.judging.proofs.MatchLaws.{byte-kept, byte-blank, slot-start, slot-item, slot-less, source-added, all-added, source-dropped, all-dropped, lost-added, not-lost, found-all, found-lost, may-drop, label-done, label-empty, labels-kept, contained, taken, matching-start, matching-more, matching-still, load-down, load-less, may-take, settled-all, held-still, none-within, ordered}
+use native.Mathlib.Nat.{le-refl, le-trans}
+use borrow.Author.Needs.{needs}
+use Rattle.judging.proofs.refine.refine.Statement.{statement}
+use Rattle.judging.proofs.refine.refine.Tie as tie
+use Rattle.judging.proofs.refine.refine.Reads as reads
+use Rattle.judging.proofs.refine.refine.Lts as lts
+use Rattle.judging.proofs.order.put_in_order.Reads as put-in-order-reads
+use Rattle.judging.proofs.refine.match_all.Reads as match-all-reads
+use Rattle.judging.proofs.refine.settle.Reads as settle-reads
+use Rattle.judging.proofs.relation.prepare.Reads as prepare-reads
+
+-- src/refine.rt:110:5
+prepare-requires : tie.Need-prepare-requires
+prepare-requires c κs = search needs
+
+-- src/refine.rt:111:5
+put-in-order-requires : tie.Need-put-in-order-requires
+put-in-order-requires c κs = search needs
+
+-- src/refine.rt:112:5
+match-all-requires : tie.Need-match-all-requires
+match-all-requires c κs = let k = c .before .before .before .before .before .before .before .before .before .before .before .before in (k .pre .0, ordered (c .before .before .before .before .before .before .before .before .before .before .before .before .args .s) (c .before .before .before .before .before .before .before .before .before .before .before .before .args .first .now) (c .before .before .before .before .before .before .before .before .before .before .before .before .args .second .now) (c .before .before .before .before .before .before .before .before .before .before .before .before .pre .0) (c .before .before .before .before .before .before .before .prepare .last .1 .1 .1 .0) (c .before .before .before .put-in-order .last .1 .1 .1 .0) (c .before .before .before .put-in-order .ensures) (c .before .before .before .put-in-order .kept .1 .1 .1 .0) (c .before .before .before .before .before .before .before .prepare .ensures))
+
+-- src/refine.rt:113:5
+settle-requires : tie.Need-settle-requires
+settle-requires c κs = search needs
+
+-- src/refine.rt:106:1
+same-length : tie.Need-same-length
+same-length c = search needs
+
+-- src/refine.rt:106:1
+returns : tie.Need-returns
+returns c = search needs
+
+pub refine-spec : {M : Type 1} → statement M
+refine-spec =
+    tie.close
+    (tie.spec
+    prepare-requires
+    put-in-order-requires
+    match-all-requires
+    settle-requires
+    same-length
+    returns)

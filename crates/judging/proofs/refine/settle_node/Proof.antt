@@ -1,0 +1,68 @@
+use native.Mathlib.Nat.{le-refl, le-trans}
+use mathlib.Core.Path.{_≡_, refl, sym, ap, subst, _∙_}
+use mathlib.Core.Logic.{inl, inr}
+use mathlib.Core.Bool.{not}
+use Prim.Native.Nat.{ℕ, _+_, _*_, _-_, _≤_, _<_}
+use native.Mathlib.Omega.{arith}
+use lib.Dec.{T}
+use lib.ListN.{length, getD}
+use borrow.Author.Needs.{needs}
+use Rattle.files.specs.Decode.{decode-graph}
+use Rattle.judging.specs.Refinement.{rel, held, load, edge, labelled-into, In, Within, Handed, Sifted, Shrank, LabelMatched, Matching}
+use Rattle.judging.specs.Refinement.Handing.{handed-none, handed-on, handed-over, sifted-none, sifted-on, sifted-over, sifted-absent, sifted-unmet, sifted-met, shrank-none, shrank-on}
+use Rattle.judging.proofs.LevelLaws.{Walk}
+use Rattle.judging.proofs.MatchLaws.{byte-kept, byte-blank, slot-start, slot-item, slot-less, source-added, all-added, source-dropped, all-dropped, lost-added, not-lost, found-all, found-lost, may-drop, label-done, label-empty, labels-kept, contained, taken, matching-start, matching-more, matching-still, load-down, load-less, may-take, settled-all, held-still, none-within}
+use Rattle.judging.proofs.refine.settle_node.Statement.{statement}
+use Rattle.judging.proofs.refine.settle_node.Tie as tie
+use Rattle.judging.proofs.refine.settle_node.Reads as reads
+use Rattle.judging.proofs.refine.settle_node.Lts as lts
+use Rattle.judging.proofs.refine.has_lost.Reads as has-lost-reads
+use Rattle.judging.proofs.refine.take.Reads as take-reads
+
+abbrev Inv-loop : tie.InvT-loop
+Inv-loop first second s work₀ v work = (length work ≡ length work₀) × Matching (decode-graph first) (decode-graph second) (s .nodes) work × (load (s .nodes) work ≤ load (s .nodes) work₀)
+
+abbrev μ-loop : tie.MeasureT-loop
+μ-loop first second s work₀ v work = load (s .nodes) work
+
+-- src/refine.rt:55:5
+loop-holds : tie.Need-loop-holds Inv-loop μ-loop
+loop-holds c = (refl, c .before .before .before .pre .1 .1, le-refl (load (c .before .before .before .args .s .nodes) (c .before .before .before .args .work .now)))
+
+-- src/refine.rt:55:11
+has-lost-requires : tie.Need-has-lost-requires Inv-loop μ-loop
+has-lost-requires c κs = (c .before .before .before .before .before .pre .0, (c .before .before .before .before .before .pre .1 .0, c .before .loop .inv .1 .refining .room))
+
+-- src/refine.rt:56:9
+take-requires : tie.Need-take-requires Inv-loop μ-loop
+take-requires c κs = let k = c .before .before .before .before .before .before .before .before in let l = c .before .before .before .before .loop in (k .pre .0, (k .pre .1 .0, (l .inv .1 .refining, λ n. may-take (c .before .before .before .before .before .before .before .before .args .s) (c .before .before .before .before .before .before .before .before .args .first .now) (c .before .before .before .before .before .before .before .before .args .second .now) (c .before .before .before .before .before .before .before .before .pre .0) (k .args .s .nodes) (k .args .v) (l .work) (k .pre .1 .0) (l .inv .1))))
+
+-- src/refine.rt:55:5
+loop-less : tie.Need-loop-less Inv-loop μ-loop
+loop-less c = let k = c .before .before .before .before .before .before .before .before .before .before .before in let l = c .before .before .before .before .before .before .before .loop in load-less (c .before .before .before .before .before .before .before .before .before .before .before .args .s) (c .before .before .before .before .before .before .before .before .before .before .before .args .first .now) (c .before .before .before .before .before .before .before .before .before .before .before .args .second .now) (c .before .before .before .before .before .before .before .before .before .before .before .pre .0) (k .args .v) (l .work) (c .before .before .take .last .1 .1 .1 .0) (k .pre .1 .0) (l .inv .1) (c .before .before .take .ensures) (c .before .before .before .before .before .has-lost .ensures .0 (subst T (sym (c .before .before .before .before .if1 .taken)) tt))
+
+-- src/refine.rt:55:5
+loop-again : tie.Need-loop-again Inv-loop μ-loop
+loop-again c = let k = c .before .before .before .before .before .before .before .before .before .before .before in let l = c .before .before .before .before .before .before .before .loop in let p = c .before .before .take in (p .kept .1 .1 .1 .0 ∙ l .inv .0, matching-still (c .before .before .before .before .before .before .before .before .before .before .before .args .s) (c .before .before .before .before .before .before .before .before .before .before .before .args .first .now) (c .before .before .before .before .before .before .before .before .before .before .before .args .second .now) (c .before .before .before .before .before .before .before .before .before .before .before .pre .0) (k .args .v) (l .work) (p .last .1 .1 .1 .0) (k .pre .1 .0) (l .inv .1) (p .ensures), le-trans (load-down (c .before .before .before .before .before .before .before .before .before .before .before .args .s) (c .before .before .before .before .before .before .before .before .before .before .before .args .first .now) (c .before .before .before .before .before .before .before .before .before .before .before .args .second .now) (c .before .before .before .before .before .before .before .before .before .before .before .pre .0) (k .args .v) (l .work) (p .last .1 .1 .1 .0) (k .pre .1 .0) (l .inv .1) (p .ensures)) (l .inv .2))
+
+-- src/refine.rt:51:1
+same-length : tie.Need-same-length Inv-loop μ-loop
+same-length c = c .before .before .before .loop .inv .0
+
+-- src/refine.rt:51:1
+returns : tie.Need-returns Inv-loop μ-loop
+returns c = (c .before .before .before .loop .inv .1, c .before .before .before .loop .inv .2)
+
+pub settle-node-spec : {M : Type 1} → statement M
+settle-node-spec =
+    tie.close
+    (tie.spec
+    Inv-loop
+    μ-loop
+    loop-holds
+    has-lost-requires
+    take-requires
+    loop-less
+    loop-again
+    same-length
+    returns)

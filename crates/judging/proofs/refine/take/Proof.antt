@@ -1,0 +1,75 @@
+use mathlib.Core.Path.{_≡_, refl, sym, ap, subst, _∙_}
+use mathlib.Core.Logic.{inl, inr}
+use mathlib.Core.Bool.{not}
+use Prim.Native.Nat.{ℕ, _+_, _*_, _-_, _≤_, _<_}
+use native.Mathlib.Omega.{arith}
+use lib.Dec.{T}
+use lib.ListN.{length, getD}
+use Rattle.files.specs.Decode.{decode-graph}
+use Rattle.judging.specs.Refinement.{rel, held, load, edge, labelled-into, In, Within, Handed, Sifted, Shrank, LabelMatched, Matching}
+use Rattle.judging.specs.Refinement.Handing.{handed-none, handed-on, handed-over, sifted-none, sifted-on, sifted-over, sifted-absent, sifted-unmet, sifted-met, shrank-none, shrank-on}
+use Rattle.judging.proofs.LevelLaws.{Walk}
+use Rattle.judging.proofs.MatchLaws.{byte-kept, byte-blank, slot-start, slot-item, slot-less, source-added, all-added, source-dropped, all-dropped, lost-added, not-lost, found-all, found-lost, may-drop, label-done, label-empty, labels-kept, contained, taken, matching-start, matching-more, matching-still, load-down, load-less, may-take, settled-all, held-still, none-within}
+use borrow.Author.Needs.{needs}
+use Rattle.judging.proofs.refine.take.Statement.{statement}
+use Rattle.judging.proofs.refine.take.Tie as tie
+use Rattle.judging.proofs.refine.take.Reads as reads
+use Rattle.judging.proofs.refine.take.Lts as lts
+use Rattle.judging.proofs.matches.hand_on.Reads as hand-on-reads
+use Rattle.judging.proofs.rows.put_row.Reads as put-row-reads
+use Rattle.judging.proofs.rows.row_at.Reads as row-at-reads
+
+-- src/refine.rt:25:28
+mul-row-at : tie.Need-mul-row-at
+mul-row-at c = search needs
+
+-- src/refine.rt:25:15
+row-at-requires : tie.Need-row-at-requires
+row-at-requires c κs = search needs
+
+-- src/refine.rt:26:40
+slice-aggregate-hand-on : tie.Need-slice-aggregate-hand-on
+slice-aggregate-hand-on c = search needs
+
+-- src/refine.rt:26:5
+hand-on-requires : tie.Need-hand-on-requires
+hand-on-requires c κs = let k = c .before .before .before .before .before .before .before in (omega (arith, c .before .before .row-at .ensures .0), (k .pre .0, (k .pre .1 .0, (k .pre .1 .1 .0, (k .pre .1 .1 .1, contained (c .before .before .before .before .before .before .before .args .s) (c .before .before .before .before .before .before .before .args .first .now) (c .before .before .before .before .before .before .before .args .second .now) (c .before .before .before .before .before .before .before .pre .0) (k .args .work .now) (c .before .before .row-at .result) (k .args .v) (k .pre .1 .1 .0) (c .before .before .row-at .ensures .1))))))
+
+-- src/refine.rt:27:33
+mul-put-row : tie.Need-mul-put-row
+mul-put-row c = search needs
+
+-- src/refine.rt:27:19
+add-put-row : tie.Need-add-put-row
+add-put-row c = search needs
+
+-- src/refine.rt:27:43
+slice-aggregate-put-row : tie.Need-slice-aggregate-put-row
+slice-aggregate-put-row c = search needs
+
+-- src/refine.rt:27:5
+put-row-requires : tie.Need-put-row-requires
+put-row-requires c κs = let k = c .before .before .before .before .before .before .before .before .before .before .before .before in (omega (arith, k .pre .1 .0, k .pre .0 .few-first-nodes, c .before .before .before .before .hand-on .kept .1 .1 .1 .0, k .pre .1 .1 .0 .room), omega (arith, c .before .before .before .before .before .before .before .row-at .ensures .0))
+
+-- src/refine.rt:21:1
+same-length : tie.Need-same-length
+same-length c = search needs
+
+-- src/refine.rt:21:1
+returns : tie.Need-returns
+returns c = let k = c .before .before .before .before .before .before .before .before .before .before .before .before .before .before .before in taken (c .before .before .before .before .before .before .before .before .before .before .before .before .before .before .before .args .s) (c .before .before .before .before .before .before .before .before .before .before .before .before .before .before .before .args .first .now) (c .before .before .before .before .before .before .before .before .before .before .before .before .before .before .before .args .second .now) (c .before .before .before .before .before .before .before .before .before .before .before .before .before .before .before .pre .0) (k .args .v) (k .pre .1 .0) (k .args .work .now) (c .before .before .before .before .before .before .before .hand-on .last .1 .1 .1 .0) (c .before .before .put-row .last .0) (c .before .before .before .before .before .before .before .before .before .before .row-at .result) (c .before .before .before .before .before .before .before .before .before .before .row-at .ensures .1) (c .before .before .before .before .before .before .before .hand-on .ensures .0) (c .before .before .before .before .before .before .before .hand-on .ensures .1) (c .before .before .put-row .ensures .0) (c .before .before .put-row .ensures .1) (c .before .before .put-row .kept .0)
+
+pub take-spec : {M : Type 1} → statement M
+take-spec =
+    tie.close
+    (tie.spec
+    mul-row-at
+    row-at-requires
+    slice-aggregate-hand-on
+    hand-on-requires
+    mul-put-row
+    add-put-row
+    slice-aggregate-put-row
+    put-row-requires
+    same-length
+    returns)

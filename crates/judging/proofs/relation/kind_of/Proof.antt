@@ -1,0 +1,80 @@
+use mathlib.Core.Path.{_≡_, refl, sym, ap, subst, _∙_}
+use mathlib.Core.Bool.{_&&_}
+use Prim.Native.Nat.{ℕ, _+_, _*_, _-_, _≤_, _<_}
+use native.Mathlib.Omega.{arith}
+use lib.Dec.{ltb}
+use lib.ListN.{length, getD}
+use Rattle.files.specs.Decode.{decode-graph}
+use Rattle.files.specs.Graph.{node, no-edge}
+use Rattle.judging.specs.Chains.{Chained, Outside}
+use Rattle.judging.specs.Refinement.{rel, edge, KindRows, labelled-into}
+use Rattle.judging.specs.Refinement.Preparing.{Putting}
+use Rattle.judging.specs.Simulation.{alike}
+use Rattle.judging.proofs.HeldLaws.{held-edge, held-node}
+use Rattle.judging.proofs.RelationLaws.{kind-returns, kind-goes-on, kinds-start, kinds-turn, related-turn, slot-is, slots-start, may-slot, slots-turn, edge-fits, edge-put, putting-start, putting-turn, putting-all}
+use borrow.Author.Needs.{needs}
+use Rattle.judging.proofs.relation.kind_of.Statement.{statement}
+use Rattle.judging.proofs.relation.kind_of.Tie as tie
+use Rattle.judging.proofs.relation.kind_of.Reads as reads
+use Rattle.judging.proofs.relation.kind_of.Lts as lts
+use Rattle.files.proofs.graph.node_at.Reads as node-at-reads
+
+-- src/relation.rt:34:25
+node-at-requires : tie.Need-node-at-requires
+node-at-requires c κs = search needs
+
+-- src/relation.rt:34:20
+enum-known-v : tie.Need-enum-known-v
+enum-known-v c = search needs
+
+-- src/relation.rt:35:9
+enum-told : tie.Need-enum-told
+enum-told c = search needs
+
+-- src/relation.rt:35:9
+returns : tie.Need-returns
+returns c = search needs
+
+-- src/relation.rt:38:21
+cast-result : tie.Need-cast-result
+cast-result c = search needs
+
+-- src/relation.rt:38:16
+mul-result : tie.Need-mul-result
+mul-result c = search needs
+
+-- src/relation.rt:38:16
+add-result : tie.Need-add-result
+add-result c = search needs
+
+-- src/relation.rt:38:9
+returns-2 : tie.Need-returns-2
+returns-2 c = kind-returns (c .before .before .before .before .before .before .before .args .graph .now) (c .before .before .before .before .before .before .before .pre .0) (c .before .before .before .before .before .before .before .args .g) (c .before .before .before .before .before .before .before .pre .1) (c .before .before .before .v .given .0 .0) (held-node (c .before .before .before .before .before .node-at .result) _ (node (decode-graph (c .before .before .before .before .before .before .before .args .graph .now)) (c .before .before .before .before .before .before .before .args .g)) (c .before .before .before .v .given .1) (c .before .before .before .before .before .node-at .ensures)) (c .before .if1 .taken)
+
+-- src/relation.rt:40:10
+cast-result-2 : tie.Need-cast-result-2
+cast-result-2 c = search needs
+
+-- src/relation.rt:40:5
+mul-result-2 : tie.Need-mul-result-2
+mul-result-2 c = search needs
+
+-- src/relation.rt:30:1
+returns-3 : tie.Need-returns-3
+returns-3 c = kind-goes-on (c .before .before .before .before .before .before .before .args .graph .now) (c .before .before .before .before .before .before .before .pre .0) (c .before .before .before .before .before .before .before .args .g) (c .before .before .before .before .before .before .before .pre .1) (c .before .before .before .v .given .0 .0) (held-node (c .before .before .before .before .before .node-at .result) _ (node (decode-graph (c .before .before .before .before .before .before .before .args .graph .now)) (c .before .before .before .before .before .before .before .args .g)) (c .before .before .before .v .given .1) (c .before .before .before .before .before .node-at .ensures)) (c .before .if1 .left)
+
+pub kind-of-spec : {M : Type 1} → statement M
+kind-of-spec =
+    tie.close
+    (tie.spec
+    node-at-requires
+    enum-known-v
+    enum-told
+    returns
+    cast-result
+    mul-result
+    add-result
+    returns-2
+    cast-result-2
+    mul-result-2
+    returns-3)

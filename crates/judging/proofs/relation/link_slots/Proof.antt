@@ -1,0 +1,80 @@
+use mathlib.Core.Path.{_≡_, refl, sym, ap, subst, _∙_}
+use mathlib.Core.Bool.{_&&_}
+use Prim.Native.Nat.{ℕ, _+_, _*_, _-_, _≤_, _<_}
+use native.Mathlib.Omega.{arith}
+use lib.Dec.{ltb}
+use lib.ListN.{length, getD}
+use borrow.Author.Needs.{needs}
+use Rattle.files.specs.Decode.{decode-graph}
+use Rattle.files.specs.Graph.{node, no-edge}
+use Rattle.judging.specs.Chains.{Chained, Outside}
+use Rattle.judging.specs.Refinement.{rel, edge, KindRows, labelled-into}
+use Rattle.judging.specs.Refinement.Preparing.{Putting}
+use Rattle.judging.specs.Simulation.{alike}
+use Rattle.judging.proofs.HeldLaws.{held-edge, held-node}
+use Rattle.judging.proofs.RelationLaws.{kind-returns, kind-goes-on, kinds-start, kinds-turn, related-turn, slot-is, slots-start, may-slot, slots-turn, edge-fits, edge-put, putting-start, putting-turn, putting-all}
+use Rattle.judging.proofs.relation.link_slots.Statement.{statement}
+use Rattle.judging.proofs.relation.link_slots.Tie as tie
+use Rattle.judging.proofs.relation.link_slots.Reads as reads
+use Rattle.judging.proofs.relation.link_slots.Lts as lts
+use Rattle.judging.proofs.chains.link.Reads as link-reads
+use Rattle.judging.proofs.relation.slot_of.Reads as slot-of-reads
+
+abbrev Inv-loop : tie.InvT-loop
+Inv-loop first second s work₀ e₀ work e = (e ≤ s .edges) × (length work ≡ length work₀) × Chained work 16960 21568 (labelled-into (decode-graph first)) (9 * s .nodes) e × Outside 16960 29760 work₀ work
+
+abbrev μ-loop : tie.MeasureT-loop
+μ-loop first second s work₀ e₀ work e = s .edges - e
+
+-- src/relation.rt:87:5
+loop-holds : tie.Need-loop-holds Inv-loop μ-loop
+loop-holds c = (omega arith, refl, slots-start (c .before .before .before .args .s) (c .before .before .before .args .first .now) (c .before .before .before .args .second .now) (c .before .before .before .pre .0) (c .before .before .before .args .work .now) (c .before .before .before .pre .1 .1), λ q d. refl)
+
+-- src/relation.rt:88:13
+slot-of-requires : tie.Need-slot-of-requires Inv-loop μ-loop
+slot-of-requires c κs = (c .before .before .before .before .before .before .pre .0, c .if1 .taken)
+
+-- src/relation.rt:89:9
+link-requires : tie.Need-link-requires Inv-loop μ-loop
+link-requires c κs = may-slot (c .before .before .before .before .before .before .before .before .args .s) (c .before .before .before .before .before .before .before .before .args .first .now) (c .before .before .before .before .before .before .before .before .args .second .now) (c .before .before .before .before .before .before .before .before .pre .0) (c .before .before .before .before .loop .work) (c .before .before .before .before .loop .e) (c .before .slot-of .result) (c .before .before .if1 .taken) (omega (arith, c .before .before .before .before .loop .inv .1, c .before .before .before .before .before .before .before .before .pre .1 .0)) (c .before .slot-of .ensures)
+
+-- src/relation.rt:90:9
+add-e : tie.Need-add-e Inv-loop μ-loop
+add-e c = omega (arith, c .before .before .before .before .before .if1 .taken, c .before .before .before .before .before .before .before .before .before .before .before .pre .0 .few-first-edges)
+
+-- src/relation.rt:87:5
+loop-less : tie.Need-loop-less Inv-loop μ-loop
+loop-less c = omega (arith, c .before .before .before .before .before .if1 .taken)
+
+-- src/relation.rt:87:5
+loop-again : tie.Need-loop-again Inv-loop μ-loop
+loop-again c = let k = c .before .before .before .before .before .before .before .before .before .before .before in
+    let l = c .before .before .before .before .before .before .before .loop in
+    let p = c .before .before .link in
+    let r = slots-turn (c .before .before .before .before .before .before .before .before .before .before .before .args .s) (c .before .before .before .before .before .before .before .before .before .before .before .args .first .now) (c .before .before .before .before .before .before .before .before .before .before .before .args .second .now) (c .before .before .before .before .before .before .before .before .before .before .before .pre .0) (k .args .work .now) (l .work) (p .last .0) (l .e) (c .before .before .before .before .slot-of .result) (c .before .before .before .before .before .if1 .taken) (omega (arith, l .inv .1, k .pre .1 .0)) (c .before .before .before .before .slot-of .ensures) (l .inv .2) (l .inv .3) (p .ensures) in
+    (omega (arith, c .before .before .before .before .before .if1 .taken), p .kept .0 ∙ l .inv .1, r .0, r .1)
+
+-- src/relation.rt:82:1
+same-length : tie.Need-same-length Inv-loop μ-loop
+same-length c = c .before .before .loop .inv .1
+
+-- src/relation.rt:82:1
+returns : tie.Need-returns Inv-loop μ-loop
+returns c = let l = c .before .before .loop in
+    let e : l .e ≡ c .before .before .before .before .before .before .args .s .edges = omega (arith, c .if1 .left, l .inv .0) in
+    (subst (Chained (l .work) 16960 21568 (labelled-into (decode-graph (c .before .before .before .before .before .before .args .first .now))) (9 * c .before .before .before .before .before .before .args .s .nodes)) e (l .inv .2), l .inv .3)
+
+pub link-slots-spec : {M : Type 1} → statement M
+link-slots-spec =
+    tie.close
+    (tie.spec
+    Inv-loop
+    μ-loop
+    loop-holds
+    slot-of-requires
+    link-requires
+    add-e
+    loop-less
+    loop-again
+    same-length
+    returns)

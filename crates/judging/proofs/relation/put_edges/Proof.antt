@@ -1,0 +1,72 @@
+use mathlib.Core.Path.{_≡_, refl, sym, ap, subst, _∙_}
+use mathlib.Core.Bool.{_&&_}
+use Prim.Native.Nat.{ℕ, _+_, _*_, _-_, _≤_, _<_}
+use native.Mathlib.Omega.{arith}
+use lib.Dec.{ltb}
+use lib.ListN.{length, getD}
+use borrow.Author.Needs.{needs}
+use Rattle.files.specs.Decode.{decode-graph}
+use Rattle.files.specs.Graph.{node, no-edge}
+use Rattle.judging.specs.Chains.{Chained, Outside}
+use Rattle.judging.specs.Refinement.{rel, edge, KindRows, labelled-into}
+use Rattle.judging.specs.Refinement.Preparing.{Putting}
+use Rattle.judging.specs.Simulation.{alike}
+use Rattle.judging.proofs.HeldLaws.{held-edge, held-node}
+use Rattle.judging.proofs.RelationLaws.{kind-returns, kind-goes-on, kinds-start, kinds-turn, related-turn, slot-is, slots-start, may-slot, slots-turn, edge-fits, edge-put, putting-start, putting-turn, putting-all}
+use Rattle.judging.proofs.relation.put_edges.Statement.{statement}
+use Rattle.judging.proofs.relation.put_edges.Tie as tie
+use Rattle.judging.proofs.relation.put_edges.Reads as reads
+use Rattle.judging.proofs.relation.put_edges.Lts as lts
+use Rattle.judging.proofs.relation.put_edge.Reads as put-edge-reads
+
+abbrev Inv-loop : tie.InvT-loop
+Inv-loop first second s work₀ j₀ work j = (j ≤ s .edges2) × (length work ≡ length work₀) × Putting (decode-graph second) (s .nodes2) j work × Outside 30816 178272 work₀ work
+
+abbrev μ-loop : tie.MeasureT-loop
+μ-loop first second s work₀ j₀ work j = s .edges2 - j
+
+-- src/relation.rt:113:5
+loop-holds : tie.Need-loop-holds Inv-loop μ-loop
+loop-holds c = (omega arith, refl, putting-start (c .before .before .before .args .s) (c .before .before .before .args .first .now) (c .before .before .before .args .second .now) (c .before .before .before .pre .0) (c .before .before .before .args .work .now) (c .before .before .before .pre .1 .1), λ q d. refl)
+
+-- src/relation.rt:114:9
+put-edge-requires : tie.Need-put-edge-requires Inv-loop μ-loop
+put-edge-requires c κs = (c .before .before .before .before .before .before .before .pre .0, (c .before .if1 .taken, omega (arith, c .before .before .before .loop .inv .1, c .before .before .before .before .before .before .before .pre .1 .0)))
+
+-- src/relation.rt:115:9
+add-j : tie.Need-add-j Inv-loop μ-loop
+add-j c = omega (arith, c .before .before .before .before .if1 .taken, c .before .before .before .before .before .before .before .before .before .before .pre .0 .few-second-edges)
+
+-- src/relation.rt:113:5
+loop-less : tie.Need-loop-less Inv-loop μ-loop
+loop-less c = omega (arith, c .before .before .before .before .if1 .taken)
+
+-- src/relation.rt:113:5
+loop-again : tie.Need-loop-again Inv-loop μ-loop
+loop-again c = let k = c .before .before .before .before .before .before .before .before .before .before in
+    let l = c .before .before .before .before .before .before .loop in
+    let p = c .before .before .put-edge in
+    let r = putting-turn (c .before .before .before .before .before .before .before .before .before .before .args .s) (c .before .before .before .before .before .before .before .before .before .before .args .first .now) (c .before .before .before .before .before .before .before .before .before .before .args .second .now) (c .before .before .before .before .before .before .before .before .before .before .pre .0) (k .args .work .now) (l .work) (p .last .1 .1 .1 .0) (l .j) (c .before .before .before .before .if1 .taken) (omega (arith, l .inv .1, k .pre .1 .0)) (l .inv .2) (l .inv .3) (p .ensures) in
+    (omega (arith, c .before .before .before .before .if1 .taken), p .kept .1 .1 .1 .0 ∙ l .inv .1, r .0, r .1)
+
+-- src/relation.rt:108:1
+same-length : tie.Need-same-length Inv-loop μ-loop
+same-length c = c .before .before .loop .inv .1
+
+-- src/relation.rt:108:1
+returns : tie.Need-returns Inv-loop μ-loop
+returns c = (putting-all (c .before .before .before .before .before .before .args .s) (c .before .before .before .before .before .before .args .first .now) (c .before .before .before .before .before .before .args .second .now) (c .before .before .before .before .before .before .pre .0) (c .before .before .loop .work) (c .before .before .loop .j) (omega (arith, c .if1 .left)) (c .before .before .loop .inv .2), c .before .before .loop .inv .3)
+
+pub put-edges-spec : {M : Type 1} → statement M
+put-edges-spec =
+    tie.close
+    (tie.spec
+    Inv-loop
+    μ-loop
+    loop-holds
+    put-edge-requires
+    add-j
+    loop-less
+    loop-again
+    same-length
+    returns)

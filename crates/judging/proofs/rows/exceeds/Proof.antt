@@ -1,0 +1,92 @@
+use mathlib.Core.Path.{_≡_, refl, sym, ap, subst, _∙_}
+use mathlib.Core.Logic.{inr}
+use Prim.Native.Nat.{ℕ, _+_, _-_, _≤_, _<_}
+use native.Mathlib.Omega.{arith}
+use native.Mathlib.Nat.{zero-add}
+use lib.Bits.{bitOr, bitAnd}
+use lib.Dec.{eqb→eq}
+use lib.ListN.{length, getD, set, length-set}
+use borrow.Author.Needs.{needs}
+use Rattle.judging.specs.Refinement.Rows.{Bytes, bytes-none, bytes-on, joined}
+use Rattle.judging.proofs.RowLaws.{added-bits, copied-bits, written-beside, stored-bits, dropped-bits, joined-more, meets-by, blank-bits, exceeds-by}
+use Rattle.judging.proofs.LevelLaws.{below-more}
+use borrow.Author.Needs.{needs}
+use Rattle.judging.proofs.rows.exceeds.Statement.{statement}
+use Rattle.judging.proofs.rows.exceeds.Tie as tie
+use Rattle.judging.proofs.rows.exceeds.Reads as reads
+use Rattle.judging.proofs.rows.exceeds.Lts as lts
+use Rattle.files.proofs.cells.wide.Reads as wide-reads
+use Rattle.judging.proofs.rows.without.Reads as without-reads
+
+abbrev Inv-loop : tie.InvT-loop
+Inv-loop work at less any₀ k₀ any k = (k ≤ 32) × (any ≡ joined (λ j. bitAnd (getD work (at + j) 0) (255 - getD work (less + j) 0)) k) × ((j : ℕ) → j < k → getD work (less + j) 0 < 256)
+
+abbrev μ-loop : tie.MeasureT-loop
+μ-loop work at less any₀ k₀ any k = 32 - k
+
+-- src/rows.rt:105:5
+loop-holds : tie.Need-loop-holds Inv-loop μ-loop
+loop-holds c = (omega arith, refl, λ j h. absurd (omega arith))
+
+-- src/rows.rt:106:34
+add-without : tie.Need-add-without Inv-loop μ-loop
+add-without c = search needs
+
+-- src/rows.rt:106:29
+shared-slice-read-without : tie.Need-shared-slice-read-without Inv-loop μ-loop
+shared-slice-read-without c = search needs
+
+-- src/rows.rt:106:48
+add-without-2 : tie.Need-add-without-2 Inv-loop μ-loop
+add-without-2 c = search needs
+
+-- src/rows.rt:106:43
+shared-slice-read-without-2 : tie.Need-shared-slice-read-without-2 Inv-loop μ-loop
+shared-slice-read-without-2 c = search needs
+
+-- src/rows.rt:106:21
+without-requires : tie.Need-without-requires Inv-loop μ-loop
+without-requires c κs = search needs
+
+-- src/rows.rt:107:9
+add-k : tie.Need-add-k Inv-loop μ-loop
+add-k c = search needs
+
+-- src/rows.rt:105:5
+loop-less : tie.Need-loop-less Inv-loop μ-loop
+loop-less c = search needs
+
+-- src/rows.rt:105:5
+loop-again : tie.Need-loop-again Inv-loop μ-loop
+loop-again c = let a = c .before .before .before .before .before .before .args in
+    let l = c .before .before .before .before .loop in
+    let w = a .work .now in
+    (omega (arith, c .before .before .before .loop-test .taken), ap (bitOr (l .any)) (c .without .ensures .0) ∙ joined-more (λ j. bitAnd (getD w (a .at + j) 0) (255 - getD w (a .less + j) 0)) (l .any) (l .k) (l .inv .1), below-more (λ j. getD w (a .less + j) 0 < 256) (l .k) (l .inv .2) (c .without .ensures .1))
+
+-- src/rows.rt:109:5
+wide-requires : tie.Need-wide-requires Inv-loop μ-loop
+wide-requires c κs = search needs
+
+-- src/rows.rt:99:1
+returns : tie.Need-returns Inv-loop μ-loop
+returns c = let a = c .before .before .before .before .args in
+    let l = c .before .before .loop in
+    exceeds-by (a .work .now) (a .at) (a .less) (l .any) (l .k) (c .wide .result) (l .inv .1) (l .inv .2) (l .inv .0) (omega (arith, c .before .loop-test .left)) (c .wide .ensures .0) (c .wide .ensures .1)
+
+pub exceeds-spec : {M : Type 1} → statement M
+exceeds-spec =
+    tie.close
+    (tie.spec
+    Inv-loop
+    μ-loop
+    loop-holds
+    add-without
+    shared-slice-read-without
+    add-without-2
+    shared-slice-read-without-2
+    without-requires
+    add-k
+    loop-less
+    loop-again
+    wide-requires
+    returns)

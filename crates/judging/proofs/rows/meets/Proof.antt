@@ -1,0 +1,80 @@
+use mathlib.Core.Path.{_≡_, refl, sym, ap, subst, _∙_}
+use mathlib.Core.Logic.{inr}
+use Prim.Native.Nat.{ℕ, _+_, _-_, _≤_, _<_}
+use native.Mathlib.Omega.{arith}
+use native.Mathlib.Nat.{zero-add}
+use lib.Bits.{bitOr, bitAnd}
+use lib.Dec.{eqb→eq}
+use lib.ListN.{length, getD, set, length-set}
+use borrow.Author.Needs.{needs}
+use Rattle.judging.specs.Refinement.Rows.{Bytes, bytes-none, bytes-on, joined}
+use Rattle.judging.proofs.RowLaws.{added-bits, copied-bits, written-beside, stored-bits, dropped-bits, joined-more, meets-by, blank-bits, exceeds-by}
+use Rattle.judging.proofs.LevelLaws.{below-more}
+use borrow.Author.Needs.{needs}
+use Rattle.judging.proofs.rows.meets.Statement.{statement}
+use Rattle.judging.proofs.rows.meets.Tie as tie
+use Rattle.judging.proofs.rows.meets.Reads as reads
+use Rattle.judging.proofs.rows.meets.Lts as lts
+use Rattle.files.proofs.cells.wide.Reads as wide-reads
+
+abbrev Inv-loop : tie.InvT-loop
+Inv-loop row work at any₀ k₀ any k = (k ≤ 32) × (any ≡ joined (λ j. bitAnd (getD row j 0) (getD work (at + j) 0)) k)
+
+abbrev μ-loop : tie.MeasureT-loop
+μ-loop row work at any₀ k₀ any k = 32 - k
+
+-- src/rows.rt:77:5
+loop-holds : tie.Need-loop-holds Inv-loop μ-loop
+loop-holds c = (omega arith, refl)
+
+-- src/rows.rt:78:22
+shared-slice-read-any : tie.Need-shared-slice-read-any Inv-loop μ-loop
+shared-slice-read-any c = search needs
+
+-- src/rows.rt:78:36
+add-any : tie.Need-add-any Inv-loop μ-loop
+add-any c = search needs
+
+-- src/rows.rt:78:31
+shared-slice-read-any-2 : tie.Need-shared-slice-read-any-2 Inv-loop μ-loop
+shared-slice-read-any-2 c = search needs
+
+-- src/rows.rt:79:9
+add-k : tie.Need-add-k Inv-loop μ-loop
+add-k c = search needs
+
+-- src/rows.rt:77:5
+loop-less : tie.Need-loop-less Inv-loop μ-loop
+loop-less c = search needs
+
+-- src/rows.rt:77:5
+loop-again : tie.Need-loop-again Inv-loop μ-loop
+loop-again c = let a = c .before .before .before .before .before .before .args in
+    let l = c .before .before .before .loop in
+    (omega (arith, c .before .before .loop-test .taken), joined-more (λ j. bitAnd (getD (a .row .now) j 0) (getD (a .work .now) (a .at + j) 0)) (l .any) (l .k) (l .inv .1))
+
+-- src/rows.rt:81:5
+wide-requires : tie.Need-wide-requires Inv-loop μ-loop
+wide-requires c κs = search needs
+
+-- src/rows.rt:71:1
+returns : tie.Need-returns Inv-loop μ-loop
+returns c = let a = c .before .before .before .before .before .args in
+    let l = c .before .before .loop in
+    meets-by (a .row .now) (a .work .now) (a .at) (l .any) (l .k) (c .wide .result) (l .inv .1) (l .inv .0) (omega (arith, c .before .loop-test .left)) (c .wide .ensures .0) (c .wide .ensures .1)
+
+pub meets-spec : {M : Type 1} → statement M
+meets-spec =
+    tie.close
+    (tie.spec
+    Inv-loop
+    μ-loop
+    loop-holds
+    shared-slice-read-any
+    add-any
+    shared-slice-read-any-2
+    add-k
+    loop-less
+    loop-again
+    wide-requires
+    returns)

@@ -1,0 +1,295 @@
+-- Laws of handing on a row: candidates as they are found, sifting them, dropping what is left of them, and that edges are matched by the row then.
+use mathlib.Core.Path.{_≡_, refl, sym, ap, subst, _∙_}
+use mathlib.Core.Logic.{_⊎_, inl, inr}
+use mathlib.Core.Bool.{Bool, true, false, not, _&&_, _||_}
+use mathlib.Core.List.{List}
+use Prim.Native.Nat.{ℕ, _+_, _*_, _/_, _≤_, _<_}
+use native.Mathlib.Decide.{ℕ-discrete, decLt}
+use native.Mathlib.Omega.{arith}
+use lib.Dec.{T, T-not, eqb, eqb→eq}
+use lib.ListN.{length, getD}
+use Rattle.files.specs.Basics.Lists.{index-i, index-e}
+use Rattle.files.specs.Basics.Tests.{and-l, and-r, or-e, or-l, or-r, eq-eqb}
+use Rattle.files.specs.Cells.{cell, has-bit, drop-bit}
+use Rattle.files.specs.Cells.Laws.{bit-byte, cell-agree, drop-same, drop-other}
+use Rattle.files.specs.Graph.{Graph, Edge, size, node, no-edge, Flow}
+use Rattle.judging.specs.Chains.{Outside}
+use Rattle.judging.specs.Chains.Laws.{chained-same}
+use Rattle.judging.specs.Refinement.{rel, held, edge, follows, comes, labelled-into, leads-into, Reaches, Neighbours, In, Within, HeldInside, Handed, Meets, Sifted, Refining, Shrank, Contained, LabelMatched, NodeMatched, Candidates}
+use Rattle.judging.specs.Refinement.Preparing.{leads-into-i, leads-into-e}
+use Rattle.judging.specs.Simulation.{alike, related}
+use Rattle.judging.specs.Simulation.Laws.{related-e, related-simulation}
+
+-- ---- predecessors of what was lost
+
+module _ (n : ℕ) (w : List ℕ) (v l : ℕ) (r : List ℕ) where
+  pub handed-none : (c : List ℕ) (a : ℕ) → Within n c → Handed n w v l r c c a a
+  handed-none c a i = record { within = i; grown = λ x b t. t; added = λ h x p q b. absurd (omega arith) }
+
+  pub handed-on : (c c′ c″ : List ℕ) (a b d : ℕ) → Handed n w v l r c c′ a b → Handed n w v l r c′ c″ b d → Handed n w v l r c c″ a d
+  handed-on c c′ c″ a b d x y = record { within = y .within; grown = λ k m t. y .grown k m (x .grown k m t); added = λ h k p q m s f t. go h k p q m s f t (decLt h b) }
+    where
+      go : (h k : ℕ) → a ≤ h → h < d → k < 256 → T (held w v h) → (In r h → ⊥) → T (comes w h l k) → Dec (h < b) → In c″ k
+      go h k p q m s f t (yes z) = y .grown k m (x .added h k p z m s f t)
+      go h k p q m s f t (no z) = y .added h k (omega arith) q m s f t
+
+  -- nothing was lost from b up to d
+  pub handed-over : (c c′ : List ℕ) (a b d : ℕ) → ((h : ℕ) → b ≤ h → h < d → T (held w v h) → (In r h → ⊥) → ⊥) → Handed n w v l r c c′ a b → Handed n w v l r c c′ a d
+  handed-over c c′ a b d none x = record { within = x .within; grown = x .grown; added = λ h k p q m s f t. go h k p q m s f t (decLt h b) }
+    where
+      go : (h k : ℕ) → a ≤ h → h < d → k < 256 → T (held w v h) → (In r h → ⊥) → T (comes w h l k) → Dec (h < b) → In c′ k
+      go h k p q m s f t (yes z) = x .added h k p z m s f t
+      go h k p q m s f t (no z) = absurd (none h (omega arith) q s f)
+
+  -- the predecessors of one node
+  pub handed-one : (H : Graph) → Neighbours H n w → ((d : ℕ) → d < length (H .edges) → (edge H d) .from < n) → (c c′ : List ℕ) (h : ℕ) → h < n → l < 9 → Within n c
+      → ((x : ℕ) → x < 256 → has-bit c′ 0 x ≡ (has-bit c 0 x || comes w h l x)) → Handed n w v l r c c′ h (h + 1)
+  handed-one H near sources c c′ h hn hl i bits = record {
+    within = λ x b t. go x b (or-e (has-bit c 0 x) (comes w h l x) (subst T (bits x b) t));
+    grown = λ x b t. subst T (sym (bits x b)) (or-l (has-bit c 0 x) (comes w h l x) t);
+    added = λ k x p q b s f t. subst T (sym (bits x b)) (or-r (has-bit c 0 x) (comes w h l x) (let e : k ≡ h = omega arith in subst (λ (m : ℕ). T (comes w m l x)) e t));
+  }
+    where
+      go : (x : ℕ) → x < 256 → In c x ⊎ T (comes w h l x) → x < n
+      go x b (inl t) = i x b t
+      go x b (inr t) = let d = leads-into-e H h l x (subst T (near .predecessors h l x hn hl b) t) in subst (λ (m : ℕ). m < n) (d .2) (sources (d .0) (d .1))
+
+-- ---- sifting
+
+module _ (w : List ℕ) (l : ℕ) (r : List ℕ) where
+  pub sifted-none : (c : List ℕ) (a : ℕ) → Sifted w l r c c a a
+  sifted-none c a = record { fewer = λ x b t. t; beside = λ x b d t. t; taken-out = λ x p q. absurd (omega arith); left-in = λ x p q. absurd (omega arith) }
+
+  pub sifted-on : (c c′ c″ : List ℕ) (a b d : ℕ) → a ≤ b → b ≤ d → d ≤ 256 → Sifted w l r c c′ a b → Sifted w l r c′ c″ b d → Sifted w l r c c″ a d
+  sifted-on c c′ c″ a b d ab bd few y z = record {
+    fewer = λ x m t. y .fewer x m (z .fewer x m t);
+    beside = λ x m s t. both x m s t;
+    taken-out = λ x p q t f. out x p q t f (decLt x b);
+    left-in = λ x p q t. stay x p q t (decLt x b);
+  }
+    where
+      both : (x : ℕ) → x < 256 → (x < a) ⊎ (d ≤ x) → In c x → In c″ x
+      both x m (inl s) t = z .beside x m (inl (omega arith)) (y .beside x m (inl s) t)
+      both x m (inr s) t = z .beside x m (inr s) (y .beside x m (inr (omega arith)) t)
+
+      out : (x : ℕ) → a ≤ x → x < d → In c x → (In c″ x → ⊥) → Dec (x < b) → Meets w l r x
+      out x p q t f (yes h) = y .taken-out x p h t (λ i. f (z .beside x (omega arith) (inl h) i))
+      out x p q t f (no h) = z .taken-out x (omega arith) q (y .beside x (omega arith) (inr (omega arith)) t) f
+
+      stay : (x : ℕ) → a ≤ x → x < d → In c″ x → Dec (x < b) → Meets w l r x → ⊥
+      stay x p q t (yes h) = y .left-in x p h (z .fewer x (omega arith) t)
+      stay x p q t (no h) = z .left-in x (omega arith) q t
+
+  -- nothing is there from b up to d
+  pub sifted-over : (c c′ : List ℕ) (a b d : ℕ) → b ≤ d → d ≤ 256 → ((x : ℕ) → b ≤ x → x < d → In c′ x → ⊥) → Sifted w l r c c′ a b → Sifted w l r c c′ a d
+  sifted-over c c′ a b d bd few none y = record {
+    fewer = y .fewer;
+    beside = λ x m s t. both x m s t;
+    taken-out = λ x p q t f. out x p q t f (decLt x b);
+    left-in = λ x p q t. stay x p q t (decLt x b);
+  }
+    where
+      both : (x : ℕ) → x < 256 → (x < a) ⊎ (d ≤ x) → In c x → In c′ x
+      both x m (inl s) t = y .beside x m (inl s) t
+      both x m (inr s) t = y .beside x m (inr (omega arith)) t
+
+      out : (x : ℕ) → a ≤ x → x < d → In c x → (In c′ x → ⊥) → Dec (x < b) → Meets w l r x
+      out x p q t f (yes h) = y .taken-out x p h t f
+      out x p q t f (no h) = absurd (f (y .beside x (omega arith) (inr (omega arith)) t))
+
+      stay : (x : ℕ) → a ≤ x → x < d → In c′ x → Dec (x < b) → Meets w l r x → ⊥
+      stay x p q t (yes h) = y .left-in x p h t
+      stay x p q t (no h) = absurd (none x (omega arith) q t)
+
+  -- one node: not there, matched, or not
+  pub sifted-absent : (c : List ℕ) (x : ℕ) → x < 256 → has-bit c 0 x ≡ false → Sifted w l r c c x (x + 1)
+  sifted-absent c x m e = sifted-over c c x x (x + 1) (omega arith) (omega arith) (λ y p q t. let d : y ≡ x = omega arith in subst T e (subst (In c) d t)) (sifted-none c x)
+
+  pub sifted-unmet : (c : List ℕ) (x : ℕ) → (Meets w l r x → ⊥) → Sifted w l r c c x (x + 1)
+  sifted-unmet c x f = record {
+    fewer = λ y b t. t;
+    beside = λ y b d t. t;
+    taken-out = λ y p q t n. absurd (n t);
+    left-in = λ y p q t k. let d : y ≡ x = omega arith in f (subst (Meets w l r) d k);
+  }
+
+  pub sifted-met : (c c′ : List ℕ) (x : ℕ) → 32 ≤ length c → x < 256 → c′ ≡ drop-bit c 0 x → Meets w l r x → Sifted w l r c c′ x (x + 1)
+  sifted-met c c′ x room m is k = subst (λ (z : List ℕ). Sifted w l r c z x (x + 1)) (sym is) (record {
+    fewer = λ y b t. less y t (ℕ-discrete x y);
+    beside = λ y b d t. subst T (sym (drop-other c 0 x y (λ e. far y d e))) t;
+    taken-out = λ y p q t n. let d : x ≡ y = omega arith in subst (Meets w l r) d k;
+    left-in = λ y p q t j. let d : y ≡ x = omega arith in subst T (drop-same c 0 x (omega arith)) (subst (In (drop-bit c 0 x)) d t);
+  })
+    where
+      less : (y : ℕ) → In (drop-bit c 0 x) y → Dec (x ≡ y) → In c y
+      less y t (yes e) = absurd (subst T (drop-same c 0 x (omega arith)) (subst (In (drop-bit c 0 x)) (sym e) t))
+      less y t (no f) = subst T (drop-other c 0 x y f) t
+
+      far : (y : ℕ) → (y < x) ⊎ (x + 1 ≤ y) → x ≡ y → ⊥
+      far y (inl h) e = omega arith
+      far y (inr h) e = omega arith
+
+-- ---- what a match is
+
+module _ (H : Graph) (fk : Flow H) (fh : size H ≤ 256) (w : List ℕ) (near : Neighbours H (size H) w) (r : List ℕ) (l : ℕ) (hl : l < 9) where
+  pub meets-reaches : (h : ℕ) → h < size H → Meets w l r h → Reaches H (In r) h l
+  meets-reaches h hh m =
+      let d = leads-into-e H (m .0) l h (subst T (near .successors h l (m .0) hh hl (m .1)) (m .3)) in
+      (d .0, d .1, d .2, d .3, subst (In r) (sym (d .4)) (m .2))
+
+  pub reaches-meets : (h : ℕ) → h < size H → Reaches H (In r) h l → Meets w l r h
+  reaches-meets h hh d =
+      let y = (edge H (d .0)) .to in
+      let b : y < size H = fk .to-node (edge H (d .0)) (index-e no-edge (H .edges) (d .0) (d .1)) in
+      (y, omega (arith, b), d .4, subst T (sym (near .successors h l y hh hl (omega (arith, b)))) (leads-into-i H y l h (d .0, d .1, d .2, d .3, refl)))
+
+-- ---- dropping
+
+module _ (G H : Graph) where
+  pub shrank-none : (w : List ℕ) → Refining G H w → Shrank G H w w
+  shrank-none w r = record { refining = r; rel-less = λ g h a b t. t; held-kept = λ g h a b. refl }
+
+  pub shrank-on : (u v w : List ℕ) → Shrank G H u v → Shrank G H v w → Shrank G H u w
+  shrank-on u v w x y = record { refining = y .refining; rel-less = λ g h a b t. x .rel-less g h a b (y .rel-less g h a b t); held-kept = λ g h a b. y .held-kept g h a b ∙ x .held-kept g h a b }
+
+module _ (G H : Graph) (fl : Flow G) (fk : Flow H) (fg : size G ≤ 256) (fh : size H ≤ 256) (eg : length (G .edges) ≤ 4096) where
+  -- what is looked up stands past the rows of the relation and of what is held, and on both sides of the order
+  pub looked-up-kept : (w w′ : List ℕ) → ((q : ℕ) → 16960 ≤ q → (q < 29760) ⊎ (30816 ≤ q) → getD w′ q 0 ≡ getD w q 0) → length w′ ≡ length w → Refining G H w → ((g h : ℕ) → g < size G → h < 256 → T (rel w′ g h) → T (rel w g h))
+      → ((g h : ℕ) → T (related G H g h) → T (rel w′ g h)) → Refining G H w′
+  looked-up-kept w w′ past long x less all = record {
+    room = omega (arith, long, x .room);
+    by-slot = chained-same w w′ 16960 21568 (labelled-into G) (9 * size G) (length (G .edges)) (λ k h. cell-agree w′ w 16960 2 k (λ q a b. past q (omega arith) (inl (omega arith)))) (λ j h. cell-agree w′ w 21568 2 j (λ q a b. past q (omega arith) (inl (omega arith)))) (x .by-slot);
+    neighbours = record {
+      successors = λ k l y a b c. bit-byte w′ w (30816 + 64 * (9 * k + l)) (30816 + 64 * (9 * k + l)) y (past (30816 + 64 * (9 * k + l) + y / 8) (omega arith) (inr (omega arith))) ∙ x .neighbours .successors k l y a b c;
+      predecessors = λ k l y a b c. bit-byte w′ w (30848 + 64 * (9 * k + l)) (30848 + 64 * (9 * k + l)) y (past (30848 + 64 * (9 * k + l) + y / 8) (omega arith) (inr (omega arith))) ∙ x .neighbours .predecessors k l y a b c;
+    };
+    inside = λ g h a b t. x .inside g h a b (less g h a b t);
+    contains = all;
+  }
+
+  -- and so does putting the nodes in order
+  pub order-beside : (w w′ : List ℕ) → Outside 29760 30816 w w′ → length w′ ≡ length w → Refining G H w → Refining G H w′
+  order-beside w w′ o long x = looked-up-kept w w′ (λ q l d. o q d) long x (λ g h a b t. subst T (same g h a b) t) (λ g h t. let z = related-e G H fl fk g h t in subst T (sym (same g h (z .0) (omega (arith, z .1)))) (x .contains g h t))
+    where
+      same : (g h : ℕ) → g < size G → h < 256 → rel w′ g h ≡ rel w g h
+      same g h a b = bit-byte w′ w (32 * g) (32 * g) h (o (32 * g + h / 8) (inl (omega arith)))
+
+  -- a row dropped from the row of node u, of which the largest simulation has none
+  module _ (w w′ c : List ℕ) (u : ℕ) (hu : u < size G) (bits : (h : ℕ) → h < 256 → rel w′ u h ≡ (rel w u h && not (has-bit c 0 h))) (o : Outside (32 * u) (32 * u + 32) w w′) (long : length w′ ≡ length w)
+      (apart : (h : ℕ) → h < 256 → In c h → T (related G H u h) → ⊥) (x : Refining G H w) where
+    other : (g h : ℕ) → h < 256 → (g ≡ u → ⊥) → rel w′ g h ≡ rel w g h
+    other g h b n = bit-byte w′ w (32 * g) (32 * g) h (o (32 * g + h / 8) (side (decLt g u)))
+      where
+        side : Dec (g < u) → (32 * g + h / 8 < 32 * u) ⊎ (32 * u + 32 ≤ 32 * g + h / 8)
+        side (yes l) = inl (omega arith)
+        side (no l) = inr (omega arith)
+
+    less : (g h : ℕ) → h < 256 → T (rel w′ g h) → T (rel w g h)
+    less g h b t = go (ℕ-discrete g u)
+      where
+        go : Dec (g ≡ u) → T (rel w g h)
+        go (yes e) = subst (λ (m : ℕ). T (rel w m h)) (sym e) (and-l (rel w u h) (not (has-bit c 0 h)) (subst T (bits h b) (subst (λ (m : ℕ). T (rel w′ m h)) e t)))
+        go (no n) = subst T (other g h b n) t
+
+    all : (g h : ℕ) → T (related G H g h) → T (rel w′ g h)
+    all g h t = go (ℕ-discrete g u) (has-bit c 0 h) refl
+      where
+        in-h : h < 256
+        in-h = let b = related-e G H fl fk g h t in omega (arith, b .1)
+
+        go : Dec (g ≡ u) → (b : Bool) → has-bit c 0 h ≡ b → T (rel w′ g h)
+        go (no n) b e = subst T (sym (other g h in-h n)) (x .contains g h t)
+        go (yes d) true e = absurd (apart h in-h (subst T (sym e) tt) (subst (λ (m : ℕ). T (related G H m h)) d t))
+        go (yes d) false e =
+            subst (λ (m : ℕ). T (rel w′ m h)) (sym d) (subst T (sym (bits h in-h ∙ ap (λ (b : Bool). rel w u h && not b) e)) (keep (rel w u h) (subst (λ (m : ℕ). T (rel w m h)) d (x .contains g h t))))
+          where
+            keep : (p : Bool) → T p → T (p && true)
+            keep true s = tt
+            keep false s = s
+
+    pub row-dropped : Shrank G H w w′ × ((h : ℕ) → h < 256 → T (rel w′ u h) → In c h → ⊥)
+    row-dropped = (
+      record {
+        refining = looked-up-kept w w′ (λ q l d. o q (inr (omega arith))) long x (λ g h a b t. less g h b t) all;
+        rel-less = λ g h a b t. less g h b t;
+        held-kept = λ g h a b. bit-byte w′ w (8192 + 32 * g) (8192 + 32 * g) h (o (8192 + 32 * g + h / 8) (inr (omega arith)));
+      },
+      λ h b t i. T-not (has-bit c 0 h) (and-r (rel w u h) (not (has-bit c 0 h)) (subst T (bits h b) t)) i,
+    )
+
+  -- ---- which nodes may be dropped, and what is matched then
+
+  module _ (w : List ℕ) (x : Refining G H w) (v l : ℕ) (hl : l < 9) (r : List ℕ) (cont : Contained G H v r) where
+    slot-e : (e : ℕ) → e < length (G .edges) → T (labelled-into G (9 * v + l) e) → ((edge G e) .label ≤ 8) → ((edge G e) .to ≡ v) × ((edge G e) .label ≡ l)
+    slot-e e he t low = let d = eqb→eq (9 * (edge G e) .to + (edge G e) .label) (9 * v + l) t in (omega arith, omega arith)
+
+    -- a node of which no edge leads into the row is not related to where an edge with the label comes from that leads to v
+    pub unmet-apart : (e h : ℕ) → e < length (G .edges) → (edge G e) .to ≡ v → (edge G e) .label ≡ l → (Meets w l r h → ⊥) → T (related G H ((edge G e) .from) h) → ⊥
+    unmet-apart e h he to-is label-is n t =
+        let s = related-simulation G H fl fk in
+        let a = s .matched ((edge G e) .from) h t (edge G e) (index-e no-edge (G .edges) e he) refl in
+        let d = index-i no-edge (H .edges) (a .0) (a .1) in
+        n (reaches-meets H fk fh w (x .neighbours) r l hl h ((related-e G H fl fk ((edge G e) .from) h t) .1) (
+          d .0,
+          d .1,
+          ap (λ (y : Edge). y .from) (d .2) ∙ a .2,
+          ap (λ (y : Edge). y .label) (d .2) ∙ a .3 ∙ label-is,
+          cont ((edge H (d .0)) .to) (subst (λ (m : ℕ). T (related G H m ((edge H (d .0)) .to))) to-is (subst (λ (m : ℕ). T (related G H ((edge G e) .to) m)) (sym (ap (λ (y : Edge). y .to) (d .2))) (a .4))),
+        ))
+
+    -- once candidates are sifted and the rest is dropped, every edge with the label into v is matched
+    pub label-matched : (c c′ w′ : List ℕ) → Candidates G H w v l r c → Sifted w l r c c′ 0 256 → Shrank G H w w′
+        → ((e h : ℕ) → e < length (G .edges) → (edge G e) .to ≡ v → (edge G e) .label ≡ l → h < 256 → T (rel w′ ((edge G e) .from) h) → In c′ h → ⊥) → LabelMatched G H w′ v l r
+    unfolding LabelMatched
+    label-matched c c′ w′ k s y none e h he to-is label-is b t = go (k .complete e h he to-is label-is b (y .rel-less ((edge G e) .from) h (fl .from-node (edge G e) (index-e no-edge (G .edges) e he)) b t))
+      where
+        go : In c h ⊎ Reaches H (In r) h l → Reaches H (In r) h l
+        go (inr d) = d
+        go (inl i) = meets-reaches H fk fh w (x .neighbours) r l hl h (k .within h b i) (s .taken-out h (omega arith) b i (none e h he to-is label-is b t))
+
+  -- a label that no edge into v has
+  pub label-none : (w : List ℕ) (v l : ℕ) (r : List ℕ) → ((e : ℕ) → e < length (G .edges) → (edge G e) .to ≡ v → (edge G e) .label ≡ l → ⊥) → LabelMatched G H w v l r
+  unfolding LabelMatched
+  label-none w v l r f e h he to-is label-is b t = absurd (f e he to-is label-is)
+
+  pub label-kept : (w w′ : List ℕ) (v l : ℕ) (r : List ℕ) → Shrank G H w w′ → LabelMatched G H w v l r → LabelMatched G H w′ v l r
+  unfolding LabelMatched
+  label-kept w w′ v l r y m e h he to-is label-is b t = m e h he to-is label-is b (y .rel-less ((edge G e) .from) h (fl .from-node (edge G e) (index-e no-edge (G .edges) e he)) b t)
+
+  -- ---- candidates
+
+  -- by what the sources are related to
+  pub candidates-all : (w : List ℕ) (v l : ℕ) (r c : List ℕ) → Within (size H) c
+      → ((e h : ℕ) → e < length (G .edges) → T (labelled-into G (9 * v + l) e) → h < 256 → T (rel w ((edge G e) .from) h) → In c h) → Candidates G H w v l r c
+  candidates-all w v l r c i f = record { within = i; complete = λ e h he to-is label-is b t. inl (f e h he (same e to-is label-is) b t) }
+    where
+      same : (e : ℕ) → (edge G e) .to ≡ v → (edge G e) .label ≡ l → T (labelled-into G (9 * v + l) e)
+      same e a b = eq-eqb (9 * (edge G e) .to + (edge G e) .label) (9 * v + l) (omega arith)
+
+  -- by what v has lost
+  pub candidates-lost : (w : List ℕ) (v l : ℕ) (r c c′ : List ℕ) → l < 9 → Refining G H w → NodeMatched G H w v → HeldInside (size H) w v → Handed (size H) w v l r c c′ 0 256 → Candidates G H w v l r c′
+  unfolding NodeMatched
+  candidates-lost w v l r c c′ hl x m i y = record { within = y .within; complete = λ e h he to-is label-is b t. go e h he label-is b (m e h he to-is b t) }
+    where
+      go : (e h : ℕ) → e < length (G .edges) → (edge G e) .label ≡ l → h < 256 → Reaches H (λ (t : ℕ). T (held w v t)) h ((edge G e) .label) → In c′ h ⊎ Reaches H (In r) h l
+      go e h he label-is b d = split (has-bit r 0 to) refl
+        where
+          to : ℕ
+          to = (edge H (d .0)) .to
+
+          to-in : to < size H
+          to-in = fk .to-node (edge H (d .0)) (index-e no-edge (H .edges) (d .0) (d .1))
+
+          split : (p : Bool) → has-bit r 0 to ≡ p → In c′ h ⊎ Reaches H (In r) h l
+          split true q = inr (d .0, d .1, d .2, d .3 ∙ label-is, subst T (sym q) tt)
+          split false q =
+              inl (y .added to h (omega arith) (omega (arith, to-in)) b (d .4) (λ t. subst T q t)
+              (subst T (sym (x .neighbours .predecessors to l h to-in hl b)) (leads-into-i H to l h (d .0, d .1, d .2, d .3 ∙ label-is, refl))))
+
+  -- what v holds, and the matches by it, stay
+  pub node-kept : (w w′ : List ℕ) (v : ℕ) → v < size G → Shrank G H w w′ → NodeMatched G H w v → NodeMatched G H w′ v
+  unfolding NodeMatched
+  node-kept w w′ v hv y m e h he to-is b t =
+      let d = m e h he to-is b (y .rel-less ((edge G e) .from) h (fl .from-node (edge G e) (index-e no-edge (G .edges) e he)) b t) in
+      let z = fk .to-node (edge H (d .0)) (index-e no-edge (H .edges) (d .0) (d .1)) in
+      (d .0, d .1, d .2, d .3, subst T (sym (y .held-kept v ((edge H (d .0)) .to) hv (omega (arith, z)))) (d .4))

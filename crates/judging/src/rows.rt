@@ -1,0 +1,110 @@
+// Rows of 256 bits: taken out of a lent buffer and put back, one added to another or taken out of it, and whether a row has a bit of another, or a bit at all.
+ghost use mathlib.Core.Path.{_≡_};
+ghost use mathlib.Core.Bool.{false, not, _&&_, _||_};
+ghost use Prim.Native.Nat.{ℕ, _+_, _-_, _≤_, _<_};
+ghost use lib.Bits.{bitAnd};
+ghost use lib.Dec.{T};
+ghost use lib.ListN.{length};
+ghost use Rattle.files.specs.Cells.{has-bit};
+ghost use Rattle.judging.specs.Chains.{Outside};
+use files::cells::wide;
+use files::encode::LINE;
+
+// The digits of one byte that another has not.
+pub(crate) fn without(x: u8, y: u8) -> u8
+    ensures { λ r. ⌜ (r ≡ bitAnd x (255 - y)) × (y < 256) ⌝ }
+{
+    x & !y
+}
+
+// The row from `at` on.
+pub(crate) fn row_at(work: &[u8], at: usize) -> [u8; LINE]
+    requires { ⌜ at + 32 ≤ length (now work) ⌝ }
+    ensures { λ r. ⌜ (length r ≡ 32) × ((h : ℕ) → h < 256 → has-bit r 0 h ≡ has-bit (now (work .entry)) at h) ⌝ }
+{
+    let mut row = [0u8; LINE];
+    let mut k = 0;
+    while k < LINE {
+        row[k] = work[at + k];
+        k += 1;
+    }
+    row
+}
+
+// Stores a row from `at` on.
+pub(crate) fn put_row(work: &mut [u8], at: usize, row: &[u8])
+    requires { ⌜ (at + 32 ≤ length (now work)) × (32 ≤ length (now row)) ⌝ }
+    ensures { λ _. ⌜ ((h : ℕ) → h < 256 → has-bit (now (work .exit)) at h ≡ has-bit (now (row .entry)) 0 h) × (Outside at (at + 32) (now (work .entry)) (now (work .exit))) ⌝ }
+{
+    let mut k = 0;
+    while k < LINE {
+        work[at + k] = row[k];
+        k += 1;
+    }
+}
+
+// Adds the row from `at` on.
+pub(crate) fn add_row(row: &mut [u8], work: &[u8], at: usize)
+    requires { ⌜ (at + 32 ≤ length (now work)) × (32 ≤ length (now row)) ⌝ }
+    ensures { λ _. ⌜ ((h : ℕ) → h < 256 → has-bit (now (row .exit)) 0 h ≡ (has-bit (now (row .entry)) 0 h || has-bit (now (work .entry)) at h)) ⌝ }
+{
+    let mut k = 0;
+    while k < LINE {
+        row[k] = row[k] | work[at + k];
+        k += 1;
+    }
+}
+
+// Takes a row out of the row from `at` on.
+pub(crate) fn drop_row(work: &mut [u8], at: usize, row: &[u8])
+    requires { ⌜ (at + 32 ≤ length (now work)) × (32 ≤ length (now row)) ⌝ }
+    ensures { λ _. ⌜ ((h : ℕ) → h < 256 → has-bit (now (work .exit)) at h ≡ (has-bit (now (work .entry)) at h && not (has-bit (now (row .entry)) 0 h))) × (Outside at (at + 32) (now (work .entry)) (now (work .exit))) ⌝ }
+{
+    let mut k = 0;
+    while k < LINE {
+        work[at + k] = without(work[at + k], row[k]);
+        k += 1;
+    }
+}
+
+// Whether a row and the row from `at` on have a bit in common.
+pub(crate) fn meets(row: &[u8], work: &[u8], at: usize) -> bool
+    requires { ⌜ (at + 32 ≤ length (now work)) × (32 ≤ length (now row)) ⌝ }
+    ensures { λ r. ⌜ (T r → (h : ℕ) × (h < 256) × T (has-bit (now (row .entry)) 0 h) × T (has-bit (now (work .entry)) at h)) × (T (not r) → (h : ℕ) → h < 256 → T (has-bit (now (row .entry)) 0 h) → T (has-bit (now (work .entry)) at h) → ⊥) ⌝ }
+{
+    let mut any = 0;
+    let mut k = 0;
+    while k < LINE {
+        any = any | (row[k] & work[at + k]);
+        k += 1;
+    }
+    wide(any) > 0
+}
+
+// Whether a row has no bit.
+pub(crate) fn is_blank(row: &[u8]) -> bool
+    requires { ⌜ 32 ≤ length (now row) ⌝ }
+    ensures { λ r. ⌜ (T r → (h : ℕ) → h < 256 → has-bit (now (row .entry)) 0 h ≡ false) ⌝ }
+{
+    let mut any = 0;
+    let mut k = 0;
+    while k < LINE {
+        any = any | row[k];
+        k += 1;
+    }
+    any == 0
+}
+
+// Whether the row from `at` on has a bit that the row from `less` on has not.
+pub(crate) fn exceeds(work: &[u8], at: usize, less: usize) -> bool
+    requires { ⌜ (at + 32 ≤ length (now work)) × (less + 32 ≤ length (now work)) ⌝ }
+    ensures { λ r. ⌜ (T r → (h : ℕ) × (h < 256) × T (has-bit (now (work .entry)) at h) × (T (has-bit (now (work .entry)) less h) → ⊥)) × (T (not r) → (h : ℕ) → h < 256 → T (has-bit (now (work .entry)) at h) → T (has-bit (now (work .entry)) less h)) ⌝ }
+{
+    let mut any = 0;
+    let mut k = 0;
+    while k < LINE {
+        any = any | without(work[at + k], work[less + k]);
+        k += 1;
+    }
+    wide(any) > 0
+}
