@@ -5,7 +5,7 @@ use mathlib.Core.Bool.{_||_}
 use mathlib.Core.List.{List}
 use mathlib.Core.Option.{none}
 use Prim.Native.Nat.{ℕ, _≤_, _<_}
-use lib.ListN.{length, replicate}
+use lib.ListN.{length}
 use Rattle.files.specs.Access.{InterfaceFile}
 use Rattle.files.specs.Checking.{checked}
 use Rattle.files.specs.Decode.{decode-graph, decode-property, decode-interface, decode-rules}
@@ -173,11 +173,9 @@ pub record OtherSide (L : Limits) (oi p : List ℕ) : Type 0 where
   pub interface-within : refusal L interface oi ≡ none
   pub property-within : refusal L property p ≡ none
 
--- both buffers are zero and long enough for limits such as these
+-- both buffers are long enough for limits such as these
 pub record Room (L : Limits) (store work : List ℕ) : Type 0 where
   pub strides : Strides L
   pub bounded : Bounded L
-  pub store-zero : store ≡ replicate (length store) 0
-  pub work-zero : work ≡ replicate (length work) 0
   pub store-long : 46949 ≤ length store
   pub work-long : 103456 ≤ length work

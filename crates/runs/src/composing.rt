@@ -233,8 +233,6 @@ pub fn compose_within(
     if (store.len() < Regions::ROOM) | (work.len() < Places::ROOM) {
         return Verdict::Refused(Refusal::whole(13));
     }
-    clear(store);
-    clear(work);
     let answer = compose_files(
         known,
         graph,
