@@ -1,11 +1,13 @@
 pub mod AdmitLaws
 pub mod AntichainLaws
+pub mod BitLaws
 pub mod BuildLaws
 pub mod CompleteLaws
 pub mod EntryLaws
 pub mod ExploreLaws
 pub mod MaskLaws
 pub mod OrderLaws
+pub mod RankLaws
 pub mod RowLaws
 pub mod SlotLaws
 pub mod StateLaws

@@ -19,7 +19,7 @@ abbrev pub Copied : List ℕ → ℕ → ℕ → ℕ → List ℕ → Type 0
 Copied w₀ p q k w = ((i : ℕ) → i < k → getD w (13312 + 32 * q + i) 0 ≡ getD w₀ (13312 + 32 * p + i) 0) × Outside (13312 + 32 * q) (13312 + 32 * q + 32) w₀ w
 
 -- a row has 32 bytes
-in-row : (w : List ℕ) (p t : ℕ) → target w p t ≡ has-bit w (13312 + 32 * p) t
+pub in-row : (w : List ℕ) (p t : ℕ) → target w p t ≡ has-bit w (13312 + 32 * p) t
 in-row w p t =
     let a : 13312 + (256 * p + t) / 8 ≡ 13312 + 32 * p + t / 8 = omega arith in
     let b : (256 * p + t) % 8 ≡ t % 8 = omega arith in

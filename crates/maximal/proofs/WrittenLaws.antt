@@ -1,20 +1,18 @@
 -- For the code that counts and writes a model: one node, edge, label or state more, in the count and in the bytes written, and that there is room for it.
-use mathlib.Core.Path.{_≡_, refl, sym, ap, ap₂, subst, _∙_}
-use mathlib.Core.Logic.{_⊎_, inl, inr}
-use mathlib.Core.Bool.{Bool, true, false, not}
+use mathlib.Core.Path.{_≡_, refl, sym, ap, ap₂, _∙_}
+use mathlib.Core.Bool.{Bool, true, false}
 use mathlib.Core.List.{List, [], _∷_, _++_, append-nil}
-use Prim.Native.Nat.{ℕ, zero, suc, _+_, _*_, _/_, _%_, _^_, _≤_, _<_}
+use Prim.Native.Nat.{ℕ, zero, suc, _+_, _*_, _/_, _%_, _≤_, _<_}
 use native.Mathlib.Decide.{ℕ-discrete}
-use native.Mathlib.Nat.{add-zero, eq-or-lt-of-le, zero-div}
+use native.Mathlib.Nat.{add-zero}
 use native.Mathlib.Numerals.{add-one}
 use native.Mathlib.Omega.{arith}
-use lib.Dec.{T, eqb}
-use lib.ListN.{length, getD, take, drop, length-append, take-append-drop}
+use lib.ListN.{length, take, drop, length-append, take-append-drop}
 use Rattle.files.specs.Basics.Lists.{put, keep, each, each-append, span}
-use Rattle.files.specs.Basics.Tables.{tally, tally-is}
+use Rattle.files.specs.Basics.Tables.{tally}
 use Rattle.files.specs.Basics.Tests.{one}
-use Rattle.files.specs.Cells.{cell, put-at}
-use Rattle.files.specs.Cells.Laws.{cell-one, has-bit-is, put-at-is, put-front, put-after}
+use Rattle.files.specs.Cells.{put-at}
+use Rattle.files.specs.Cells.Laws.{put-at-is, put-front, put-after}
 use Rattle.files.specs.Decode.{graph-bytes}
 use Rattle.files.specs.Interface.{Interface}
 use Rattle.files.specs.Property.{Row, Property}
@@ -28,6 +26,13 @@ use Rattle.maximal.specs.Model.{model}
 -- one number more
 pub tally-more : (p : ℕ → Bool) (j n n′ : ℕ) (b : Bool) → b ≡ p j → n ≡ tally p j → n′ ≡ n + one b → n′ ≡ tally p (j + 1)
 tally-more p j n n′ b e i d = let s : n′ ≡ tally p (suc j) = omega (arith, ap one e, i, d) in s ∙ ap (tally p) (sym (add-one j))
+
+-- .. that does not pass, and one that does
+pub tally-pass : (p : ℕ → Bool) (n j : ℕ) → p j ≡ false → n ≡ tally p j → n ≡ tally p (suc j)
+tally-pass p n j e i = omega (arith, ap one e, i)
+
+pub tally-on : (p : ℕ → Bool) (n j : ℕ) → p j ≡ true → n ≡ tally p j → n + 1 ≡ tally p (j + 1)
+tally-on p n j e i = tally-more p j n (n + 1) true (sym e) i refl
 
 -- a count that never falls
 climbs : (f : ℕ → ℕ) → ((n : ℕ) → f n ≤ f (suc n)) → (n m : ℕ) → n ≤ m → f n ≤ f m
@@ -64,40 +69,6 @@ wrote-more out₀ out out′ at end end′ xs ys zs h e x a b d = record {
   up-to = omega (arith, d, x .up-to, ap length e, length-append xs ys);
 }
 
--- ---- a row of zeros
-
--- one zero more
-pub zero-on : (f : ℕ → ℕ) (k : ℕ) → ((i : ℕ) → i < k → f i ≡ 0) → f k ≡ 0 → (i : ℕ) → i < k + 1 → f i ≡ 0
-zero-on f k zeros e i h = go (eq-or-lt-of-le (omega arith))
-  where
-    go : (i ≡ k) ⊎ (i < k) → f i ≡ 0
-    go (inl z) = ap f z ∙ e
-    go (inr l) = zeros i l
-
--- no state follows by a row of zeros
-pub row-of-zeros : (w : List ℕ) (p : ℕ) → ((k : ℕ) → k < 32 → cell w (13312 + 32 * p) 1 k ≡ 0) → (t : ℕ) → t < 256 → target w p t ≡ false
-row-of-zeros w p zeros t h =
-    let k : ℕ = (256 * p + t) % 8 in
-    let at : 13312 + (256 * p + t) / 8 ≡ 13312 + 32 * p + t / 8 = omega arith in
-    let byte : getD w (13312 + (256 * p + t) / 8) 0 ≡ 0 = ap (λ (n : ℕ). getD w n 0) at ∙ sym (cell-one w (13312 + 32 * p) (t / 8)) ∙ zeros (t / 8) (omega arith) in
-    has-bit-is w 13312 (256 * p + t) ∙ ap (λ (x : ℕ). eqb (x / 2 ^ k % 2) 1) byte ∙ ap (λ (x : ℕ). eqb (x % 2) 1) (zero-div (2 ^ k))
-
-nothing-kept : (p : ℕ → Bool) (xs : List ℕ) → ((j : ℕ) → p j ≡ false) → keep p xs ≡ []
-nothing-kept p [] h = refl
-nothing-kept p (x ∷ xs) h = ap (λ (b : Bool). put b x (keep p xs)) (h x) ∙ nothing-kept p xs h
-
--- the i-th state is f, and its row under label l is empty
-module _ (w : List ℕ) (bytes : (b : ℕ) → getD w b 0 < 256) (c i l f : ℕ) (is : f ≡ order-at w i) (empty : (t : ℕ) → t < 256 → target w (9 * f + l) t ≡ false) where
-  -- nothing leads from an empty row
-  leads-nowhere : (j : ℕ) → leads w i l j ≡ false
-  leads-nowhere j = ap (λ (n : ℕ). target w (9 * n + l) (order-at w j)) (sym is) ∙ empty (order-at w j) (omega (arith, cell-one w 1536 j, bytes (1536 + j)))
-
-  pub nothing-tallied : 0 ≡ tally-under w c i l
-  nothing-tallied = sym (tally-is (leads w i l) 0 c (omega arith) (λ j h. absurd (omega arith)) (λ j h k. subst (λ (b : Bool). T (not b)) (sym (leads-nowhere j)) tt))
-
-  pub nothing-written : (out : List ℕ) (at : ℕ) → (at ≡ at + tally-under w c i l) × (out ≡ put-at out (6 * at) (under-bytes w c i l))
-  nothing-written out at = (omega (arith, nothing-tallied), wrote-none out at .bytes ∙ ap (λ (js : List ℕ). put-at out (6 * at) (each (λ (j : ℕ). 2 ∷ i ∷ l ∷ j ∷ 0 ∷ 0 ∷ []) js)) (sym (nothing-kept (leads w i l) (span 0 c) leads-nowhere)))
-
 module _ (w : List ℕ) where
   -- ---- nodes
 
@@ -120,13 +91,14 @@ module _ (w : List ℕ) where
         → end′ ≡ end + 1 → Wrote out₀ out′ at end′ (under-bytes w (j + 1) i l)
     edge-on out′ end′ h e a b d = wrote-more out₀ out out′ at end end′ (under-bytes w j i l) (2 ∷ i ∷ l ∷ j ∷ 0 ∷ 0 ∷ []) (under-bytes w (j + 1) i l) h (under-more i l j true e) x a b (omega (arith, d))
 
-    pub edge-off : (out′ : List ℕ) (end′ : ℕ) → false ≡ leads w i l j → out′ ≡ out → end′ ≡ end → Wrote out₀ out′ at end′ (under-bytes w (j + 1) i l)
-    edge-off out′ end′ e a b =
-        let same : under-bytes w j i l ≡ under-bytes w (j + 1) i l = sym (under-more i l j false e ∙ append-nil (under-bytes w j i l)) in
+    -- a state that no edge leads to
+    pub edge-off : false ≡ leads w i l j → Wrote out₀ out at end (under-bytes w (suc j) i l)
+    edge-off e =
+        let same : under-bytes w j i l ≡ under-bytes w (suc j) i l = sym (ap (λ (n : ℕ). under-bytes w n i l) (sym (add-one j)) ∙ under-more i l j false e ∙ append-nil (under-bytes w j i l)) in
         record {
-          as-long = ap length a ∙ x .as-long;
-          bytes = a ∙ x .bytes ∙ ap (put-at out₀ (6 * at)) same;
-          up-to = omega (arith, b, x .up-to, ap length same);
+          as-long = x .as-long;
+          bytes = x .bytes ∙ ap (put-at out₀ (6 * at)) same;
+          up-to = omega (arith, x .up-to, ap length same);
         }
 
     -- the records written are the edges tallied

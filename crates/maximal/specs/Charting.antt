@@ -87,6 +87,14 @@ earlier w q method set = least (is-pair w 1792 4096 method set) q
 abbrev pub order-at : List ℕ → ℕ → ℕ
 order-at w k = cell w 1536 1 k
 
+-- at which place state t stands
+abbrev pub rank-at : List ℕ → ℕ → ℕ
+rank-at w t = cell w 87072 1 t
+
+-- the first k states in order have their places
+abbrev pub Ranked : ℕ → List ℕ → Type 0
+Ranked k w = (i : ℕ) → i < k → rank-at w (order-at w i) ≡ i
+
 -- state a comes before state b, by kind and set
 abbrev pub comes-before : List ℕ → ℕ → ℕ → Bool
 comes-before w a b = ltb (kind-at w a) (kind-at w b) || (eqb (kind-at w a) (kind-at w b) && ltb (set-at w a) (set-at w b))

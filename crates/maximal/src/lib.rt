@@ -8,6 +8,7 @@ use files::record::Limits;
 
 pub mod answers;
 pub mod antichain;
+pub mod bits;
 pub mod build;
 pub mod explore;
 pub mod masks;

@@ -35,6 +35,9 @@ impl Places {
     // The supports of one set, while they are collected.
     pub const CANDIDATES: usize = 87072;
 
+    // For each state its place in the order, once the supports are collected.
+    pub const RANKS: usize = 87072;
+
     // The published length of the buffer.
     pub const ROOM: usize = 103456;
 }

@@ -1,72 +1,51 @@
 // A model that is found, counted and written: its nodes in order, then its edges by state, label and state. `write_model` states that its bytes are those of the
-// definition's graph.
+// definition's graph. Of a row of bits only those that are one are visited.
 ghost use mathlib.Core.Path.{_≡_};
-ghost use mathlib.Core.Bool.{false};
 ghost use mathlib.Core.List.{_++_};
 ghost use Prim.Native.Nat.{ℕ, _+_, _*_, _≤_, _<_};
-ghost use lib.Dec.{T};
-ghost use lib.ListN.{length, drop};
+ghost use lib.ListN.{length, drop, replicate};
 ghost use Rattle.files.specs.Access.{PropertyFile};
 ghost use Rattle.files.specs.Basics.Lists.{each, span};
-ghost use Rattle.files.specs.Cells.{put-at};
+ghost use Rattle.files.specs.Cells.{has-bit, put-at};
 ghost use Rattle.files.specs.Decode.{decode-interface, decode-property, graph-bytes};
-ghost use Rattle.maximal.specs.Charting.{target, Arranged};
+ghost use Rattle.maximal.specs.Charting.{order-at, Ordered, Ranked, Arranged};
 ghost use Rattle.maximal.specs.Model.{model};
-ghost use Rattle.maximal.specs.Listing.{leads, tally-under, tally-from, tally-upto, node-bytes, under-bytes, from-bytes};
+ghost use Rattle.maximal.specs.Listing.{tally-under, tally-from, tally-upto, node-bytes, under-bytes, from-bytes};
+use crate::bits::next_bit;
 use crate::places::Places;
 use files::cells::get8;
 use files::cells::has_bit;
+use files::cells::put_bit;
 use files::encode::LINE;
 use files::encode::put_six;
 
-// An edge with this label leads from the i-th to the j-th state.
-fn leads(work: &[u8], i: usize, label: usize, j: usize) -> bool
-    requires { ⌜ (i < 256) × ((label < 9) × ((j < 256) × (103456 ≤ length (now work)))) ⌝ }
-    ensures { λ t. ⌜ t ≡ leads (now (work .entry)) i label j ⌝ }
+// Where the row of the i-th state under this label begins.
+fn row_of(work: &[u8], i: usize, label: usize) -> usize
+    requires { ⌜ (i < 256) × ((label < 9) × (103456 ≤ length (now work))) ⌝ }
+    ensures { λ r. ⌜ (r ≡ 13312 + 32 * (9 * order-at (now (work .entry)) i + label)) × (r + 32 ≤ 103456) ⌝ }
 {
     let from = get8(work, Places::ORDER, i) as usize;
-    let to = get8(work, Places::ORDER, j) as usize;
-    has_bit(work, Places::TARGETS, 256 * (9 * from + label) + to)
+    Places::TARGETS + LINE * (9 * from + label)
 }
 
-// No state follows by this slot: its row of bits is zero.
-fn is_empty_row(work: &[u8], slot: usize) -> bool
-    requires { ⌜ (slot < 2304) × (103456 ≤ length (now work)) ⌝ }
-    ensures { λ r. ⌜ (T r → (t : ℕ) → t < 256 → target (now (work .entry)) slot t ≡ false) ⌝ }
-{
-    let mut k = 0;
-    while k < LINE {
-        if get8(work, Places::TARGETS + LINE * slot, k) != 0 {
-            return false;
-        }
-        k += 1;
-    }
-    true
-}
-
-// How many edges with this label leave the i-th state.
+// How many edges with this label leave the i-th state: as many as its row has bits that are one.
 fn count_under(work: &[u8], c: usize, i: usize, label: usize) -> usize
-    requires { ⌜ (i < c) × ((label < 9) × ((c ≤ 256) × (103456 ≤ length (now work)))) ⌝ }
+    requires { ⌜ (i < c) × ((label < 9) × ((c ≤ 256) × ((103456 ≤ length (now work)) × ((Ordered c (now work)) × (Ranked c (now work)))))) ⌝ }
     ensures { λ t. ⌜ t ≡ tally-under (now (work .entry)) c i label ⌝ }
 {
-    let from = get8(work, Places::ORDER, i) as usize;
-    if is_empty_row(work, 9 * from + label) {
-        return 0;
-    }
-    let mut j = 0;
+    let row = row_of(work, i, label);
+    let mut t = next_bit(work, row, 0, c);
     let mut n = 0;
-    while j < c {
-        if leads(work, i, label, j) {
-            n += 1;
-        }
-        j += 1;
+    while t < c {
+        n += 1;
+        t = next_bit(work, row, t + 1, c);
     }
     n
 }
 
 // How many edges leave the i-th state.
 fn count_from(work: &[u8], c: usize, i: usize) -> usize
-    requires { ⌜ (i < c) × ((c ≤ 256) × (103456 ≤ length (now work))) ⌝ }
+    requires { ⌜ (i < c) × ((c ≤ 256) × ((103456 ≤ length (now work)) × ((Ordered c (now work)) × (Ranked c (now work))))) ⌝ }
     ensures { λ t. ⌜ t ≡ tally-from (now (work .entry)) c i 9 ⌝ }
 {
     let mut label = 0;
@@ -80,7 +59,7 @@ fn count_from(work: &[u8], c: usize, i: usize) -> usize
 
 // How many edges leave all c states; it stops once there are more than there may be.
 pub(crate) fn count_edges(work: &[u8], c: usize, limit: usize) -> usize
-    requires { ⌜ (c ≤ 256) × (103456 ≤ length (now work)) ⌝ }
+    requires { ⌜ (c ≤ 256) × ((103456 ≤ length (now work)) × ((Ordered c (now work)) × (Ranked c (now work)))) ⌝ }
     ensures { λ t. ⌜ t ≡ tally-upto (now (work .entry)) c limit c ⌝ }
 {
     let mut i = 0;
@@ -121,30 +100,39 @@ fn write_nodes(work: &[u8], out: &mut [u8], c: usize)
     }
 }
 
+// Marks in `ordered` the place of each state that has a bit in the row from `row` on.
+fn order_row(work: &[u8], row: usize, c: usize, ordered: &mut [u8])
+    requires { ⌜ (row + 32 ≤ 103456) × ((c ≤ 256) × ((103456 ≤ length (now work)) × ((Ordered c (now work)) × ((Ranked c (now work)) × (now ordered ≡ replicate 32 0))))) ⌝ }
+    ensures { λ _. ⌜ ((j : ℕ) → j < c → has-bit (now (ordered .exit)) 0 j ≡ has-bit (now (work .entry)) row (order-at (now (work .entry)) j)) ⌝ }
+{
+    let mut t = next_bit(work, row, 0, c);
+    while t < c {
+        let place = get8(work, Places::RANKS, t);
+        put_bit(ordered, 0, place as usize);
+        t = next_bit(work, row, t + 1, c);
+    }
+}
+
 // Writes the edges with this label from the i-th state, from record `at` on. The record after them.
 fn write_under(work: &[u8], out: &mut [u8], c: usize, i: usize, label: usize, at: usize) -> usize
-    requires { ⌜ (i < c) × ((label < 9) × ((c ≤ 256) × ((103456 ≤ length (now work)) × (6 * (at + tally-under (now work) c i label) ≤ length (now out))))) ⌝ }
+    requires { ⌜ (i < c) × ((label < 9) × ((c ≤ 256) × ((103456 ≤ length (now work)) × ((6 * (at + tally-under (now work) c i label) ≤ length (now out)) × ((Ordered c (now work)) × (Ranked c (now work))))))) ⌝ }
     ensures { λ t. ⌜ (t ≡ at + tally-under (now (work .entry)) c i label) × (now (out .exit) ≡ put-at (now (out .entry)) (6 * at) (under-bytes (now (work .entry)) c i label)) ⌝ }
 {
-    let from = get8(work, Places::ORDER, i) as usize;
-    if is_empty_row(work, 9 * from + label) {
-        return at;
-    }
-    let mut j = 0;
+    let mut ordered = [0u8; 32];
+    order_row(work, row_of(work, i, label), c, &mut ordered);
+    let mut j = next_bit(&ordered, 0, 0, c);
     let mut end = at;
     while j < c {
-        if leads(work, i, label, j) {
-            put_six(out, end, 2, i as u8, label as u8, j as u8, 0, 0);
-            end += 1;
-        }
-        j += 1;
+        put_six(out, end, 2, i as u8, label as u8, j as u8, 0, 0);
+        end += 1;
+        j = next_bit(&ordered, 0, j + 1, c);
     }
     end
 }
 
 // Writes the edges from the i-th state.
 fn write_from(work: &[u8], out: &mut [u8], c: usize, i: usize, at: usize) -> usize
-    requires { ⌜ (i < c) × ((c ≤ 256) × ((103456 ≤ length (now work)) × (6 * (at + tally-from (now work) c i 9) ≤ length (now out)))) ⌝ }
+    requires { ⌜ (i < c) × ((c ≤ 256) × ((103456 ≤ length (now work)) × ((6 * (at + tally-from (now work) c i 9) ≤ length (now out)) × ((Ordered c (now work)) × (Ranked c (now work)))))) ⌝ }
     ensures { λ t. ⌜ (t ≡ at + tally-from (now (work .entry)) c i 9) × (now (out .exit) ≡ put-at (now (out .entry)) (6 * at) (from-bytes (now (work .entry)) c i 9)) ⌝ }
 {
     let mut label = 0;
@@ -165,7 +153,7 @@ pub(crate) fn write_model(
     c: usize,
     edges: usize,
 )
-    requires { ⌜ (PropertyFile (now property)) × ((103456 ≤ length (now work)) × ((Arranged (decode-interface (now interface)) (decode-property (now property)) c (now work)) × ((edges ≡ length ((model (decode-interface (now interface)) (decode-property (now property))) .edges)) × (6 * (c + edges) ≤ length (now out))))) ⌝ }
+    requires { ⌜ (PropertyFile (now property)) × ((103456 ≤ length (now work)) × ((Arranged (decode-interface (now interface)) (decode-property (now property)) c (now work)) × ((edges ≡ length ((model (decode-interface (now interface)) (decode-property (now property))) .edges)) × ((6 * (c + edges) ≤ length (now out)) × (Ranked c (now work)))))) ⌝ }
     ensures { λ _. ⌜ now (out .exit) ≡ graph-bytes (model (decode-interface (now (interface .entry))) (decode-property (now (property .entry)))) ++ drop (length (graph-bytes (model (decode-interface (now (interface .entry))) (decode-property (now (property .entry)))))) (now (out .entry)) ⌝ }
 {
     write_nodes(work, out, c);

@@ -1,89 +1,71 @@
-use mathlib.Core.Path.{_≡_, refl, sym, ap, subst, _∙_}
-use mathlib.Core.Logic.{⊎-elim}
-use mathlib.Core.Bool.{true, false}
-use Prim.Native.Nat.{ℕ, _-_, _≤_}
-use native.Mathlib.Nat.{add-zero}
+use mathlib.Core.Path.{_≡_, refl, _∙_}
+use Prim.Native.Nat.{ℕ, _+_, _-_}
 use native.Mathlib.Omega.{arith}
-use lib.Dec.{T}
-use Rattle.files.specs.Basics.Tables.{tally-le}
-use Rattle.maximal.specs.Listing.{leads, tally-under}
-use Rattle.maximal.proofs.WrittenLaws.{tally-more, nothing-tallied}
+use Rattle.files.specs.Basics.Tables.{tally, tally-le}
+use Rattle.files.specs.Cells.{has-bit}
+use Rattle.maximal.proofs.BitLaws.{Before, visit}
+use Rattle.maximal.proofs.RankLaws.{tally-row}
+use Rattle.maximal.proofs.WrittenLaws.{tally-pass, tally-on}
 use Rattle.maximal.proofs.written.count_under.Statement.{statement}
 use Rattle.maximal.proofs.written.count_under.Tie as tie
 
 abbrev Inv-loop : tie.InvT-loop
-Inv-loop work c i label from j₀ n₀ j n = (j ≤ c) × (n ≡ tally-under work j i label)
+Inv-loop work c i label row t₀ n₀ t n = Before work row c (λ (m : ℕ). n ≡ tally (has-bit work row) m) t
 
 abbrev μ-loop : tie.MeasureT-loop
-μ-loop work c i label from j₀ n₀ j n = c - j
+μ-loop work c i label row t₀ n₀ t n = c - t
 
--- src/written.rt:52:16
-get8-requires : tie.Need-get8-requires Inv-loop μ-loop
-get8-requires c κs = let p = c .before .pre in omega (arith, p .0, p .1 .1 .0, p .1 .1 .1)
+-- src/written.rt:36:9
+row-of-requires : tie.Need-row-of-requires Inv-loop μ-loop
+row-of-requires c κs = let p = c .before .pre in (omega (arith, p .0, p .1 .1 .0), (p .1 .0, p .1 .1 .1 .0))
 
--- src/written.rt:52:16
-cast-from : tie.Need-cast-from Inv-loop μ-loop
-cast-from c = omega arith
+-- src/written.rt:37:9
+next-bit-requires : tie.Need-next-bit-requires Inv-loop μ-loop
+next-bit-requires c κs = let p = c .before .before .pre in (p .1 .1 .0, omega (arith, c .row-of .ensures .1, p .1 .1 .1 .0))
 
--- src/written.rt:53:27
-mul-is-empty-row : tie.Need-mul-is-empty-row Inv-loop μ-loop
-mul-is-empty-row c = omega arith
-
--- src/written.rt:53:27
-add-is-empty-row : tie.Need-add-is-empty-row Inv-loop μ-loop
-add-is-empty-row c = omega (arith, c .before .before .pre .1 .0)
-
--- src/written.rt:53:8
-is-empty-row-requires : tie.Need-is-empty-row-requires Inv-loop μ-loop
-is-empty-row-requires c κs = let p = c .before .before .pre in (omega (arith, p .1 .0), p .1 .1 .1)
-
--- src/written.rt:54:9
-returns : tie.Need-returns Inv-loop μ-loop
-returns c = let a = c .before .before .before .before .args in
-    let from = c .before .before .get8 in
-    nothing-tallied (a .work .now) (λ b. omega (arith, c .before .before .before .shared-slice-known .given b)) (a .c) (a .i) (a .label) (from .result) (from .ensures) (c .before .is-empty-row .ensures (subst T (sym (c .if1 .taken)) tt))
-
--- src/written.rt:58:5
+-- src/written.rt:39:5
 loop-holds : tie.Need-loop-holds Inv-loop μ-loop
-loop-holds c = (omega arith, refl)
+loop-holds c =
+    let a = c .before .before .before .args in
+    let r = c .before .row-of .result in
+    visit (a .work .now) r (a .c) (λ (m : ℕ). 0 ≡ tally (has-bit (a .work .now) r) m) (λ t h e x. tally-pass (has-bit (a .work .now) r) 0 t e x) 0 (c .next-bit .result) (omega arith) refl (c .next-bit .ensures)
 
--- src/written.rt:59:12
-leads-requires : tie.Need-leads-requires Inv-loop μ-loop
-leads-requires c κs = let p = c .before .before .before .before .before .before .pre in (omega (arith, p .0, p .1 .1 .0), (p .1 .0, (omega (arith, c .loop-test .taken, p .1 .1 .0), p .1 .1 .1)))
-
--- src/written.rt:60:13
+-- src/written.rt:40:9
 add-n : tie.Need-add-n Inv-loop μ-loop
-add-n c = let k = c .before .before .before .before .before .before .before .before in
-    let a = k .args in
-    let l = c .before .before .before .loop in
-    omega (arith, l .inv .0, l .inv .1, k .pre .1 .1 .0, tally-le (leads (a .work .now) (a .i) (a .label)) (l .j))
-
--- src/written.rt:62:9
-add-j : tie.Need-add-j Inv-loop μ-loop
-add-j c = omega (arith, c .before .before .loop-test .taken, c .before .before .before .before .before .before .before .before .pre .1 .1 .0)
-
--- src/written.rt:58:5
-loop-less : tie.Need-loop-less Inv-loop μ-loop
-loop-less c = omega (arith, c .before .before .loop-test .taken)
-
--- src/written.rt:58:5
-loop-again : tie.Need-loop-again Inv-loop μ-loop
-loop-again c = let a = c .before .before .before .before .before .before .before .before .args in
-    let l = c .before .before .before .loop in
-    let p = leads (a .work .now) (a .i) (a .label) in (
-      omega (arith, c .before .before .loop-test .taken),
-      ⊎-elim
-          (λ u. tally-more p (l .j) (l .n) (c .if2 .n) true (sym (u .0 .taken) ∙ c .before .leads .ensures) (l .inv .1) (u .1))
-          (λ u. tally-more p (l .j) (l .n) (c .if2 .n) false (sym (u .0 .left) ∙ c .before .leads .ensures) (l .inv .1) (u .1 ∙ sym (add-zero (l .n))))
-          (c .if2 .came),
-    )
-
--- src/written.rt:48:1
-returns-2 : tie.Need-returns-2 Inv-loop μ-loop
-returns-2 c = let a = c .before .before .before .before .before .before .args in
+add-n c =
+    let a = c .before .before .before .before .before .args in
     let l = c .before .loop in
-    let e : l .j ≡ a .c = omega (arith, c .loop-test .left, l .inv .0) in
-    l .inv .1 ∙ ap (λ (m : ℕ). tally-under (a .work .now) m (a .i) (a .label)) e
+    omega (arith, l .inv .here (c .loop-test .taken), c .loop-test .taken, c .before .before .before .before .before .pre .1 .1 .0, tally-le (has-bit (a .work .now) (c .before .before .before .row-of .result)) (l .t))
+
+-- src/written.rt:41:33
+add-next-bit : tie.Need-add-next-bit Inv-loop μ-loop
+add-next-bit c = omega (arith, c .loop-test .taken, c .before .before .before .before .before .pre .1 .1 .0)
+
+-- src/written.rt:41:9
+next-bit-requires-2 : tie.Need-next-bit-requires-2 Inv-loop μ-loop
+next-bit-requires-2 c κs = let p = c .before .before .before .before .before .pre in (p .1 .1 .0, omega (arith, c .before .before .before .row-of .ensures .1, p .1 .1 .1 .0))
+
+-- src/written.rt:39:5
+loop-less : tie.Need-loop-less Inv-loop μ-loop
+loop-less c = omega (arith, c .before .loop-test .taken, c .next-bit2 .ensures .onward)
+
+-- src/written.rt:39:5
+loop-again : tie.Need-loop-again Inv-loop μ-loop
+loop-again c =
+    let a = c .before .before .before .before .before .before .args in
+    let l = c .before .before .loop in
+    let h = c .before .loop-test .taken in
+    let r = c .before .before .before .before .row-of .result in
+    let p = has-bit (a .work .now) r in
+    visit (a .work .now) r (a .c) (λ (m : ℕ). l .n + 1 ≡ tally p m) (λ t k e x. tally-pass p (l .n + 1) t e x) (l .t + 1) (c .next-bit2 .result) (omega (arith, h)) (tally-on p (l .n) (l .t) (l .inv .is-one h) (l .inv .here h)) (c .next-bit2 .ensures)
+
+-- src/written.rt:32:1
+returns : tie.Need-returns Inv-loop μ-loop
+returns c =
+    let a = c .before .before .before .before .before .args in
+    let p = c .before .before .before .before .before .pre in
+    let r = c .before .before .before .row-of in
+    c .before .loop .inv .all (omega (arith, c .loop-test .left)) ∙ tally-row (a .c) (a .work .now) (p .1 .1 .1 .1 .0) (p .1 .1 .1 .1 .1) (a .i) (a .label) (r .result) (r .ensures .0)
 
 pub count-under-spec : {M : Type 1} → statement M
 count-under-spec =
@@ -91,16 +73,12 @@ count-under-spec =
     (tie.spec
     Inv-loop
     μ-loop
-    get8-requires
-    cast-from
-    mul-is-empty-row
-    add-is-empty-row
-    is-empty-row-requires
-    returns
+    row-of-requires
+    next-bit-requires
     loop-holds
-    leads-requires
     add-n
-    add-j
+    add-next-bit
+    next-bit-requires-2
     loop-less
     loop-again
-    returns-2)
+    returns)

@@ -21,7 +21,7 @@ write-under-requires : tie.Need-write-under-requires Inv-loop μ-loop
 write-under-requires c κs = let a = c .before .before .before .before .before .args in
     let p = c .before .before .before .before .before .pre in
     let l = c .before .before .loop in
-    (p .0, (c .before .loop-test .taken, (p .1 .0, (p .1 .1 .0, label-fits (a .work .now) (a .c) (a .out .now) (l .out) (a .i) (l .label) (a .at) (l .end) (l .inv .1) 9 (c .before .loop-test .taken) (p .1 .1 .1)))))
+    (p .0, (c .before .loop-test .taken, (p .1 .0, (p .1 .1 .0, (label-fits (a .work .now) (a .c) (a .out .now) (l .out) (a .i) (l .label) (a .at) (l .end) (l .inv .1) 9 (c .before .loop-test .taken) (p .1 .1 .1 .0), p .1 .1 .1 .1)))))
 
 -- src/written.rt:129:9
 add-label : tie.Need-add-label Inv-loop μ-loop
@@ -36,7 +36,7 @@ loop-again : tie.Need-loop-again Inv-loop μ-loop
 loop-again c = let a = c .before .before .before .before .before .before .before .before .args in
     let l = c .before .before .before .before .before .loop in
     let x = c .before .before .write-under in
-    (omega (arith, c .before .before .before .before .loop-test .taken), label-on (a .work .now) (a .c) (a .out .now) (l .out) (a .i) (l .label) (a .at) (l .end) (l .inv .1) (x .last .1 .0) (x .result) (omega (arith, c .before .before .before .before .before .before .before .before .pre .1 .1 .1)) (x .ensures .1) (x .kept .1 .0) (x .ensures .0))
+    (omega (arith, c .before .before .before .before .loop-test .taken), label-on (a .work .now) (a .c) (a .out .now) (l .out) (a .i) (l .label) (a .at) (l .end) (l .inv .1) (x .last .1 .0) (x .result) (omega (arith, c .before .before .before .before .before .before .before .before .pre .1 .1 .1 .0)) (x .ensures .1) (x .kept .1 .0) (x .ensures .0))
 
 -- src/written.rt:121:1
 same-length : tie.Need-same-length Inv-loop μ-loop

@@ -1,110 +1,120 @@
-use mathlib.Core.Path.{_≡_, sym, ap, subst, _∙_}
-use mathlib.Core.Logic.{⊎-elim}
-use Prim.Native.Nat.{ℕ, _-_, _≤_}
+use mathlib.Core.Path.{refl, sym, _∙_}
+use Prim.Native.Nat.{ℕ, _+_, _-_}
 use native.Mathlib.Omega.{arith}
-use lib.Dec.{T}
-use lib.ListN.{length}
 use Rattle.maximal.specs.Listing.{under-bytes}
-use Rattle.maximal.proofs.WrittenLaws.{Wrote, wrote-none, nothing-written, edge-on, edge-off, edges-so-far, edge-fits}
+use Rattle.maximal.proofs.BitLaws.{Before, visit}
+use Rattle.maximal.proofs.RankLaws.{leads-row}
+use Rattle.maximal.proofs.WrittenLaws.{Wrote, wrote-none, edge-on, edge-off, edges-so-far, edge-fits}
+use borrow.Author.Needs.{needs}
 use Rattle.maximal.proofs.written.write_under.Statement.{statement}
 use Rattle.maximal.proofs.written.write_under.Tie as tie
 
 abbrev Inv-loop : tie.InvT-loop
-Inv-loop work out₀ c i label at from j₀ end₀ out j end = (j ≤ c) × Wrote out₀ out at end (under-bytes work j i label)
+Inv-loop work out₀ c i label at ordered j₀ end₀ out j end = Before ordered 0 c (λ (m : ℕ). Wrote out₀ out at end (under-bytes work m i label)) j
 
 abbrev μ-loop : tie.MeasureT-loop
-μ-loop work out₀ c i label at from j₀ end₀ out j end = c - j
+μ-loop work out₀ c i label at ordered j₀ end₀ out j end = c - j
 
--- src/written.rt:129:16
-get8-requires : tie.Need-get8-requires Inv-loop μ-loop
-get8-requires c κs = let p = c .before .before .pre in omega (arith, p .0, p .1 .1 .0, p .1 .1 .1 .0)
+-- src/written.rt:122:21
+row-of-requires : tie.Need-row-of-requires Inv-loop μ-loop
+row-of-requires c κs = let p = c .before .before .pre in (omega (arith, p .0, p .1 .1 .0), (p .1 .0, p .1 .1 .1 .0))
 
--- src/written.rt:129:16
-cast-from : tie.Need-cast-from Inv-loop μ-loop
-cast-from c = omega arith
+-- src/written.rt:122:48
+slice-aggregate-order-row : tie.Need-slice-aggregate-order-row Inv-loop μ-loop
+slice-aggregate-order-row c = refl
 
--- src/written.rt:130:27
-mul-is-empty-row : tie.Need-mul-is-empty-row Inv-loop μ-loop
-mul-is-empty-row c = omega arith
+-- src/written.rt:122:5
+order-row-requires : tie.Need-order-row-requires Inv-loop μ-loop
+order-row-requires c κs = let p = c .before .before .before .before .pre in (c .before .row-of .ensures .1, (p .1 .1 .0, (p .1 .1 .1 .0, (p .1 .1 .1 .1 .1 .0, (p .1 .1 .1 .1 .1 .1, refl)))))
 
--- src/written.rt:130:27
-add-is-empty-row : tie.Need-add-is-empty-row Inv-loop μ-loop
-add-is-empty-row c = omega (arith, c .before .before .before .pre .1 .0)
+-- src/written.rt:123:26
+slice-aggregate-next-bit : tie.Need-slice-aggregate-next-bit Inv-loop μ-loop
+slice-aggregate-next-bit c = search needs
 
--- src/written.rt:130:8
-is-empty-row-requires : tie.Need-is-empty-row-requires Inv-loop μ-loop
-is-empty-row-requires c κs = let p = c .before .before .before .pre in (omega (arith, p .1 .0), p .1 .1 .1 .0)
+-- src/written.rt:123:9
+next-bit-requires : tie.Need-next-bit-requires Inv-loop μ-loop
+next-bit-requires c κs = (c .before .before .before .before .before .before .before .pre .1 .1 .0, omega (arith, c .before .before .order-row .kept .1 .1 .1 .0))
 
--- src/written.rt:131:9
-returns : tie.Need-returns Inv-loop μ-loop
-returns c = let a = c .before .before .before .before .before .args in
-    let from = c .before .before .get8 in
-    nothing-written (a .work .now) (λ b. omega (arith, c .before .before .before .before .shared-slice-known .given b)) (a .c) (a .i) (a .label) (from .result) (from .ensures) (c .before .is-empty-row .ensures (subst T (sym (c .if1 .taken)) tt)) (a .out .now) (a .at)
-
--- src/written.rt:135:5
+-- src/written.rt:125:5
 loop-holds : tie.Need-loop-holds Inv-loop μ-loop
-loop-holds c = let a = c .before .before .before .before .before .args in (omega arith, wrote-none (a .out .now) (a .at))
+loop-holds c =
+    let a = c .before .before .before .before .before .before .before .before .args in
+    let p = c .before .before .before .before .before .before .before .before .pre in
+    let row = c .before .before .before .order-row .last .1 .1 .1 .0 in
+    let is = leads-row (a .c) (a .work .now) (p .1 .1 .1 .1 .1 .0) (p .1 .1 .1 .1 .1 .1) (c .before .before .before .before .before .row-of .result) (c .before .before .before .order-row .last .1 .1 .1 .0) (c .before .before .before .order-row .ensures) (a .i) (a .label) (c .before .before .before .before .before .row-of .ensures .0) in
+    visit row 0 (a .c) (λ (m : ℕ). Wrote (a .out .now) (a .out .now) (a .at) (a .at) (under-bytes (a .work .now) m (a .i) (a .label))) (λ t h e x. edge-off (a .work .now) (a .out .now) (a .out .now) (a .i) (a .label) t (a .at) (a .at) x (sym e ∙ is t h)) 0 (c .next-bit .result) (omega arith) (wrote-none (a .out .now) (a .at)) (c .next-bit .ensures)
 
--- src/written.rt:136:12
-leads-requires : tie.Need-leads-requires Inv-loop μ-loop
-leads-requires c κs = let p = c .before .before .before .before .before .before .before .pre in (omega (arith, p .0, p .1 .1 .0), (p .1 .0, (omega (arith, c .loop-test .taken, p .1 .1 .0), p .1 .1 .1 .0)))
-
--- src/written.rt:137:34
+-- src/written.rt:126:30
 cast-put-six : tie.Need-cast-put-six Inv-loop μ-loop
-cast-put-six c = let p = c .before .before .before .before .before .before .before .before .before .before .pre in omega (arith, p .0, p .1 .1 .0)
+cast-put-six c = let p = c .before .before .before .before .before .before .before .before .before .before .before .pre in omega (arith, p .0, p .1 .1 .0)
 
--- src/written.rt:137:43
+-- src/written.rt:126:39
 cast-put-six-2 : tie.Need-cast-put-six-2 Inv-loop μ-loop
-cast-put-six-2 c = let p = c .before .before .before .before .before .before .before .before .before .before .pre in omega (arith, p .1 .0)
+cast-put-six-2 c = let p = c .before .before .before .before .before .before .before .before .before .before .before .pre in omega (arith, p .1 .0)
 
--- src/written.rt:137:56
+-- src/written.rt:126:52
 cast-put-six-3 : tie.Need-cast-put-six-3 Inv-loop μ-loop
-cast-put-six-3 c = let p = c .before .before .before .before .before .before .before .before .before .before .pre in omega (arith, c .before .before .before .loop-test .taken, p .1 .1 .0)
+cast-put-six-3 c = let p = c .before .before .before .before .before .before .before .before .before .before .before .pre in omega (arith, c .before .loop-test .taken, p .1 .1 .0)
 
--- src/written.rt:137:13
+-- src/written.rt:126:9
 put-six-requires : tie.Need-put-six-requires Inv-loop μ-loop
-put-six-requires c κs = let k = c .before .before .before .before .before .before .before .before .before .before in
-    let a = k .args in
-    let l = c .before .before .before .before .loop in
-    edge-fits (a .work .now) (a .out .now) (l .out) (a .i) (a .label) (l .j) (a .at) (l .end) (l .inv .1) (a .c) (c .before .before .before .loop-test .taken) (sym (c .before .if2 .taken) ∙ c .before .before .leads .ensures) (k .pre .1 .1 .1 .1)
+put-six-requires c κs =
+    let a = c .before .before .before .before .before .before .before .before .before .before .before .args in
+    let p = c .before .before .before .before .before .before .before .before .before .before .before .pre in
+    let l = c .before .before .loop in
+    let h = c .before .loop-test .taken in
+    let is = leads-row (a .c) (a .work .now) (p .1 .1 .1 .1 .1 .0) (p .1 .1 .1 .1 .1 .1) (c .before .before .before .before .before .before .before .before .row-of .result) (c .before .before .before .before .before .before .order-row .last .1 .1 .1 .0) (c .before .before .before .before .before .before .order-row .ensures) (a .i) (a .label) (c .before .before .before .before .before .before .before .before .row-of .ensures .0) in
+    edge-fits (a .work .now) (a .out .now) (l .out) (a .i) (a .label) (l .j) (a .at) (l .end) (l .inv .here h) (a .c) h (sym (l .inv .is-one h) ∙ is (l .j) h) (p .1 .1 .1 .1 .0)
 
--- src/written.rt:138:13
+-- src/written.rt:127:9
 add-end : tie.Need-add-end Inv-loop μ-loop
-add-end c = let k = c .before .before .before .before .before .before .before .before .before .before .before .before .before in
-    let a = k .args in
-    let l = c .before .before .before .before .before .before .before .loop in
-    omega (arith, edge-fits (a .work .now) (a .out .now) (l .out) (a .i) (a .label) (l .j) (a .at) (l .end) (l .inv .1) (a .c) (c .before .before .before .before .before .before .loop-test .taken) (sym (c .before .before .before .before .if2 .taken) ∙ c .before .before .before .before .before .leads .ensures) (k .pre .1 .1 .1 .1))
+add-end c =
+    let a = c .before .before .before .before .before .before .before .before .before .before .before .before .before .before .args in
+    let p = c .before .before .before .before .before .before .before .before .before .before .before .before .before .before .pre in
+    let l = c .before .before .before .before .before .loop in
+    let h = c .before .before .before .before .loop-test .taken in
+    let is = leads-row (a .c) (a .work .now) (p .1 .1 .1 .1 .1 .0) (p .1 .1 .1 .1 .1 .1) (c .before .before .before .before .before .before .before .before .before .before .before .row-of .result) (c .before .before .before .before .before .before .before .before .before .order-row .last .1 .1 .1 .0) (c .before .before .before .before .before .before .before .before .before .order-row .ensures) (a .i) (a .label) (c .before .before .before .before .before .before .before .before .before .before .before .row-of .ensures .0) in
+    omega (arith, l .inv .here h .as-long, edge-fits (a .work .now) (a .out .now) (l .out) (a .i) (a .label) (l .j) (a .at) (l .end) (l .inv .here h) (a .c) h (sym (l .inv .is-one h) ∙ is (l .j) h) (p .1 .1 .1 .1 .0))
 
--- src/written.rt:140:9
-add-j : tie.Need-add-j Inv-loop μ-loop
-add-j c = omega (arith, c .before .before .loop-test .taken, c .before .before .before .before .before .before .before .before .before .pre .1 .1 .0)
+-- src/written.rt:128:22
+slice-aggregate-next-bit-2 : tie.Need-slice-aggregate-next-bit-2 Inv-loop μ-loop
+slice-aggregate-next-bit-2 c = search needs
 
--- src/written.rt:135:5
+-- src/written.rt:128:35
+add-next-bit : tie.Need-add-next-bit Inv-loop μ-loop
+add-next-bit c = omega (arith, c .before .before .before .before .before .loop-test .taken, c .before .before .before .before .before .before .before .before .before .before .before .before .before .before .before .pre .1 .1 .0)
+
+-- src/written.rt:128:9
+next-bit-requires-2 : tie.Need-next-bit-requires-2 Inv-loop μ-loop
+next-bit-requires-2 c κs = (c .before .before .before .before .before .before .before .before .before .before .before .before .before .before .before .pre .1 .1 .0, omega (arith, c .before .before .before .before .before .before .before .before .before .before .order-row .kept .1 .1 .1 .0))
+
+-- src/written.rt:125:5
 loop-less : tie.Need-loop-less Inv-loop μ-loop
-loop-less c = omega (arith, c .before .before .loop-test .taken)
+loop-less c = omega (arith, c .before .before .before .before .before .before .loop-test .taken, c .next-bit2 .ensures .onward)
 
--- src/written.rt:135:5
+-- src/written.rt:125:5
 loop-again : tie.Need-loop-again Inv-loop μ-loop
-loop-again c = let k = c .before .before .before .before .before .before .before .before .before in
-    let a = k .args in
-    let l = c .before .before .before .loop in (
-      omega (arith, c .before .before .loop-test .taken),
-      ⊎-elim
-          (λ u. edge-on (a .work .now) (a .out .now) (l .out) (a .i) (a .label) (l .j) (a .at) (l .end) (l .inv .1) (c .if2 .out) (c .if2 .end) (omega (arith, k .pre .1 .1 .1 .1)) (sym (u .0 .taken) ∙ c .before .leads .ensures) (u .5 ∙ u .2 .ensures) (ap length (u .5) ∙ u .2 .kept .0) (u .6))
-          (λ u. edge-off (a .work .now) (a .out .now) (l .out) (a .i) (a .label) (l .j) (a .at) (l .end) (l .inv .1) (c .if2 .out) (c .if2 .end) (sym (u .0 .left) ∙ c .before .leads .ensures) (u .1) (u .2))
-          (c .if2 .came),
-    )
+loop-again c =
+    let a = c .before .before .before .before .before .before .before .before .before .before .before .before .before .before .before .before .args in
+    let p = c .before .before .before .before .before .before .before .before .before .before .before .before .before .before .before .before .pre in
+    let l = c .before .before .before .before .before .before .before .loop in
+    let h = c .before .before .before .before .before .before .loop-test .taken in
+    let y = c .before .before .before .before .put-six in
+    let row = c .before .before .before .before .before .before .before .before .before .before .before .order-row .last .1 .1 .1 .0 in
+    let is = leads-row (a .c) (a .work .now) (p .1 .1 .1 .1 .1 .0) (p .1 .1 .1 .1 .1 .1) (c .before .before .before .before .before .before .before .before .before .before .before .before .before .row-of .result) (c .before .before .before .before .before .before .before .before .before .before .before .order-row .last .1 .1 .1 .0) (c .before .before .before .before .before .before .before .before .before .before .before .order-row .ensures) (a .i) (a .label) (c .before .before .before .before .before .before .before .before .before .before .before .before .before .row-of .ensures .0) in
+    visit row 0 (a .c) (λ (m : ℕ). Wrote (a .out .now) (y .last .0) (a .at) (l .end + 1) (under-bytes (a .work .now) m (a .i) (a .label))) (λ t k e x. edge-off (a .work .now) (a .out .now) (y .last .0) (a .i) (a .label) t (a .at) (l .end + 1) x (sym e ∙ is t k)) (l .j + 1) (c .next-bit2 .result) (omega (arith, h))
+    (edge-on (a .work .now) (a .out .now) (l .out) (a .i) (a .label) (l .j) (a .at) (l .end) (l .inv .here h) (y .last .0) (l .end + 1) (omega (arith, p .1 .1 .1 .1 .0)) (sym (l .inv .is-one h) ∙ is (l .j) h) (y .ensures) (y .kept .0) refl) (c .next-bit2 .ensures)
 
--- src/written.rt:125:1
+-- src/written.rt:117:1
 same-length : tie.Need-same-length Inv-loop μ-loop
-same-length c = c .before .loop .inv .1 .as-long
+same-length c = c .before .loop .inv .all (omega (arith, c .loop-test .left)) .as-long
 
--- src/written.rt:125:1
-returns-2 : tie.Need-returns-2 Inv-loop μ-loop
-returns-2 c = let a = c .before .before .before .before .before .before .before .args in
+-- src/written.rt:117:1
+returns : tie.Need-returns Inv-loop μ-loop
+returns c =
+    let a = c .before .before .before .before .before .before .before .before .before .before .args in
     let l = c .before .loop in
-    let e : l .j ≡ a .c = omega (arith, c .loop-test .left, l .inv .0) in
-    let x = subst (λ (n : ℕ). Wrote (a .out .now) (l .out) (a .at) (l .end) (under-bytes (a .work .now) n (a .i) (a .label))) e (l .inv .1) in
+    let x = l .inv .all (omega (arith, c .loop-test .left)) in
     (edges-so-far (a .work .now) (a .out .now) (l .out) (a .i) (a .label) (a .c) (a .at) (l .end) x, x .bytes)
 
 pub write-under-spec : {M : Type 1} → statement M
@@ -113,21 +123,21 @@ write-under-spec =
     (tie.spec
     Inv-loop
     μ-loop
-    get8-requires
-    cast-from
-    mul-is-empty-row
-    add-is-empty-row
-    is-empty-row-requires
-    returns
+    row-of-requires
+    slice-aggregate-order-row
+    order-row-requires
+    slice-aggregate-next-bit
+    next-bit-requires
     loop-holds
-    leads-requires
     cast-put-six
     cast-put-six-2
     cast-put-six-3
     put-six-requires
     add-end
-    add-j
+    slice-aggregate-next-bit-2
+    add-next-bit
+    next-bit-requires-2
     loop-less
     loop-again
     same-length
-    returns-2)
+    returns)
