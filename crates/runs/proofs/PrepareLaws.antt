@@ -1,13 +1,15 @@
--- For the code that prepares watching: the monitor's table with one rule more, the edges by label with one edge more, and the three tables together.
-use mathlib.Core.Path.{_≡_, refl, sym, ap, subst, _∙_}
+-- For the code that prepares watching: the monitor's table with one rule more, the groups by label with one edge more, the three tables together, and the group in which an edge stands.
+use mathlib.Core.Path.{_≡_, refl, sym, ap, ap₂, subst, _∙_}
 use mathlib.Core.Logic.{inl, inr}
-use mathlib.Core.Bool.{Bool, true, false, _&&_}
+use mathlib.Core.Bool.{Bool, true, false, not, cond, _&&_}
 use mathlib.Core.List.{List, List·Memᴰ}
-use Prim.Native.Nat.{ℕ, _+_, _*_, _-_, _/_, _%_, _≤_, _<_}
+use Prim.Native.Nat.{ℕ, zero, suc, _+_, _*_, _-_, _/_, _%_, _≤_, _<_}
+use native.Mathlib.Decide.{ℕ-discrete}
 use native.Mathlib.Omega.{arith}
 use lib.Dec.{T, eqb, eqb→eq}
 use lib.ListN.{length, getD, drop, replicate}
-use Rattle.files.specs.Access.{RulesFile, rule-held, first-edge}
+use borrow.Author.Tests.{ne-eqb, eq-eqb as eqb-same}
+use Rattle.files.specs.Access.{RulesFile, rule-held, edge-held, first-edge}
 use Rattle.files.specs.Access.Laws.{rule-end, rules-count, first-edge-le}
 use Rattle.files.specs.Basics.Lists.{index-e}
 use Rattle.files.specs.Basics.Tests.{and-e, and-i, eq-eqb}
@@ -15,10 +17,11 @@ use Rattle.files.specs.Cells.{cell, put-cell}
 use Rattle.files.specs.Cells.Laws.{byte-outside, cell-agree, cell-same, cell-other}
 use Rattle.files.specs.Decode.{decode-graph, decode-rules, RuleIn}
 use Rattle.files.specs.Decode.RuleFiles.{decoded-rules}
-use Rattle.files.specs.Graph.{Graph, no-edge}
+use Rattle.files.specs.Graph.{Graph, Edge, no-edge}
 use Rattle.files.specs.Record.{count}
 use Rattle.files.specs.Rules.{Rule, no-rule, by-rule, watch}
 use Rattle.files.specs.Rules.Laws.{watch-by-rule}
+use Rattle.files.specs.declared.graph.GraphEdge.{GraphEdge}
 use Rattle.files.specs.declared.refusal.Refusal.{Refusal}
 use Rattle.files.specs.declared.rules.MonitorRule.{MonitorRule}
 use Rattle.files.specs.declared.rules.RuleAt.{RuleAt}
@@ -27,7 +30,7 @@ use Rattle.files.proofs.AccessLaws.{rule-taken, rule-passed}
 use Rattle.judging.specs.Chains.{Chained, Outside, linked}
 use Rattle.judging.specs.Chains.Laws.{chained-none, chain-on}
 use Rattle.judging.proofs.ChainLaws.{zero-byte, outside-both}
-use Rattle.runs.specs.Prepared.{Ready, slot, Stepped, SteppedFrom, Firsts, labelled, Tables}
+use Rattle.runs.specs.Prepared.{Ready, slot, Stepped, SteppedFrom, Firsts, labelled, alike, opening, opens, Grouped, Tables}
 use Rattle.runs.specs.Prepared.Files.{size-fits, edges-is, edges-fit, labels-small, edge-in}
 use Rattle.runs.specs.declared.regions.Regions.{Regions}
 
@@ -128,7 +131,7 @@ module _ (r : List ℕ) (file : RulesFile r) where
       not-bad : (u : Rule) → List·Memᴰ u (decode-rules r) → u .state ≡ 7 → ⊥
       not-bad u m e = absurd (omega (arith, e, (decoded-rules (file .limits) r (file .accepted)) .rules-in u m .state-in))
 
--- ---- the first edges, and the edges by label
+-- ---- the first edges, and the groups by label
 
 module _ (s : Regions) (g r : List ℕ) (ready : Ready s g r) where
   abbrev G : Graph
@@ -137,25 +140,29 @@ module _ (s : Regions) (g r : List ℕ) (ready : Ready s g r) where
   pub few-first : (v : ℕ) → first-edge G v ≤ 4096
   few-first v = omega (arith, first-edge-le G v, edges-fit s g r ready)
 
-  module _ (e label : ℕ) (h : e < s .edges) (is : label ≡ (getD (G .edges) e no-edge) .label) where
-    pub label-below : label < 9
-    label-below = omega (arith, is, labels-small s g r ready (getD (G .edges) e no-edge) (edge-in s g r ready e (omega (arith, edges-is s g r ready))))
+  module _ (e label : ℕ) (h : e < s .edges) (is : label ≡ opening G e) where
+    pub opened-below : label < 9
+    opened-below = subst (λ (l : ℕ). l < 9) (sym is) (go (not (eqb e 0) && alike G (e - 1) e))
+      where
+        go : (b : Bool) → cond b 0 ((getD (G .edges) e no-edge) .label) < 9
+        go true = omega arith
+        go false = labels-small s g r ready (getD (G .edges) e no-edge) (edge-in s g r ready e (omega (arith, edges-is s g r ready)))
 
     -- one edge more
-    pub label-on : (w₀ w w′ : List ℕ) → 46949 ≤ length w → Chained w 34306 34324 (labelled G) 9 e → Outside 34306 42516 w₀ w → w′ ≡ linked w 34306 34324 label e
-        → Chained w′ 34306 34324 (labelled G) 9 (e + 1) × Outside 34306 42516 w₀ w′
-    label-on w₀ w w′ room =
-        chain-on (λ j. (getD (G .edges) j no-edge) .label) w₀ w w′ 34306 34324 9 e label 34306 42516 is label-below
+    pub opened-on : (w₀ w w′ : List ℕ) → 46949 ≤ length w → Chained w 34306 34324 (opens G) 9 e → Outside 34306 42516 w₀ w → w′ ≡ linked w 34306 34324 label e
+        → Chained w′ 34306 34324 (opens G) 9 (e + 1) × Outside 34306 42516 w₀ w′
+    opened-on w₀ w w′ room =
+        chain-on (opening G) w₀ w w′ 34306 34324 9 e label 34306 42516 is opened-below
         (omega arith) (omega arith) (omega (arith, ready .few-edges)) (omega arith) (omega (arith, ready .few-edges))
 
   -- ---- the tables together
 
   module _ (w₀ w₁ w₂ : List ℕ) (zeros : w₀ ≡ replicate (length w₀) 0) (one : Outside 32768 33792 w₀ w₁) (two : Outside 33792 34306 w₁ w₂) where
     -- nothing stands after the first edges
-    pub labels-none : Chained w₂ 34306 34324 (labelled G) 9 0
-    labels-none = chained-none w₂ 34306 34324 (labelled G) 9 (λ q l. two q (inr (omega arith)) ∙ one q (inr (omega arith)) ∙ zero-byte w₀ zeros q)
+    pub groups-none : Chained w₂ 34306 34324 (opens G) 9 0
+    groups-none = chained-none w₂ 34306 34324 (opens G) 9 (λ q l. two q (inr (omega arith)) ∙ one q (inr (omega arith)) ∙ zero-byte w₀ zeros q)
 
-    pub tables-are : (w₃ : List ℕ) → Stepped (watch (decode-rules r)) w₁ → Firsts G w₂ → Outside 34306 42516 w₂ w₃ → Chained w₃ 34306 34324 (labelled G) 9 (length (G .edges))
+    pub tables-are : (w₃ : List ℕ) → Stepped (watch (decode-rules r)) w₁ → Firsts G w₂ → Outside 34306 42516 w₂ w₃ → Chained w₃ 34306 34324 (opens G) 9 (length (G .edges))
         → Tables G (watch (decode-rules r)) w₃ × Outside 32768 42516 w₀ w₃
     tables-are w₃ m f three c = (
       record {
@@ -168,3 +175,62 @@ module _ (s : Regions) (g r : List ℕ) (ready : Ready s g r) where
       where
         later : Outside 33792 42516 w₁ w₃
         later = outside-both 33792 34306 34306 42516 33792 42516 w₁ w₂ w₃ (omega arith) (omega arith) (omega arith) (omega arith) two three
+
+-- ---- groups
+
+module _ (G : Graph) where
+  abbrev edge : ℕ → Edge
+  edge k = getD (G .edges) k no-edge
+
+  -- edge e and the one before it as they were read, and whether they are alike
+  module _ (e : ℕ) (u : GraphEdge) (is : u ≡ edge-held (edge e)) where
+    label-is : u .label ≡ (edge e) .label
+    label-is = ap (λ (x : GraphEdge). x .label) is
+
+    pub opening-first : e ≡ 0 → u .label ≡ opening G e
+    opening-first z = label-is ∙ sym (ap (λ (b : Bool). cond (not b && alike G (e - 1) e) 0 ((edge e) .label)) (eqb-same e 0 z))
+
+    module _ (v : GraphEdge) (before : v ≡ edge-held (edge (e - 1))) (later : e ≡ 0 → ⊥) (b : Bool) (test : (eqb (v .from) (u .from) && eqb (v .label) (u .label)) ≡ b) where
+      pub opening-next : cond b 0 (u .label) ≡ opening G e
+      opening-next =
+          ap₂ (λ (c : Bool) (l : ℕ). cond c 0 l) (sym test ∙ ap₂ (λ (x y : GraphEdge). eqb (x .from) (y .from) && eqb (x .label) (y .label)) before is) label-is
+          ∙ sym (ap (λ (c : Bool). cond (not c && alike G (e - 1) e) 0 ((edge e) .label)) (ne-eqb e 0 later))
+
+  -- an edge that opens a group with a label has it
+  pub opens-label : (l e : ℕ) → 0 < l → T (opens G l e) → (edge e) .label ≡ l
+  opens-label l e h t = go (not (eqb e 0) && alike G (e - 1) e) (eqb→eq _ l t)
+    where
+      go : (b : Bool) → cond b 0 ((edge e) .label) ≡ l → (edge e) .label ≡ l
+      go true d = absurd (omega (arith, d, h))
+      go false d = d
+
+  -- an edge with a label stands in a group that opens at it or before it
+  pub group-of : (l e : ℕ) → T (labelled G l e) → (f : ℕ) × (f ≤ e) × T (opens G l f) × Grouped G ((edge f) .from) ((edge f) .label) f e
+  group-of l zero t = (0, omega arith, t, λ k a b. let z : k ≡ 0 = omega (arith, b) in (ap (λ (i : ℕ). (edge i) .from) z, ap (λ (i : ℕ). (edge i) .label) z))
+  group-of l (suc e) t = go (λ z. group-of l e z) (alike G e (suc e)) refl
+    where
+      alone : (a b : Bool) → b ≡ false → (a && b) ≡ false
+      alone true b d = d
+      alone false b d = refl
+
+      go : (T (labelled G l e) → (f : ℕ) × (f ≤ e) × T (opens G l f) × Grouped G ((edge f) .from) ((edge f) .label) f e)
+          → (b : Bool) → alike G e (suc e) ≡ b → (f : ℕ) × (f ≤ suc e) × T (opens G l f) × Grouped G ((edge f) .from) ((edge f) .label) f (suc e)
+      go earlier true d =
+          let both = and-e (eqb ((edge e) .from) ((edge (suc e)) .from)) (eqb ((edge e) .label) ((edge (suc e)) .label)) (subst T (sym d) tt) in
+          let label-same = eqb→eq _ _ (both .1) in
+          let before = earlier (subst (λ (i : ℕ). T (eqb i l)) (sym label-same) t) in
+          let last = before .3 e (before .1) (omega arith) in (
+            before .0,
+            omega (arith, before .1),
+            before .2,
+            λ k a b. within (before .0) (before .3) (sym (eqb→eq _ _ (both .0)) ∙ last .0) (sym label-same ∙ last .1) k a b (ℕ-discrete k (suc e)),
+          )
+        where
+          within : (f : ℕ) → Grouped G ((edge f) .from) ((edge f) .label) f e → (edge (suc e)) .from ≡ (edge f) .from → (edge (suc e)) .label ≡ (edge f) .label
+              → (k : ℕ) → f ≤ k → k ≤ suc e → Dec (k ≡ suc e) → ((edge k) .from ≡ (edge f) .from) × ((edge k) .label ≡ (edge f) .label)
+          within f grouped x y k a b (yes z) = (ap (λ (i : ℕ). (edge i) .from) z ∙ x, ap (λ (i : ℕ). (edge i) .label) z ∙ y)
+          within f grouped x y k a b (no z) = grouped k a (omega (arith, b, z))
+      go earlier false d =
+          let z : suc e - 1 ≡ e = omega arith in
+          let opened : opening G (suc e) ≡ (edge (suc e)) .label = ap (λ (b : Bool). cond b 0 ((edge (suc e)) .label)) (alone (not (eqb (suc e) 0)) (alike G (suc e - 1) (suc e)) (ap (λ (i : ℕ). alike G i (suc e)) z ∙ d)) in
+          (suc e, omega arith, subst (λ (i : ℕ). T (eqb i l)) (sym opened) t, λ k a b. let y : k ≡ suc e = omega (arith, a, b) in (ap (λ (i : ℕ). (edge i) .from) y, ap (λ (i : ℕ). (edge i) .label) y))

@@ -5,7 +5,7 @@ use mathlib.Core.Bool.{Bool, true, false, or-false, not, cond, _||_, _&&_}
 use mathlib.Core.List.{List, [], List·Memᴰ}
 use Prim.Native.Nat.{ℕ, suc, _+_, _-_, _*_, _/_, _%_, _^_, _≤_, _<_}
 use native.Mathlib.Nat.{le-trans}
-use native.Mathlib.Decide.{ℕ-discrete}
+use native.Mathlib.Decide.{ℕ-discrete, decLt}
 use native.Mathlib.Numerals.{add-one}
 use native.Mathlib.Omega.{arith}
 use lib.Bits.{bitOr, bitAnd, or-lt}
@@ -14,7 +14,7 @@ use lib.ListN.{length, getD, set, replicate, length-set, getD-replicate}
 use lib.Seq.{getD-set-same, getD-set-other}
 use borrow.Author.Tests.{ne-eqb, eq-eqb as eqb-same}
 use Rattle.files.specs.Access.{node-held, edge-held, first-edge}
-use Rattle.files.specs.Access.Laws.{first-edge-le, leaves-in}
+use Rattle.files.specs.Access.Laws.{first-edge-le, leaves-in, in-leaves}
 use Rattle.files.specs.Basics.Lists.{span, span-i, span-e}
 use Rattle.files.specs.Basics.Tests.{eq-eqb, or-r, not-not, or-l, any, any-i, any-e, and-i, and-e}
 use Rattle.files.specs.Cells.{cell, put-cell}
@@ -31,12 +31,12 @@ use Rattle.files.specs.declared.refusal.Refusal.{Refusal}
 use Rattle.maximal.specs.Masks.{member}
 use Rattle.maximal.specs.Masks.Laws.{member-or, member-one, member-none, apart-e, apart-i, member-lt}
 use Rattle.judging.proofs.LevelLaws.{below-more}
-use Rattle.runs.specs.Prepared.{Ready, slot, Stepped, Tables}
+use Rattle.runs.specs.Prepared.{Ready, slot, Stepped, Grouped, Tables}
 use Rattle.runs.specs.Prepared.Files.{is-filed, is-flow, size-is, edges-is, size-fits, edges-fit, method-in, labels-small, edge-in, monitor-small}
 use Rattle.runs.specs.Runs.{meth, EntryOf}
 use Rattle.runs.specs.Summary.{Inside, enter}
 use Rattle.runs.specs.Worklist.{union, passed, reach, sums, queue, added, added-tail, Past, after-edge, Queued, Holding, Grew, Covered}
-use Rattle.runs.specs.Worklist.{SpreadBut, Spread, PointDue, EdgesRun, EntersIn, Entering, StartsIn, Starts, CallsRun, EntriesIn, SummariesIn, TableOf, CoveredBut, Links, Call, RanIn, Returning}
+use Rattle.runs.specs.Worklist.{SpreadBut, Spread, PointDue, EdgesRun, EntersIn, Entering, StartsIn, Starts, CallsRun, EntriesIn, SummariesIn, TableOf, CoveredBut, Links, RanIn, GroupRan, RowOf, HasRow, RowHappens, Returning}
 use Rattle.runs.specs.Worklist.Growth.{room-for, added-grew, grew-on}
 use Rattle.runs.specs.Worklist.Loops.{edges-run, edges-run-e, calls-run-e, holds-nothing, spread-first}
 use Rattle.runs.specs.Worklist.Steps.{edge-happens, run-covers, covered-kept, spread-grew, spread-done, reached-most, taken-due, summed-before, raised-holds, raised-due, summaries-found, sums-same, links-happen, links-cover, covered-but-kept, raised-but}
@@ -148,14 +148,8 @@ node-read x v n p q = subst (λ (y : NodeAt). T (is-node y)) (sym p ∙ q) tt
 abbrev pub Ran : Graph → Monitor → List ℕ → ℕ → ℕ → Type 0
 Ran G mon w j p = T (not ((node G ((getD (G .edges) j no-edge) .from)) .ret)) → Covered G mon w (getD (G .edges) j no-edge) p
 
--- call j is run for what its callee yields to each caller, from the states that w₀ has
-abbrev pub RanAll : Graph → Monitor → List ℕ → List ℕ → List ℕ → List ℕ → ℕ → Type 0
-RanAll G mon callers ends w₀ w j =
-    T (not ((node G ((getD (G .edges) j no-edge) .from)) .ret)) → (p : ℕ) → p < 8
-    → RanIn G mon (getD callers (meth G ((getD (G .edges) j no-edge) .from) - 1) 0) (getD ends (meth G ((getD (G .edges) j no-edge) .from) - 1) 0) w₀ w (getD (G .edges) j no-edge) p
-
 -- two sets that share a state
-pub sets-meet : (x y : ℕ) → x < 256 → y < 256 → 0 < bitAnd x y → (q : ℕ) × (q < 8) × T (member x q) × T (member y q)
+sets-meet : (x y : ℕ) → x < 256 → y < 256 → eqb (bitAnd x y) 0 ≡ false → (q : ℕ) × (q < 8) × T (member x q) × T (member y q)
 sets-meet x y hx hy h = go (any in-both (span 0 8)) refl
   where
     in-both : ℕ → Bool
@@ -167,8 +161,40 @@ sets-meet x y hx hy h = go (any in-both (span 0 8)) refl
         let c = and-e (member x (a .0)) (member y (a .0)) (a .2) in
         (a .0, omega (arith, (span-e 8 0 (a .0) (a .1)) .1), c .0, c .1)
     go false d =
-        let none : bitAnd x y ≡ 0 = eqb→eq (bitAnd x y) 0 (apart-i 8 x y hx hy (λ q t u. subst T d (any-i in-both (span 0 8) q (span-i 8 0 q (omega arith) (omega (arith, member-lt 8 x q hx t))) (and-i (member x q) (member y q) t u)))) in
-        absurd (omega (arith, none, h))
+        absurd (subst T h (apart-i 8 x y hx hy (λ q t u. subst T d (any-i in-both (span 0 8) q (span-i 8 0 q (omega arith) (omega (arith, member-lt 8 x q hx t))) (and-i (member x q) (member y q) t u)))))
+
+-- ---- rows
+
+-- a state that a row has for an entry state is one of y, and the node is reached so in a state of the set
+row-e : (w : List ℕ) (n set y : ℕ) (t : List ℕ) → RowOf w n set y t → (p q : ℕ) → p < 8 → reach w n p < 256 → set < 256 → T (member (getD t p 0) q)
+    → T (member y q) × ((a : ℕ) × (a < 8) × T (member (reach w n p) a) × T (member set a))
+row-e w n set y t row p q hp hx hs m = go (eqb (bitAnd (reach w n p) set) 0) refl (subst (λ (k : ℕ). T (member k q)) (row p hp) m)
+  where
+    go : (b : Bool) → eqb (bitAnd (reach w n p) set) 0 ≡ b → T (member (cond b 0 y) q) → T (member y q) × ((a : ℕ) × (a < 8) × T (member (reach w n p) a) × T (member set a))
+    go true d u = absurd (subst T (member-none q) u)
+    go false d u = (u, sets-meet (reach w n p) set hx hs d)
+
+-- where the node is reached in a state of the set, the row has y
+row-i : (w : List ℕ) (n set y : ℕ) (t : List ℕ) → RowOf w n set y t → (p a : ℕ) → p < 8 → T (member (reach w n p) a) → T (member set a) → getD t p 0 ≡ y
+row-i w n set y t row p a hp u v = row p hp ∙ go (eqb (bitAnd (reach w n p) set) 0) refl
+  where
+    go : (b : Bool) → eqb (bitAnd (reach w n p) set) 0 ≡ b → cond b 0 y ≡ y
+    go true d = absurd (apart-e (reach w n p) set (subst T (sym d) tt) a u v)
+    go false d = refl
+
+-- one entry state more for which nothing of the row is lacking
+pub has-more : (w : List ℕ) (n : ℕ) (t : List ℕ) (p x y : ℕ) (some : Bool) → x ≡ reach w n p → y ≡ getD t p 0 → (some ≡ false → HasRow w n t p)
+    → (some || not (eqb (bitOr x y) x)) ≡ false → HasRow w n t (p + 1)
+has-more w n t p x y some x-is y-is so-far e =
+    let none = neither some (eqb (bitOr x y) x) e in
+    below-more (λ (i : ℕ). (q : ℕ) → T (member (getD t i 0) q) → T (member (reach w n i) q)) p (so-far (none .0))
+    (λ q m. subst (λ (k : ℕ). T (member k q)) (eqb→eq (bitOr x y) x (none .1) ∙ x-is)
+    (subst T (sym (member-or x y q)) (or-r (member x q) (member y q) (subst (λ (k : ℕ). T (member k q)) (sym y-is) m))))
+  where
+    neither : (a b : Bool) → (a || not b) ≡ false → (a ≡ false) × T b
+    neither true b d = absurd (subst T d tt)
+    neither false true d = (refl, tt)
+    neither false false d = absurd (subst T d tt)
 
 module _ (s : Regions) (g r : List ℕ) (ready : Ready s g r) where
   abbrev G : Graph
@@ -191,6 +217,9 @@ module _ (s : Regions) (g r : List ℕ) (ready : Ready s g r) where
 
   pub node-readable : (v : ℕ) → v < size G → v < nodes-of g
   node-readable v h = omega (arith, size-is s g r ready, ready .nodes-are)
+
+  in-file : (j : ℕ) → j < length (G .edges) → j < s .edges
+  in-file j h = omega (arith, edges-is s g r ready)
 
   pub member-edge : (j : ℕ) → j < s .edges → List·Memᴰ (edge j) (G .edges)
   member-edge j h = edge-in s g r ready j (omega (arith, edges-is s g r ready))
@@ -221,6 +250,9 @@ module _ (s : Regions) (g r : List ℕ) (ready : Ready s g r) where
     pub label-is : u .label ≡ (edge j) .label
     label-is = ap (λ (x : GraphEdge). x .label) is
 
+    pub label-in : u .label ≤ 8
+    label-in = omega (arith, label-is, labels-small s g r ready (edge j) (member-edge j hj))
+
     pub from-in : u .from < size G
     from-in = subst (λ (n : ℕ). n < size G) (sym from-is) ((is-flow s g r ready) .from-node (edge j) (member-edge j hj))
 
@@ -248,55 +280,89 @@ module _ (s : Regions) (g r : List ℕ) (ready : Ready s g r) where
       pub caller-is : v .method - 1 ≡ meth G ((edge j) .from) - 1
       caller-is = ap (λ (n : ℕ). n - 1) method-is
 
-      pub goes-on : v .returns ≡ false → T (not ((node G ((edge j) .from)) .ret))
-      goes-on e = subst (λ (b : Bool). T (not b)) (sym (sym returns-is ∙ e)) tt
+      pub goes-on : v .returns ≡ false → T (not ((node G (u .from)) .ret))
+      goes-on e = subst (λ (b : Bool). T (not b)) (sym (sym (ap (λ (x : GraphNode). x .returns) source) ∙ e)) tt
 
-      pub runs-none : v .returns ≡ true → (w : List ℕ) (p : ℕ) → Ran G mon w j p
-      runs-none e w p t = absurd (T-not ((node G ((edge j) .from)) .ret) t (subst T (sym (sym returns-is ∙ e)) tt))
+      pub source-links : (i : ℕ) (callers ends w : List ℕ)
+          → Links G mon (meth G ((edge j) .from)) ((edge j) .label) i (getD callers (meth G ((edge j) .from) - 1) 0) (getD ends (meth G ((edge j) .from) - 1) 0) w
+          → Links G mon (meth G (u .from)) (u .label) i (getD callers (v .method - 1) 0) (getD ends (v .method - 1) 0) w
+      source-links i callers ends w link =
+          subst (λ (n : ℕ). Links G mon (meth G n) (u .label) i (getD callers (v .method - 1) 0) (getD ends (v .method - 1) 0) w) (sym from-is)
+          (subst (λ (l : ℕ). Links G mon (meth G ((edge j) .from)) l i (getD callers (v .method - 1) 0) (getD ends (v .method - 1) 0) w) (sym label-is)
+          (subst (λ (n : ℕ). Links G mon (meth G ((edge j) .from)) ((edge j) .label) i (getD callers n 0) (getD ends n 0) w) (sym caller-is) link))
 
-      pub call-in : (u .label ≡ 0 → ⊥) → (1 ≤ v .method) × ((v .method ≤ 8) × ((1 ≤ u .label) × (u .label ≤ 8)))
-      call-in n =
-          (caller-in .0, (caller-in .1, (omega (arith, n), omega (arith, label-is, labels-small s g r ready (edge j) (member-edge j hj)))))
+      -- the calls of the group that it opens have one source: it returns, or is reached in no state of its caller, or they are run
+      module _ (callers ends w₀ w : List ℕ) where
+        same-caller : (k : ℕ) → j ≤ k → Grouped G ((edge j) .from) ((edge j) .label) j k → v .method - 1 ≡ meth G ((edge k) .from) - 1
+        same-caller k l c = caller-is ∙ ap (λ (n : ℕ). meth G n - 1) (sym (c k l (omega arith) .0))
 
-      module _ (w : List ℕ) (p x : ℕ) (at-source : x ≡ reach w (u .from) p) where
-        x-is : x ≡ reach w ((edge j) .from) p
-        x-is = at-source ∙ ap (λ (n : ℕ). reach w n p) from-is
+        pub group-returns : v .returns ≡ true → GroupRan G mon callers ends w₀ w j
+        group-returns e k l h c z =
+            absurd (T-not ((node G ((edge j) .from)) .ret) (subst (λ (n : ℕ). T (not ((node G n) .ret))) (c k l (omega arith) .0) z) (subst T (sym (sym returns-is ∙ e)) tt))
 
-        -- what the code makes of the states is what the edge makes of them
-        pub made-inside : u .label ≡ 0 → x ≡ after-edge G mon (sums w) (edge j) (reach w ((edge j) .from) p)
-        made-inside e = x-is ∙ sym (ap (λ (l : ℕ). cond (eqb l 0) (reach w ((edge j) .from) p) (passed mon (sums w) (meth G ((edge j) .from)) l (reach w ((edge j) .from) p))) (sym label-is ∙ e))
+        pub group-unreached : (y : ℕ) → ((p q : ℕ) → p < 8 → T (member (reach w₀ (u .from) p) q) → T (member y q)) → bitAnd y (getD callers (v .method - 1) 0) ≤ 0
+            → GroupRan G mon callers ends w₀ w j
+        group-unreached y f none k l h c z p hp i hi x b start =
+            absurd (starts-none G mon w₀ (edge k) (u .from) y _ p (from-is ∙ sym (c k l (omega arith) .0)) f none hp
+            (subst (λ (n : ℕ). StartsIn G mon (getD callers n 0) w₀ (edge k) p) (sym (same-caller k l c)) start))
 
-        pub made-over : (y : ℕ) → (u .label ≡ 0 → ⊥) → y ≡ passed mon (sums w) (v .method) (u .label) x → y ≡ after-edge G mon (sums w) (edge j) (reach w ((edge j) .from) p)
-        made-over y n e =
-            e ∙ ap₂ (λ (m l : ℕ). passed mon (sums w) m l x) method-is label-is ∙ ap (passed mon (sums w) (meth G ((edge j) .from)) ((edge j) .label)) x-is
-            ∙ sym (ap (λ (b : Bool). cond b (reach w ((edge j) .from) p) (passed mon (sums w) (meth G ((edge j) .from)) ((edge j) .label) (reach w ((edge j) .from) p)))
-            (ne-eqb ((edge j) .label) 0 (λ z. n (label-is ∙ z))))
+        pub group-ran : ((k : ℕ) → j ≤ k → k < s .edges → Grouped G (u .from) (u .label) j k → (p : ℕ) → p < 8
+            → RanIn G mon (getD callers (v .method - 1) 0) (getD ends (v .method - 1) 0) w₀ w (edge k) p) → GroupRan G mon callers ends w₀ w j
+        group-ran f k l h c z p hp =
+            subst (λ (n : ℕ). RanIn G mon (getD callers n 0) (getD ends n 0) w₀ w (edge k) p) (same-caller k l c)
+            (f k l (in-file k h) (λ i a b. (c i a b .0 ∙ sym from-is, c i a b .1 ∙ sym label-is)) p hp)
 
-      pub ran : v .returns ≡ false → (tail : ℕ) (w : List ℕ) → Holding G mon tail w → (p y : ℕ) → p < 8 → y < 256 → y ≡ after-edge G mon (sums w) (edge j) (reach w ((edge j) .from) p)
-          → (t : ℕ) (w′ : List ℕ) → (t ≡ added-tail w tail (u .to) p y) × (w′ ≡ added w tail (u .to) p y) → Grew G mon tail t w w′ × Ran G mon w′ j p
-      ran e tail w h p y hp small made t w′ d =
-          let a = did-add tail w h (u .to) p y to-in hp small happens t w′ d in (
-            a .0,
-            λ n. run-covers G mon (is-flow s g r ready) (labels-small s g r ready) (monitor-small s g r ready) tail t w w′ (a .0) (edge j) (member-edge j hj) p hp
-                (λ q hq m. subst (λ (i : ℕ). T (member (reach w′ i p) q)) to-is (a .1 q (subst (λ (i : ℕ). T (member i q)) (sym made) m))),
-          )
-        where
-          no-return : T (not ((node G ((edge j) .from)) .ret))
-          no-return = goes-on e
+    -- it stands in the group of node n with label m, or ends it
+    pub group-in : (n m : ℕ) → (not (eqb (u .from) n) || not (eqb (u .label) m)) ≡ false → ((edge j) .from ≡ n) × ((edge j) .label ≡ m)
+    group-in n m e = let both = neither (eqb (u .from) n) (eqb (u .label) m) e in (sym from-is ∙ eqb→eq (u .from) n (both .0), sym label-is ∙ eqb→eq (u .label) m (both .1))
+      where
+        neither : (a b : Bool) → (not a || not b) ≡ false → T a × T b
+        neither true true e = (tt, tt)
+        neither true false e = absurd (subst T e tt)
+        neither false b e = absurd (subst T e tt)
 
-          happens : (q : ℕ) → q < 8 → T (member y q) → Inside G mon (meth G (u .to)) p (u .to) q
-          happens q hq m =
-              subst (λ (i : ℕ). Inside G mon (meth G i) p i q) (sym to-is)
-              (edge-happens G mon (is-flow s g r ready) (labels-small s g r ready) (monitor-small s g r ready) tail w h (edge j) (member-edge j hj) no-return p hp q hq
-              (subst (λ (i : ℕ). T (member i q)) made m))
+    pub group-ends : (n m first : ℕ) → first ≤ j → (not (eqb (u .from) n) || not (eqb (u .label) m)) ≡ true → (k : ℕ) → Grouped G n m first k → k < j
+    group-ends n m first h e k grouped = go (decLt k j)
+      where
+        outside : (a b : Bool) → (not a || not b) ≡ true → T a → T b → ⊥
+        outside true true d t z = subst T (sym d) tt
+        outside true false d t z = z
+        outside false b d t z = t
+
+        go : Dec (k < j) → k < j
+        go (yes l) = l
+        go (no l) =
+            let a = grouped j h (omega (arith, l)) in
+            absurd (outside (eqb (u .from) n) (eqb (u .label) m) e (eq-eqb (u .from) n (from-is ∙ a .0)) (eq-eqb (u .label) m (label-is ∙ a .1)))
+
+    -- where it leaves node n, with the states that it makes of those which were at n: w₀ may have grown since
+    pub ran : (n : ℕ) → (edge j) .from ≡ n → T (not ((node G n) .ret)) → (tail end : ℕ) (w₀ w : List ℕ) → Holding G mon tail w₀ → Grew G mon tail end w₀ w → (p y : ℕ) → p < 8 → y < 256
+        → y ≡ cond (eqb (u .label) 0) (reach w₀ n p) (passed mon (sums w₀) (meth G n) (u .label) (reach w₀ n p))
+        → (t : ℕ) (w′ : List ℕ) → (t ≡ added-tail w end (u .to) p y) × (w′ ≡ added w end (u .to) p y) → Grew G mon end t w w′ × Ran G mon w′ j p
+    ran n leaves goes tail end w₀ w h grew p y hp small y-is t w′ d =
+        let a = did-add end w (grew .holding) (u .to) p y to-in hp small happens t w′ d in (
+          a .0,
+          λ c. run-covers G mon (is-flow s g r ready) (labels-small s g r ready) (monitor-small s g r ready) tail t w₀ w′ (grew-on G mon tail end t w₀ w w′ grew (a .0)) (edge j) (member-edge j hj) p hp
+              (λ q hq m. subst (λ (i : ℕ). T (member (reach w′ i p) q)) to-is (a .1 q (subst (λ (i : ℕ). T (member i q)) (sym made) m))),
+        )
+      where
+        made : y ≡ after-edge G mon (sums w₀) (edge j) (reach w₀ ((edge j) .from) p)
+        made = y-is ∙ ap₂ (λ (l i : ℕ). cond (eqb l 0) (reach w₀ i p) (passed mon (sums w₀) (meth G i) l (reach w₀ i p))) label-is (sym leaves)
+
+        happens : (q : ℕ) → q < 8 → T (member y q) → Inside G mon (meth G (u .to)) p (u .to) q
+        happens q hq m =
+            subst (λ (i : ℕ). Inside G mon (meth G i) p i q) (sym to-is)
+            (edge-happens G mon (is-flow s g r ready) (labels-small s g r ready) (monitor-small s g r ready) tail w₀ h (edge j) (member-edge j hj)
+            (subst (λ (i : ℕ). T (not ((node G i) .ret))) (sym leaves) goes) p hp q hq (subst (λ (i : ℕ). T (member i q)) made m))
 
   -- what was run stays so
   module _ (a b : ℕ) (v w : List ℕ) (grew : Grew G mon a b v w) (j : ℕ) (hj : j < s .edges) where
     pub ran-kept : (p : ℕ) → p < 8 → Ran G mon v j p → Ran G mon w j p
     ran-kept p hp f t = covered-kept G mon (is-flow s g r ready) (labels-small s g r ready) (monitor-small s g r ready) a b v w grew (edge j) (member-edge j hj) p hp (f t)
 
-    pub ran-all-kept : (t u w₀ : List ℕ) → RanAll G mon t u w₀ v j → RanAll G mon t u w₀ w j
-    ran-all-kept t u w₀ f n p hp i hi l c x = ran-kept p hp (λ z. f z p hp i hi l c x) n
+    pub ran-in-kept : (set y p : ℕ) (w₀ : List ℕ) → p < 8 → RanIn G mon set y w₀ v (edge j) p → RanIn G mon set y w₀ w (edge j) p
+    ran-in-kept set y p w₀ hp f i hi l c x =
+        covered-kept G mon (is-flow s g r ready) (labels-small s g r ready) (monitor-small s g r ready) a b v w grew (edge j) (member-edge j hj) p hp (f i hi l c x)
 
     -- a start stays one
     pub starts-kept : (set p : ℕ) → p < 8 → StartsIn G mon set v (edge j) p → StartsIn G mon set w (edge j) p
@@ -315,46 +381,53 @@ module _ (s : Regions) (g r : List ℕ) (ready : Ready s g r) where
         f i hi (links-kept _ _ i set y l)
         (covered-but-kept G mon (is-flow s g r ready) (labels-small s g r ready) (monitor-small s g r ready) a b v w grew (edge j) (member-edge j hj) p hp i c) (starts-kept set p hp x)
 
-  pub source-in : (j : ℕ) → j < s .edges → (n h : ℕ) → Call G mon (edge j) n h → n < size G
-  source-in j hj n h c = subst (λ (k : ℕ). k < size G) (sym (c .leaves)) ((is-flow s g r ready) .from-node (edge j) (member-edge j hj))
+  -- the same of all calls of a group
+  module _ (a b : ℕ) (v w : List ℕ) (grew : Grew G mon a b v w) (callers ends : List ℕ) (first : ℕ) where
+    pub group-kept : (w₀ : List ℕ) → GroupRan G mon callers ends w₀ v first → GroupRan G mon callers ends w₀ w first
+    group-kept w₀ f j l h c z p hp = ran-in-kept a b v w grew j (in-file j h) _ _ p w₀ hp (f j l h c z p hp)
 
-  -- call j for one entry state more: its ends are added, or it is reached in no state of the set
-  module _ (set y tail end : ℕ) (w₀ w : List ℕ) (grew : Grew G mon tail end w₀ w) (j : ℕ) (hj : j < s .edges) (n h : ℕ) (c : Call G mon (edge j) n h) (p : ℕ) (hp : p < 8)
-      (done : (i : ℕ) → i < p → RanIn G mon set y w₀ w (edge j) i) (x : ℕ) (x-is : x ≡ reach w n p) where
-    pub target-in : h < size G
-    target-in = subst (λ (k : ℕ). k < size G) (sym (c .leads)) ((is-flow s g r ready) .to-node (edge j) (member-edge j hj))
+    pub group-from : (w′ : List ℕ) → GroupRan G mon callers ends w w′ first → GroupRan G mon callers ends v w′ first
+    group-from w′ f j l h c z p hp = ran-from a b v w grew j (in-file j h) _ _ p w′ hp (f j l h c z p hp)
 
-    pub where-added : y < 256 → x < 256 → set < 256 → (i : ℕ) × (i < 8) × Links G mon (meth G ((edge j) .from)) ((edge j) .label) i set y w₀ → 0 < bitAnd x set → (t : ℕ) (w′ : List ℕ)
-        → (t ≡ added-tail w end h p y) × (w′ ≡ added w end h p y) → Grew G mon tail t w₀ w′ × ((i : ℕ) → i < p + 1 → RanIn G mon set y w₀ w′ (edge j) i)
-    where-added hy hx hs link some t w′ d = (grew-on G mon tail end t w₀ w w′ grew (did .0), below-more (RanIn G mon set y w₀ w′ (edge j)) p before here)
+  -- one entry state more of a row added to node n
+  pub row-more : (tail end : ℕ) (w₀ w : List ℕ) → Grew G mon tail end w₀ w → (n : ℕ) → n < s .nodes → (row : List ℕ) → RowHappens G mon n row → (p : ℕ) → p < 8
+      → HasRow w n row p → (t : ℕ) (w′ : List ℕ) → (t ≡ added-tail w end n p (getD row p 0)) × (w′ ≡ added w end n p (getD row p 0)) → Grew G mon tail t w₀ w′ × HasRow w′ n row (p + 1)
+  row-more tail end w₀ w grew n hn row happens p hp so-far t w′ d =
+      let a = did-add end w (grew .holding) n p (getD row p 0) (node-in n hn) hp (happens p hp .0) (happens p hp .1) t w′ d in (
+        grew-on G mon tail end t w₀ w w′ grew (a .0),
+        below-more (λ (i : ℕ). (q : ℕ) → T (member (getD row i 0) q) → T (member (reach w′ n i) q)) p
+            (λ i h q m. a .0 .reach-kept n i q (node-in n hn) (omega (arith, h, hp)) (so-far i h q m)) (a .1),
+      )
+
+  -- the calls of node n with label m, whose targets get a row
+  module _ (tail : ℕ) (w₀ : List ℕ) (h : Holding G mon tail w₀) (n m set y : ℕ) (is-call : 1 ≤ m) (goes : T (not ((node G n) .ret))) (row : List ℕ) (row-is : RowOf w₀ n set y row)
+      (link : (i : ℕ) × (i < 8) × Links G mon (meth G n) m i set y w₀) (j : ℕ) (hj : j < s .edges) (leaves : (edge j) .from ≡ n) (calls-m : (edge j) .label ≡ m) where
+    row-happens : set < 256 → y < 256 → RowHappens G mon ((edge j) .to) row
+    row-happens small few p hp = (
+      subst (λ (k : ℕ). k < 256) (sym (row-is p hp)) (row-small (eqb (bitAnd (reach w₀ n p) set) 0)),
+      λ q hq z.
+          let a = row-e w₀ n set y row row-is p q hp (h .reach-small n p (subst (λ (k : ℕ). k < size G) leaves ((is-flow s g r ready) .from-node (edge j) (member-edge j hj))) hp) small z in
+          links-happen G mon (is-flow s g r ready) (labels-small s g r ready) (monitor-small s g r ready) tail w₀ h (edge j) (member-edge j hj)
+          (subst (λ (k : ℕ). T (not ((node G k) .ret))) (sym leaves) goes) p hp (link .0) set y (omega (arith, is-call, calls-m))
+          (subst (λ (k : ℕ). Links G mon (meth G k) ((edge j) .label) (link .0) set y w₀) (sym leaves) (subst (λ (l : ℕ). Links G mon (meth G n) l (link .0) set y w₀) (sym calls-m) (link .2)))
+          (a .1 .0, a .1 .1, subst (λ (k : ℕ). T (member (reach w₀ k p) (a .1 .0))) (sym leaves) (a .1 .2), a .1 .3) q hq (a .0),
+    )
       where
-        start : StartsIn G mon set w (edge j) p
-        start = let a = sets-meet x set hx hs some in (a .0, a .1, subst (λ (k : ℕ). T (member k (a .0))) (x-is ∙ ap (λ (v : ℕ). reach w v p) (c .leaves)) (a .2), a .3)
+        row-small : (b : Bool) → cond b 0 y < 256
+        row-small true = omega arith
+        row-small false = few
 
-        did : Grew G mon end t w w′ × ((q : ℕ) → T (member y q) → T (member (reach w′ h p) q))
-        did = did-add end w (grew .holding) h p y target-in hp hy
-            (λ q hq m. subst (λ (k : ℕ). Inside G mon (meth G k) p k q) (sym (c .leads))
-            (links-happen G mon (is-flow s g r ready) (labels-small s g r ready) (monitor-small s g r ready) end w (grew .holding) (edge j) (member-edge j hj) (c .no-return) p hp (link .0) set y (c .is-call)
-            (links-kept tail end w₀ w grew j hj _ _ (link .0) set y (link .2)) start q hq m)) t w′ d
+    pub may-get : set < 256 → y < 256 → (to : ℕ) → to ≡ (edge j) .to → (to < s .nodes) × RowHappens G mon to row
+    may-get small few to e = (
+      node-of to (subst (λ (k : ℕ). k < size G) (sym e) ((is-flow s g r ready) .to-node (edge j) (member-edge j hj))),
+      subst (λ (k : ℕ). RowHappens G mon k row) (sym e) (row-happens small few),
+    )
 
-        before : (i : ℕ) → i < p → RanIn G mon set y w₀ w′ (edge j) i
-        before i hi k hk l b z =
-            covered-kept G mon (is-flow s g r ready) (labels-small s g r ready) (monitor-small s g r ready) end t w w′ (did .0) (edge j) (member-edge j hj) i (omega (arith, hi, hp)) (done i hi k hk l b z)
-
-        here : RanIn G mon set y w₀ w′ (edge j) p
-        here k hk l b z =
-            links-cover G mon (is-flow s g r ready) (labels-small s g r ready) (monitor-small s g r ready) end t w w′ (did .0) (edge j) (member-edge j hj) p hp k set y (c .is-call) hk
-            (links-kept tail end w₀ w grew j hj _ _ k set y l)
-            (covered-but-kept G mon (is-flow s g r ready) (labels-small s g r ready) (monitor-small s g r ready) tail end w₀ w grew (edge j) (member-edge j hj) p hp k b)
-            (λ q m. subst (λ (v : ℕ). T (member (reach w′ v p) q)) (c .leads) (did .1 q m))
-
-    pub where-not : bitAnd x set ≤ 0 → (i : ℕ) → i < p + 1 → RanIn G mon set y w₀ w (edge j) i
-    where-not none = below-more (RanIn G mon set y w₀ w (edge j)) p done (λ i hi l b z. absurd (meets (starts-kept tail end w₀ w grew j hj set p hp z)))
-      where
-        meets : StartsIn G mon set w (edge j) p → ⊥
-        meets z =
-            apart-e x set (eq-eqb (bitAnd x set) 0 (omega (arith, none))) (z .0)
-            (subst (λ (k : ℕ). T (member k (z .0))) (sym (x-is ∙ ap (λ (v : ℕ). reach w v p) (c .leaves))) (z .2)) (z .3)
+    pub row-runs : (to : ℕ) → to ≡ (edge j) .to → (end : ℕ) (w : List ℕ) → Grew G mon tail end w₀ w → HasRow w to row 8 → (p : ℕ) → p < 8 → RanIn G mon set y w₀ w (edge j) p
+    row-runs to e end w grew has p hp i hi l b z =
+        links-cover G mon (is-flow s g r ready) (labels-small s g r ready) (monitor-small s g r ready) tail end w₀ w grew (edge j) (member-edge j hj) p hp i set y (omega (arith, is-call, calls-m)) hi l b
+        (λ q c. subst (λ (k : ℕ). T (member (reach w k p) q)) e
+        (has p hp q (subst (λ (k : ℕ). T (member k q)) (sym (row-i w₀ n set y row row-is p (z .0) hp (subst (λ (k : ℕ). T (member (reach w₀ k p) (z .0))) leaves (z .2)) (z .3))) c)))
 
   -- the sets of a caller of method m link
   pub links-of : (j : ℕ) → j < s .edges → (m i : ℕ) (callers ends w : List ℕ) → (edge j) .label ≡ m → Entering mon m i callers → Returning mon m (sums w m i) ends
@@ -371,6 +444,15 @@ module _ (s : Regions) (g r : List ℕ) (ready : Ready s g r) where
 
   pub edge-in-file : (n j : ℕ) → j < first-edge G n → j < s .edges
   edge-in-file n j h = omega (arith, first-edge-le G n, edges-is s g r ready)
+
+  pub leaves-node : (n j : ℕ) → first-edge G n ≤ j → j < first-edge G (n + 1) → (edge j) .from ≡ n
+  leaves-node n j a b =
+      in-leaves (ready .graph-file .limits) G (is-filed s g r ready) n j (omega (arith, b, first-edge-le G (n + 1))) a (subst (λ (k : ℕ). j < first-edge G k) (add-one n) b)
+
+  -- the states after an edge, while nothing but what is reached grows
+  pub after-same : (tail end : ℕ) (v w : List ℕ) → Grew G mon tail end v w → (m l x : ℕ) → cond (eqb l 0) x (passed mon (sums w) m l x) ≡ cond (eqb l 0) x (passed mon (sums v) m l x)
+  after-same tail end v w grew m l x =
+      ap (λ (f : ℕ → ℕ → ℕ). cond (eqb l 0) x (passed mon f m l x)) (sums-same G mon (is-flow s g r ready) (labels-small s g r ready) (monitor-small s g r ready) tail end v w grew)
 
   pub ran-edges : (w : List ℕ) (n p : ℕ) → ((j : ℕ) → j < first-edge G (n + 1) → first-edge G n ≤ j → Ran G mon w j p) → EdgesRun G mon w n p
   ran-edges w n p f =
@@ -512,6 +594,15 @@ module _ (s : Regions) (g r : List ℕ) (ready : Ready s g r) where
           (
             state-there,
             (ap (λ (u : GraphNode). u .method) v-is, (subst T (sym (sym (ap (λ (u : GraphNode). u .returns) v-is) ∙ e)) tt, (head + 1, omega (arith, some), point-due))),
+          ),
+        )
+
+        pub may-run : v .returns ≡ false → (at / 8 < s .nodes) × ((at % 8 < 8) × ((v .method ≡ meth G (at / 8)) × ((T (not ((node G (at / 8)) .ret))) × Holding G mon tail w₁)))
+        may-run e = (
+          node-of (at / 8) node-there,
+          (
+            state-there,
+            (ap (λ (u : GraphNode). u .method) v-is, (subst (λ (b : Bool). T (not b)) (sym (sym (ap (λ (u : GraphNode). u .returns) v-is) ∙ e)) tt, point-due .holding)),
           ),
         )
 

@@ -1,6 +1,6 @@
--- What watching puts into its lent buffer before it follows runs: the monitor's step as a table, the first edge of each node, and the edges by label.
+-- What watching puts into its lent buffer before it follows runs: the monitor's step as a table, the first edge of each node, and the groups of edges by label.
 use mathlib.Core.Path.{_≡_}
-use mathlib.Core.Bool.{Bool}
+use mathlib.Core.Bool.{Bool, not, cond, _&&_}
 use mathlib.Core.List.{List}
 use Prim.Native.Nat.{ℕ, _+_, _*_, _-_, _≤_, _<_}
 use lib.Dec.{eqb}
@@ -48,7 +48,24 @@ Firsts G w = (g : ℕ) → g ≤ size G → cell w 33792 2 g ≡ first-edge G g
 abbrev pub labelled : Graph → ℕ → ℕ → Bool
 labelled G l e = eqb ((getD (G .edges) e no-edge) .label) l
 
+-- edges d and e leave one node with one label
+abbrev pub alike : Graph → ℕ → ℕ → Bool
+alike G d e =
+    eqb ((getD (G .edges) d no-edge) .from) ((getD (G .edges) e no-edge) .from) && eqb ((getD (G .edges) d no-edge) .label) ((getD (G .edges) e no-edge) .label)
+
+-- Edges that leave one node with one label stand in a row, a group: the label of edge e where it is the first of its group, else 0.
+abbrev pub opening : Graph → ℕ → ℕ
+opening G e = cond (not (eqb e 0) && alike G (e - 1) e) 0 ((getD (G .edges) e no-edge) .label)
+
+-- edge e is the first of a group with label l, which is not 0
+abbrev pub opens : Graph → ℕ → ℕ → Bool
+opens G l e = eqb (opening G e) l
+
+-- the edges from `first` to e leave node g with label l
+abbrev pub Grouped : Graph → ℕ → ℕ → ℕ → ℕ → Type 0
+Grouped G g l first e = (k : ℕ) → first ≤ k → k ≤ e → ((getD (G .edges) k no-edge) .from ≡ g) × ((getD (G .edges) k no-edge) .label ≡ l)
+
 pub record Tables (G : Graph) (mon : Monitor) (w : List ℕ) : Type 0 where
   pub steps : Stepped mon w
   pub firsts : Firsts G w
-  pub by-label : Chained w 34306 34324 (labelled G) 9 (length (G .edges))
+  pub by-label : Chained w 34306 34324 (opens G) 9 (length (G .edges))

@@ -6,17 +6,17 @@ use mathlib.Core.Logic.{_⊎_, _↔_}
 use mathlib.Core.Bool.{not, cond, _&&_}
 use mathlib.Core.List.{List, [], List·Memᴰ}
 use Prim.Native.Nat.{ℕ, suc, _+_, _-_, _*_, _/_, _%_, _^_, _≤_, _<_}
-use lib.Bits.{bitOr}
+use lib.Bits.{bitOr, bitAnd}
 use lib.Dec.{T, eqb}
 use lib.ListN.{length, getD}
 use Rattle.files.specs.Basics.Lists.{span}
 use Rattle.files.specs.Basics.Tables.{tally}
 use Rattle.files.specs.Basics.Tests.{any}
 use Rattle.files.specs.Cells.{cell, put-cell}
-use Rattle.files.specs.Graph.{Graph, Edge, size, node}
+use Rattle.files.specs.Graph.{Graph, Edge, size, node, no-edge}
 use Rattle.files.specs.Rules.{Monitor, calls, returns-to}
 use Rattle.maximal.specs.Masks.{member, mask}
-use Rattle.runs.specs.Prepared.{Tables}
+use Rattle.runs.specs.Prepared.{Grouped, Tables}
 use Rattle.runs.specs.Runs.{meth}
 use Rattle.runs.specs.Summary.{Inside, Yields}
 pub mod Unions
@@ -92,6 +92,14 @@ Entering mon m p t = (a q : ℕ) → a < 8 → q < 8 → member (getD t a 0) q �
 -- for each caller a, from method 1 on, the states in which it goes on where method m returns to it in a state of x
 abbrev pub Returning : Monitor → ℕ → ℕ → List ℕ → Type 0
 Returning mon m x t = (a : ℕ) → a < 8 → getD t a 0 ≡ union (λ (s : ℕ). 2 ^ mon s (returns-to m (suc a))) x
+
+-- for each entry state with which node g is reached in a state of the set, the states y; none for any other
+abbrev pub RowOf : List ℕ → ℕ → ℕ → ℕ → List ℕ → Type 0
+RowOf w g set y t = (p : ℕ) → p < 8 → getD t p 0 ≡ cond (eqb (bitAnd (reach w g p) set) 0) 0 y
+
+-- node g has for each entry state below n the states of a row
+abbrev pub HasRow : List ℕ → ℕ → List ℕ → ℕ → Type 0
+HasRow w g t n = (p : ℕ) → p < n → (q : ℕ) → T (member (getD t p 0) q) → T (member (reach w g p) q)
 
 module _ (G : Graph) (mon : Monitor) where
   -- the states after edge e, from the states x at its source
@@ -177,16 +185,24 @@ module _ (G : Graph) (mon : Monitor) where
   abbrev pub Links : ℕ → ℕ → ℕ → ℕ → ℕ → List ℕ → Type 0
   Links a m i set y w = ((q : ℕ) → q < 8 → T (member set q) → mon q (calls a m) ≡ i) × (y ≡ union (λ (s : ℕ). 2 ^ mon s (returns-to m a)) (sums w m i))
 
-  -- edge e is a call from node g to node h, and not from a return node
-  pub record Call (e : Edge) (g h : ℕ) : Type 0 where
-    pub leaves : g ≡ e .from
-    pub leads : h ≡ e .to
-    pub is-call : 0 < e .label
-    pub no-return : T (not ((node G (e .from)) .ret))
-
   -- from w₀ on to w call e is run for entry state p: where it was covered but for entry state i of its callee and starts in a state of the set, it is covered
   abbrev pub RanIn : ℕ → ℕ → List ℕ → List ℕ → Edge → ℕ → Type 0
   RanIn set y w₀ w e p = (i : ℕ) → i < 8 → Links (meth G (e .from)) (e .label) i set y w₀ → CoveredBut i w₀ e p → StartsIn set w₀ e p → Covered w e p
+
+  -- the same for each entry state, by the sets of its caller
+  abbrev pub CallRan : List ℕ → List ℕ → List ℕ → List ℕ → Edge → Type 0
+  CallRan callers ends w₀ w e =
+      T (not ((node G (e .from)) .ret)) → (p : ℕ) → p < 8 → RanIn (getD callers (meth G (e .from) - 1) 0) (getD ends (meth G (e .from) - 1) 0) w₀ w e p
+
+  -- the same for each call of the group that edge `first` opens
+  abbrev pub GroupRan : List ℕ → List ℕ → List ℕ → List ℕ → ℕ → Type 0
+  GroupRan callers ends w₀ w first =
+      (j : ℕ) → first ≤ j → j < length (G .edges) → Grouped G ((getD (G .edges) first no-edge) .from) ((getD (G .edges) first no-edge) .label) first j
+      → CallRan callers ends w₀ w (getD (G .edges) j no-edge)
+
+  -- a row has sets of states that happen at node g
+  abbrev pub RowHappens : ℕ → List ℕ → Type 0
+  RowHappens g t = (p : ℕ) → p < 8 → (getD t p 0 < 256) × ((q : ℕ) → q < 8 → T (member (getD t p 0) q) → Inside G mon (meth G g) p g q)
 
   -- from w on to w′ the calls of method m that start so, and were covered but for entry state i, are run
   pub CallsRun : ℕ → List ℕ → List ℕ → List ℕ → ℕ → Type 0

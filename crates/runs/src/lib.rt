@@ -20,6 +20,7 @@ pub mod internal;
 pub mod items;
 pub mod joining;
 pub mod passed;
+pub mod points;
 pub mod prepare;
 pub mod regions;
 pub mod search;

@@ -1,15 +1,14 @@
-// The tables of watching: the monitor's step by state and event, the first edge of each node, and the edges by label. `prepare` states that all three stand in the
+// The tables of watching: the monitor's step by state and event, the first edge of each node, and the groups of edges by label. `prepare` states that all three stand in the
 // lent buffer, and that nothing else is touched.
 ghost use mathlib.Core.Path.{_≡_};
 ghost use Prim.Native.Nat.{_+_, _≤_, _<_};
-ghost use lib.ListN.{length, replicate, getD};
+ghost use lib.ListN.{length, replicate};
 ghost use Rattle.files.specs.Access.{RulesFile};
 ghost use Rattle.files.specs.Decode.{decode-graph, decode-rules};
-ghost use Rattle.files.specs.Graph.{no-edge};
 ghost use Rattle.files.specs.Record.{count};
 ghost use Rattle.files.specs.Rules.{watch};
 ghost use Rattle.judging.specs.Chains.{Chained, Outside};
-ghost use Rattle.runs.specs.Prepared.{Ready, slot, Stepped, SteppedFrom, Firsts, labelled, Tables};
+ghost use Rattle.runs.specs.Prepared.{Ready, slot, Stepped, SteppedFrom, Firsts, opening, opens, Tables};
 use crate::regions::Regions;
 use files::cells::get8;
 use files::cells::put8;
@@ -90,25 +89,34 @@ fn put_firsts(graph: &[u8], rules: &[u8], s: Regions, work: &mut [u8])
     }
 }
 
-// The label of edge e.
-fn label_of(graph: &[u8], rules: &[u8], s: Regions, e: usize) -> usize
+// The label of edge e where it is the first of its group, else 0.
+fn opened_label(graph: &[u8], rules: &[u8], s: Regions, e: usize) -> usize
     requires { ⌜ (Ready s (now graph) (now rules)) × (e < s .edges) ⌝ }
-    ensures { λ r. ⌜ r ≡ (getD ((decode-graph (now (graph .entry))) .edges) e no-edge) .label ⌝ }
+    ensures { λ r. ⌜ r ≡ opening (decode-graph (now (graph .entry))) e ⌝ }
 {
     let EdgeAt::Is(edge) = edge_at(graph, s.nodes, e, 0) else {
         return 0;
     };
+    if e == 0 {
+        return edge.label as usize;
+    }
+    let EdgeAt::Is(before) = edge_at(graph, s.nodes, e - 1, 0) else {
+        return 0;
+    };
+    if (before.from == edge.from) & (before.label == edge.label) {
+        return 0;
+    }
     edge.label as usize
 }
 
-// Links every edge to its label.
-fn link_labels(graph: &[u8], rules: &[u8], s: Regions, work: &mut [u8])
-    requires { ⌜ (Ready s (now graph) (now rules)) × ((46949 ≤ length (now work)) × (Chained (now work) 34306 34324 (labelled (decode-graph (now graph))) 9 0)) ⌝ }
-    ensures { λ _. ⌜ (Chained (now (work .exit)) 34306 34324 (labelled (decode-graph (now (graph .entry)))) 9 (length ((decode-graph (now (graph .entry))) .edges))) × (Outside 34306 42516 (now (work .entry)) (now (work .exit))) ⌝ }
+// Links the first edge of every group to its label; the other edges to label 0, by which nothing asks.
+fn link_groups(graph: &[u8], rules: &[u8], s: Regions, work: &mut [u8])
+    requires { ⌜ (Ready s (now graph) (now rules)) × ((46949 ≤ length (now work)) × (Chained (now work) 34306 34324 (opens (decode-graph (now graph))) 9 0)) ⌝ }
+    ensures { λ _. ⌜ (Chained (now (work .exit)) 34306 34324 (opens (decode-graph (now (graph .entry)))) 9 (length ((decode-graph (now (graph .entry))) .edges))) × (Outside 34306 42516 (now (work .entry)) (now (work .exit))) ⌝ }
 {
     let mut e = 0;
     while e < s.edges {
-        let label = label_of(graph, rules, s, e);
+        let label = opened_label(graph, rules, s, e);
         link(work, Regions::LABEL_HEADS, Regions::LABEL_NEXTS, label, e);
         e += 1;
     }
@@ -121,5 +129,5 @@ pub(crate) fn prepare(graph: &[u8], rules: &[u8], s: Regions, work: &mut [u8])
 {
     put_steps(rules, work);
     put_firsts(graph, rules, s, work);
-    link_labels(graph, rules, s, work);
+    link_groups(graph, rules, s, work);
 }

@@ -21,7 +21,7 @@ impl Regions {
     // The first edge of each node, and the number of edges. (257 cells)
     pub const FIRSTS: usize = 33792;
 
-    // The edges by label: the last one of each label, and for each edge the one before it. (9 and 4,096 cells)
+    // The first edges of groups, by label: the last one of each label, and for each edge the one before it. (9 and 4,096 cells)
     pub const LABEL_HEADS: usize = 34306;
 
     pub const LABEL_NEXTS: usize = 34324;

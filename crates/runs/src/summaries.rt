@@ -1,18 +1,21 @@
 // Summaries by worklist: for each method and monitor state at its entry, the states in which it can return. `summarize` states that they stand in the lent buffer,
 // and `table_of` hands them on by value.
 ghost use mathlib.Core.Path.{_≡_};
-ghost use mathlib.Core.Bool.{not};
+ghost use mathlib.Core.Bool.{not, cond};
 ghost use Prim.Native.Nat.{ℕ, _+_, _-_, _≤_, _<_};
-ghost use lib.Bits.{bitOr};
-ghost use lib.Dec.{T};
+ghost use lib.Dec.{T, eqb};
 ghost use lib.ListN.{length, getD};
 ghost use Rattle.files.specs.Decode.{decode-graph, decode-rules};
 ghost use Rattle.files.specs.Graph.{node, no-edge};
 ghost use Rattle.files.specs.Rules.{watch};
 ghost use Rattle.maximal.specs.Masks.{member};
-ghost use Rattle.runs.specs.Prepared.{Ready, Tables};
+ghost use Rattle.runs.specs.Prepared.{Ready, Stepped, Grouped, Tables};
 ghost use Rattle.runs.specs.Runs.{meth};
-ghost use Rattle.runs.specs.Worklist.{reach, added, added-tail, Holding, Grew, Covered, PointDue, Spread, EdgesRun, CallsRun, EntriesIn, SummariesIn, Past, TableOf, Call, Links, RanIn, Entering, Returning, sums};
+ghost use Rattle.runs.specs.Worklist.{reach, Holding, Grew, PointDue, Spread, EdgesRun, CallsRun, EntriesIn, SummariesIn, Past, TableOf, Links, RanIn, GroupRan, RowOf, Entering, Returning, passed, sums};
+use crate::points::add;
+use crate::points::add_row;
+use crate::points::reached_any;
+use crate::points::row_of;
 use crate::regions::Regions;
 use crate::sets::entering_by;
 use crate::sets::one_state;
@@ -21,63 +24,36 @@ use crate::sets::returning_by;
 use files::cells::get8;
 use files::cells::get16;
 use files::cells::put8;
-use files::cells::put16;
 use files::graph::EdgeAt;
 use files::graph::NodeAt;
 use files::graph::edge_at;
 use files::graph::node_at;
 
-// Adds states to the point of node g and entry state p; if any is new, the point waits in the queue. The queue's end after it.
-fn add(work: &mut [u8], tail: usize, g: usize, p: usize, y: u8) -> usize
-    requires { ⌜ (g < 256) × ((p < 8) × ((46949 ≤ length (now work)) × ((bitOr (reach (now work) g p) y ≡ reach (now work) g p → ⊥) → tail < 16384))) ⌝ }
-    ensures { λ t. ⌜ (t ≡ added-tail (now (work .entry)) tail g p y) × (now (work .exit) ≡ added (now (work .entry)) tail g p y) ⌝ }
-{
-    let at = 8 * g + p;
-    let old = get8(work, Regions::REACHED, at);
-    let new = old | y;
-    if new == old {
-        return tail;
-    }
-    put8(work, Regions::REACHED, at, new);
-    if get8(work, Regions::WAITING, at) == 1 {
-        return tail;
-    }
-    put8(work, Regions::WAITING, at, 1);
-    put16(work, Regions::QUEUE, tail, at as u16);
-    tail + 1
-}
-
-// Runs edge j from the states at its source, entered in state p. A return node runs no edge.
-fn run_edge(
+// The states after an edge with this label by method `caller`, from the states x at its source, where y has those after an edge with label `known`.
+fn after_edge(
     graph: &[u8],
     rules: &[u8],
     s: Regions,
-    work: &mut [u8],
-    tail: usize,
-    j: usize,
-    p: usize,
-) -> usize
-    requires { ⌜ (Ready s (now graph) (now rules)) × ((j < s .edges) × ((p < 8) × (Holding (decode-graph (now graph)) (watch (decode-rules (now rules))) tail (now work)))) ⌝ }
-    ensures { λ t. ⌜ (Grew (decode-graph (now (graph .entry))) (watch (decode-rules (now (rules .entry)))) tail t (now (work .entry)) (now (work .exit))) × (T (not ((node (decode-graph (now (graph .entry))) ((getD ((decode-graph (now (graph .entry))) .edges) j no-edge) .from)) .ret)) → Covered (decode-graph (now (graph .entry))) (watch (decode-rules (now (rules .entry)))) (now (work .exit)) (getD ((decode-graph (now (graph .entry))) .edges) j no-edge) p) ⌝ }
+    work: &[u8],
+    caller: u8,
+    x: u8,
+    known: u8,
+    y: u8,
+    label: u8,
+) -> u8
+    requires { ⌜ (Ready s (now graph) (now rules)) × ((Stepped (watch (decode-rules (now rules))) (now work)) × ((46949 ≤ length (now work)) × ((1 ≤ caller) × ((caller ≤ 8) × ((label ≤ 8) × (y ≡ cond (eqb known 0) x (passed (watch (decode-rules (now rules))) (sums (now work)) caller known x))))))) ⌝ }
+    ensures { λ r. ⌜ r ≡ cond (eqb label 0) x (passed (watch (decode-rules (now (rules .entry)))) (sums (now (work .entry))) caller label x) ⌝ }
 {
-    let EdgeAt::Is(e) = edge_at(graph, s.nodes, j, 0) else {
-        return tail;
-    };
-    let NodeAt::Is(v) = node_at(graph, e.from, 0) else {
-        return tail;
-    };
-    if v.returns {
-        return tail;
+    if label == known {
+        return y;
     }
-    let x = get8(work, Regions::REACHED, 8 * e.from + p);
-    if e.label == 0 {
-        return add(work, tail, e.to, p, x);
+    if label == 0 {
+        return x;
     }
-    let y = pass(graph, rules, s, work, v.method, e.label, x);
-    add(work, tail, e.to, p, y)
+    pass(graph, rules, s, work, caller, label, x)
 }
 
-// Runs the edges of node g, entered in state p.
+// Runs the edges of node g of method `caller`, entered in state p. The states after an edge are found once for all edges with its label.
 fn run_edges(
     graph: &[u8],
     rules: &[u8],
@@ -86,64 +62,63 @@ fn run_edges(
     tail: usize,
     g: usize,
     p: usize,
+    caller: u8,
 ) -> usize
-    requires { ⌜ (Ready s (now graph) (now rules)) × ((g < s .nodes) × ((p < 8) × (Holding (decode-graph (now graph)) (watch (decode-rules (now rules))) tail (now work)))) ⌝ }
+    requires { ⌜ (Ready s (now graph) (now rules)) × ((g < s .nodes) × ((p < 8) × ((caller ≡ meth (decode-graph (now graph)) g) × ((T (not ((node (decode-graph (now graph)) g) .ret))) × (Holding (decode-graph (now graph)) (watch (decode-rules (now rules))) tail (now work)))))) ⌝ }
     ensures { λ t. ⌜ (Grew (decode-graph (now (graph .entry))) (watch (decode-rules (now (rules .entry)))) tail t (now (work .entry)) (now (work .exit))) × (EdgesRun (decode-graph (now (graph .entry))) (watch (decode-rules (now (rules .entry)))) (now (work .exit)) g p) ⌝ }
 {
+    let x = get8(work, Regions::REACHED, 8 * g + p);
     let mut j = get16(work, Regions::FIRSTS, g) as usize;
     let last = get16(work, Regions::FIRSTS, g + 1) as usize;
     let mut end = tail;
+    let mut label = 0;
+    let mut y = x;
     while j < last {
-        end = run_edge(graph, rules, s, work, end, j, p);
+        let EdgeAt::Is(e) = edge_at(graph, s.nodes, j, 0) else {
+            return end;
+        };
+        y = after_edge(graph, rules, s, work, caller, x, label, y, e.label);
+        label = e.label;
+        end = add(work, end, e.to, p, y);
         j += 1;
     }
     end
 }
 
-// The states in which node g is reached with one entry state or another.
-fn reached_any(work: &[u8], g: usize) -> u8
-    requires { ⌜ (g < 256) × (46949 ≤ length (now work)) ⌝ }
-    ensures { λ r. ⌜ ((p q : ℕ) → p < 8 → T (member (reach (now (work .entry)) g p) q) → T (member r q)) ⌝ }
-{
-    let mut p = 0;
-    let mut y = 0;
-    while p < 8 {
-        y = y | get8(work, Regions::REACHED, 8 * g + p);
-        p += 1;
-    }
-    y
-}
-
-// Adds states y to node `to`, where call j leads from node g, for each entry state with which node g is reached in a state of the set.
-fn add_where(
+// Adds a row to the target of each call of the group of node g with label m, from edge `first` on: for each entry state with which the node is reached in a state of the set, states y.
+fn run_group(
     graph: &[u8],
     rules: &[u8],
     s: Regions,
     work: &mut [u8],
     tail: usize,
-    j: usize,
+    first: usize,
     g: usize,
-    to: usize,
+    m: u8,
     set: u8,
     y: u8,
+    row: &[u8; 8],
 ) -> usize
-    requires { ⌜ (Ready s (now graph) (now rules)) × ((j < s .edges) × ((Call (decode-graph (now graph)) (watch (decode-rules (now rules))) (getD ((decode-graph (now graph)) .edges) j no-edge) g to) × ((Holding (decode-graph (now graph)) (watch (decode-rules (now rules))) tail (now work)) × ((i : ℕ) × (i < 8) × (Links (decode-graph (now graph)) (watch (decode-rules (now rules))) (meth (decode-graph (now graph)) ((getD ((decode-graph (now graph)) .edges) j no-edge) .from)) ((getD ((decode-graph (now graph)) .edges) j no-edge) .label) i set y (now work)))))) ⌝ }
-    ensures { λ t. ⌜ (Grew (decode-graph (now (graph .entry))) (watch (decode-rules (now (rules .entry)))) tail t (now (work .entry)) (now (work .exit))) × ((p : ℕ) → p < 8 → RanIn (decode-graph (now (graph .entry))) (watch (decode-rules (now (rules .entry)))) set y (now (work .entry)) (now (work .exit)) (getD ((decode-graph (now (graph .entry))) .edges) j no-edge) p) ⌝ }
+    requires { ⌜ (Ready s (now graph) (now rules)) × ((1 ≤ m) × ((T (not ((node (decode-graph (now graph)) g) .ret))) × ((Holding (decode-graph (now graph)) (watch (decode-rules (now rules))) tail (now work)) × ((RowOf (now work) g set y (now row)) × ((i : ℕ) × (i < 8) × (Links (decode-graph (now graph)) (watch (decode-rules (now rules))) (meth (decode-graph (now graph)) g) m i set y (now work))))))) ⌝ }
+    ensures { λ t. ⌜ (Grew (decode-graph (now (graph .entry))) (watch (decode-rules (now (rules .entry)))) tail t (now (work .entry)) (now (work .exit))) × ((j : ℕ) → first ≤ j → j < s .edges → Grouped (decode-graph (now (graph .entry))) g m first j → (p : ℕ) → p < 8 → RanIn (decode-graph (now (graph .entry))) (watch (decode-rules (now (rules .entry)))) set y (now (work .entry)) (now (work .exit)) (getD ((decode-graph (now (graph .entry))) .edges) j no-edge) p) ⌝ }
 {
-    let mut p = 0;
+    let mut j = first;
     let mut end = tail;
-    while p < 8 {
-        let x = get8(work, Regions::REACHED, 8 * g + p);
-        if x & set > 0 {
-            end = add(work, end, to, p, y);
+    while j < s.edges {
+        let EdgeAt::Is(e) = edge_at(graph, s.nodes, j, 0) else {
+            return end;
+        };
+        if (e.from != g) | (e.label != m) {
+            return end;
         }
-        p += 1;
+        end = add_row(graph, rules, s, work, end, e.to, row);
+        j += 1;
     }
     end
 }
 
-// Runs call j for what its callee now yields, for each entry state with which it is reached in one of its caller's states.
-fn run_call(
+// Runs the calls of the group that edge `first` opens for what their callee now yields, for each entry state with which their node is reached in one of its caller's states.
+fn run_source(
     graph: &[u8],
     rules: &[u8],
     s: Regions,
@@ -151,12 +126,12 @@ fn run_call(
     ends: &[u8; 8],
     work: &mut [u8],
     tail: usize,
-    j: usize,
+    first: usize,
 ) -> usize
-    requires { ⌜ (Ready s (now graph) (now rules)) × ((j < s .edges) × ((0 < (getD ((decode-graph (now graph)) .edges) j no-edge) .label) × ((Holding (decode-graph (now graph)) (watch (decode-rules (now rules))) tail (now work)) × ((i : ℕ) × (i < 8) × (Links (decode-graph (now graph)) (watch (decode-rules (now rules))) (meth (decode-graph (now graph)) ((getD ((decode-graph (now graph)) .edges) j no-edge) .from)) ((getD ((decode-graph (now graph)) .edges) j no-edge) .label) i (getD (now callers) (meth (decode-graph (now graph)) ((getD ((decode-graph (now graph)) .edges) j no-edge) .from) - 1) 0) (getD (now ends) (meth (decode-graph (now graph)) ((getD ((decode-graph (now graph)) .edges) j no-edge) .from) - 1) 0) (now work)))))) ⌝ }
-    ensures { λ t. ⌜ (Grew (decode-graph (now (graph .entry))) (watch (decode-rules (now (rules .entry)))) tail t (now (work .entry)) (now (work .exit))) × (T (not ((node (decode-graph (now (graph .entry))) ((getD ((decode-graph (now (graph .entry))) .edges) j no-edge) .from)) .ret)) → (p : ℕ) → p < 8 → RanIn (decode-graph (now (graph .entry))) (watch (decode-rules (now (rules .entry)))) (getD (now (callers .entry)) (meth (decode-graph (now (graph .entry))) ((getD ((decode-graph (now (graph .entry))) .edges) j no-edge) .from) - 1) 0) (getD (now (ends .entry)) (meth (decode-graph (now (graph .entry))) ((getD ((decode-graph (now (graph .entry))) .edges) j no-edge) .from) - 1) 0) (now (work .entry)) (now (work .exit)) (getD ((decode-graph (now (graph .entry))) .edges) j no-edge) p) ⌝ }
+    requires { ⌜ (Ready s (now graph) (now rules)) × ((first < s .edges) × ((0 < (getD ((decode-graph (now graph)) .edges) first no-edge) .label) × ((Holding (decode-graph (now graph)) (watch (decode-rules (now rules))) tail (now work)) × ((i : ℕ) × (i < 8) × (Links (decode-graph (now graph)) (watch (decode-rules (now rules))) (meth (decode-graph (now graph)) ((getD ((decode-graph (now graph)) .edges) first no-edge) .from)) ((getD ((decode-graph (now graph)) .edges) first no-edge) .label) i (getD (now callers) (meth (decode-graph (now graph)) ((getD ((decode-graph (now graph)) .edges) first no-edge) .from) - 1) 0) (getD (now ends) (meth (decode-graph (now graph)) ((getD ((decode-graph (now graph)) .edges) first no-edge) .from) - 1) 0) (now work)))))) ⌝ }
+    ensures { λ t. ⌜ (Grew (decode-graph (now (graph .entry))) (watch (decode-rules (now (rules .entry)))) tail t (now (work .entry)) (now (work .exit))) × (GroupRan (decode-graph (now (graph .entry))) (watch (decode-rules (now (rules .entry)))) (now (callers .entry)) (now (ends .entry)) (now (work .entry)) (now (work .exit)) first) ⌝ }
 {
-    let EdgeAt::Is(e) = edge_at(graph, s.nodes, j, 0) else {
+    let EdgeAt::Is(e) = edge_at(graph, s.nodes, first, 0) else {
         return tail;
     };
     let NodeAt::Is(v) = node_at(graph, e.from, 0) else {
@@ -168,7 +143,20 @@ fn run_call(
     let set = callers[(v.method - 1) as usize];
     let y = ends[(v.method - 1) as usize];
     if reached_any(work, e.from) & set > 0 {
-        return add_where(graph, rules, s, work, tail, j, e.from, e.to, set, y);
+        let row = row_of(work, e.from, set, y);
+        return run_group(
+            graph,
+            rules,
+            s,
+            work,
+            tail,
+            first,
+            e.from,
+            e.label,
+            set,
+            y,
+            &row,
+        );
     }
     tail
 }
@@ -190,9 +178,9 @@ fn run_calls(
     let mut at = get16(work, Regions::LABEL_HEADS, m) as usize;
     let mut end = tail;
     while at > 0 {
-        let j = at - 1;
-        end = run_call(graph, rules, s, callers, ends, work, end, j);
-        at = get16(work, Regions::LABEL_NEXTS, j) as usize;
+        let first = at - 1;
+        end = run_source(graph, rules, s, callers, ends, work, end, first);
+        at = get16(work, Regions::LABEL_NEXTS, first) as usize;
     }
     end
 }
@@ -238,7 +226,7 @@ fn take(graph: &[u8], rules: &[u8], s: Regions, work: &mut [u8], head: usize, ta
     if v.returns {
         return end_call(graph, rules, s, work, tail, g, p, v.method as usize);
     }
-    run_edges(graph, rules, s, work, tail, g, p)
+    run_edges(graph, rules, s, work, tail, g, p, v.method)
 }
 
 // Where node g is an entry, its method can be entered there in every state.

@@ -1,3 +1,4 @@
+-- The chain meets the first edge of every group with this label, and each call of the method stands in such a group.
 use mathlib.Core.Path.{_≡_, refl, _∙_}
 use Prim.Native.Nat.{_-_, _<_}
 use native.Mathlib.Omega.{arith}
@@ -7,12 +8,13 @@ use Rattle.files.specs.Decode.{decode-graph, decode-rules}
 use Rattle.files.specs.Graph.{no-edge}
 use Rattle.files.specs.Rules.{watch}
 use Rattle.judging.proofs.LevelLaws.{Walk, walk-start, walk-item, walk-turn, walk-less}
-use Rattle.runs.specs.Prepared.{labelled}
+use Rattle.runs.specs.Prepared.{opens}
 use Rattle.runs.specs.Prepared.Files.{edges-is, edges-fit}
-use Rattle.runs.specs.Worklist.{Grew}
+use Rattle.runs.specs.Worklist.{Grew, GroupRan}
 use Rattle.runs.specs.Worklist.Growth.{grew-none, grew-on}
 use Rattle.runs.specs.Worklist.Loops.{calls-run}
-use Rattle.runs.proofs.SummaryLaws.{RanAll, ran-all-kept, links-kept, links-of, ran-from}
+use Rattle.runs.proofs.PrepareLaws.{opens-label, group-of}
+use Rattle.runs.proofs.SummaryLaws.{links-kept, links-of, group-kept, group-from}
 use borrow.Author.Needs.{needs}
 use Rattle.runs.proofs.summaries.run_calls.Statement.{statement}
 use Rattle.runs.proofs.summaries.run_calls.Tie as tie
@@ -20,7 +22,7 @@ use Rattle.runs.proofs.summaries.run_calls.Tie as tie
 abbrev Inv-loop : tie.InvT-loop
 Inv-loop graph rules s callers ends work₀ tail m at₀ end₀ work at end =
     (length work ≡ length work₀) × (Grew (decode-graph graph) (watch (decode-rules rules)) tail end work₀ work)
-    × (Walk (labelled (decode-graph graph) m) (length ((decode-graph graph) .edges)) at (RanAll (decode-graph graph) (watch (decode-rules rules)) callers ends work₀ work))
+    × (Walk (opens (decode-graph graph) m) (length ((decode-graph graph) .edges)) at (GroupRan (decode-graph graph) (watch (decode-rules rules)) callers ends work₀ work))
 
 abbrev μ-loop : tie.MeasureT-loop
 μ-loop graph rules s callers ends work₀ tail m at₀ end₀ work at end = at
@@ -40,25 +42,25 @@ loop-holds c =
     let a = k .args in (
       refl,
       grew-none (decode-graph (a .graph .now)) (watch (decode-rules (a .rules .now))) (a .tail) (a .work .now) (k .pre .1 .1 .1 .0),
-      walk-start (labelled (decode-graph (a .graph .now)) (a .m)) (length ((decode-graph (a .graph .now)) .edges)) (c .get16 .result)
-          (RanAll (decode-graph (a .graph .now)) (watch (decode-rules (a .rules .now))) (a .callers .now) (a .ends .now) (a .work .now) (a .work .now)) (c .get16 .ensures ∙ k .pre .1 .1 .1 .0 .tables .by-label .heads-are (a .m) (k .pre .1 .1 .0)),
+      walk-start (opens (decode-graph (a .graph .now)) (a .m)) (length ((decode-graph (a .graph .now)) .edges)) (c .get16 .result)
+          (GroupRan (decode-graph (a .graph .now)) (watch (decode-rules (a .rules .now))) (a .callers .now) (a .ends .now) (a .work .now) (a .work .now)) (c .get16 .ensures ∙ k .pre .1 .1 .1 .0 .tables .by-label .heads-are (a .m) (k .pre .1 .1 .0)),
     )
 
 -- src/summaries.rt:165:17
-sub-j : tie.Need-sub-j Inv-loop μ-loop
-sub-j c = search needs
+sub-first : tie.Need-sub-first Inv-loop μ-loop
+sub-first c = search needs
 
 -- src/summaries.rt:166:9
-run-call-requires : tie.Need-run-call-requires Inv-loop μ-loop
-run-call-requires c κs =
+run-source-requires : tie.Need-run-source-requires Inv-loop μ-loop
+run-source-requires c κs =
     let loop-test = c .before .loop-test in
     let k = c .before .before .before .before .before .before .before .before in
     let a = k .args in
     let l = c .before .before .loop in
-    let i = walk-item (labelled (decode-graph (a .graph .now)) (a .m)) (length ((decode-graph (a .graph .now)) .edges)) (l .at)
-    (RanAll (decode-graph (a .graph .now)) (watch (decode-rules (a .rules .now))) (a .callers .now) (a .ends .now) (a .work .now) (l .work)) (l .inv .2) (loop-test .taken) in
+    let i = walk-item (opens (decode-graph (a .graph .now)) (a .m)) (length ((decode-graph (a .graph .now)) .edges)) (l .at)
+    (GroupRan (decode-graph (a .graph .now)) (watch (decode-rules (a .rules .now))) (a .callers .now) (a .ends .now) (a .work .now) (l .work)) (l .inv .2) (loop-test .taken) in
     let hj : l .at - 1 < a .s .edges = omega (arith, i .1, edges-is (a .s) (a .graph .now) (a .rules .now) (k .pre .0)) in
-    let d : (getD ((decode-graph (a .graph .now)) .edges) (l .at - 1) no-edge) .label ≡ a .m = eqb→eq _ (a .m) (i .0) in
+    let d : (getD ((decode-graph (a .graph .now)) .edges) (l .at - 1) no-edge) .label ≡ a .m = opens-label (decode-graph (a .graph .now)) (a .m) (l .at - 1) (omega (arith, k .pre .1 .0)) (i .0) in
     let z = k .pre .1 .1 .1 .1 in (
       k .pre .0,
       (
@@ -82,13 +84,13 @@ run-call-requires c κs =
 get16-requires-2 : tie.Need-get16-requires-2 Inv-loop μ-loop
 get16-requires-2 c κs =
     let loop-test = c .before .before .before .before .before .loop-test in
-    let run-call = c .before .before .before .run-call in
+    let run-source = c .before .before .before .run-source in
     let k = c .before .before .before .before .before .before .before .before .before .before .before .before in
     let a = k .args in
     let l = c .before .before .before .before .before .before .loop in
-    let i = walk-item (labelled (decode-graph (a .graph .now)) (a .m)) (length ((decode-graph (a .graph .now)) .edges)) (l .at)
-    (RanAll (decode-graph (a .graph .now)) (watch (decode-rules (a .rules .now))) (a .callers .now) (a .ends .now) (a .work .now) (l .work)) (l .inv .2) (loop-test .taken) in
-    omega (arith, i .1, edges-fit (a .s) (a .graph .now) (a .rules .now) (k .pre .0), run-call .ensures .0 .holding .room)
+    let i = walk-item (opens (decode-graph (a .graph .now)) (a .m)) (length ((decode-graph (a .graph .now)) .edges)) (l .at)
+    (GroupRan (decode-graph (a .graph .now)) (watch (decode-rules (a .rules .now))) (a .callers .now) (a .ends .now) (a .work .now) (l .work)) (l .inv .2) (loop-test .taken) in
+    omega (arith, i .1, edges-fit (a .s) (a .graph .now) (a .rules .now) (k .pre .0), run-source .ensures .0 .holding .room)
 
 -- src/summaries.rt:167:14
 cast-at-2 : tie.Need-cast-at-2 Inv-loop μ-loop
@@ -98,15 +100,15 @@ cast-at-2 c = search needs
 loop-less : tie.Need-loop-less Inv-loop μ-loop
 loop-less c =
     let loop-test = c .before .before .before .before .before .before .loop-test in
-    let run-call = c .before .before .before .before .run-call in
+    let run-source = c .before .before .before .before .run-source in
     let k = c .before .before .before .before .before .before .before .before .before .before .before .before .before in
     let a = k .args in
     let l = c .before .before .before .before .before .before .before .loop in
     let t = loop-test .taken in
-    let i = walk-item (labelled (decode-graph (a .graph .now)) (a .m)) (length ((decode-graph (a .graph .now)) .edges)) (l .at)
-    (RanAll (decode-graph (a .graph .now)) (watch (decode-rules (a .rules .now))) (a .callers .now) (a .ends .now) (a .work .now) (l .work)) (l .inv .2) (loop-test .taken) in
-    walk-less (labelled (decode-graph (a .graph .now)) (a .m)) (l .at) (c .get162 .result) t
-    (c .get162 .ensures ∙ run-call .ensures .0 .holding .tables .by-label .nexts-are (a .m) (l .at - 1) (k .pre .1 .1 .0) (i .1) (i .0))
+    let i = walk-item (opens (decode-graph (a .graph .now)) (a .m)) (length ((decode-graph (a .graph .now)) .edges)) (l .at)
+    (GroupRan (decode-graph (a .graph .now)) (watch (decode-rules (a .rules .now))) (a .callers .now) (a .ends .now) (a .work .now) (l .work)) (l .inv .2) (loop-test .taken) in
+    walk-less (opens (decode-graph (a .graph .now)) (a .m)) (l .at) (c .get162 .result) t
+    (c .get162 .ensures ∙ run-source .ensures .0 .holding .tables .by-label .nexts-are (a .m) (l .at - 1) (k .pre .1 .1 .0) (i .1) (i .0))
 
 -- src/summaries.rt:164:5
 loop-again : tie.Need-loop-again Inv-loop μ-loop
@@ -115,19 +117,18 @@ loop-again c =
     let k = c .before .before .before .before .before .before .before .before .before .before .before .before .before in
     let a = k .args in
     let l = c .before .before .before .before .before .before .before .loop in
-    let x = c .before .before .before .before .run-call in
+    let x = c .before .before .before .before .run-source in
     let t = loop-test .taken in
-    let i = walk-item (labelled (decode-graph (a .graph .now)) (a .m)) (length ((decode-graph (a .graph .now)) .edges)) (l .at)
-    (RanAll (decode-graph (a .graph .now)) (watch (decode-rules (a .rules .now))) (a .callers .now) (a .ends .now) (a .work .now) (l .work)) (l .inv .2) (loop-test .taken) in
+    let i = walk-item (opens (decode-graph (a .graph .now)) (a .m)) (length ((decode-graph (a .graph .now)) .edges)) (l .at)
+    (GroupRan (decode-graph (a .graph .now)) (watch (decode-rules (a .rules .now))) (a .callers .now) (a .ends .now) (a .work .now) (l .work)) (l .inv .2) (loop-test .taken) in
     let n = c .get162 .ensures ∙ x .ensures .0 .holding .tables .by-label .nexts-are (a .m) (l .at - 1) (k .pre .1 .1 .0) (i .1) (i .0) in (
       x .kept .1 .1 .1 .1 .1 .0 ∙ l .inv .0,
       grew-on (decode-graph (a .graph .now)) (watch (decode-rules (a .rules .now))) (a .tail) (l .end) (x .result) (a .work .now) (l .work) (x .last .1 .1 .1 .1 .1 .0) (l .inv .1) (x .ensures .0),
-      walk-turn (labelled (decode-graph (a .graph .now)) (a .m)) (length ((decode-graph (a .graph .now)) .edges)) (l .at) (c .get162 .result)
-          (RanAll (decode-graph (a .graph .now)) (watch (decode-rules (a .rules .now))) (a .callers .now) (a .ends .now) (a .work .now) (l .work)) (RanAll (decode-graph (a .graph .now)) (watch (decode-rules (a .rules .now))) (a .callers .now) (a .ends .now) (a .work .now) (x .last .1 .1 .1 .1 .1 .0))
+      walk-turn (opens (decode-graph (a .graph .now)) (a .m)) (length ((decode-graph (a .graph .now)) .edges)) (l .at) (c .get162 .result)
+          (GroupRan (decode-graph (a .graph .now)) (watch (decode-rules (a .rules .now))) (a .callers .now) (a .ends .now) (a .work .now) (l .work)) (GroupRan (decode-graph (a .graph .now)) (watch (decode-rules (a .rules .now))) (a .callers .now) (a .ends .now) (a .work .now) (x .last .1 .1 .1 .1 .1 .0))
           (l .inv .2) t n
-          (λ j h. ran-all-kept (a .s) (a .graph .now) (a .rules .now) (k .pre .0) (l .end) (x .result) (l .work) (x .last .1 .1 .1 .1 .1 .0) (x .ensures .0) j
-          (omega (arith, h, edges-is (a .s) (a .graph .now) (a .rules .now) (k .pre .0))) (a .callers .now) (a .ends .now) (a .work .now))
-          (λ u p hp. ran-from (a .s) (a .graph .now) (a .rules .now) (k .pre .0) (a .tail) (l .end) (a .work .now) (l .work) (l .inv .1) (l .at - 1) (omega (arith, i .1, edges-is (a .s) (a .graph .now) (a .rules .now) (k .pre .0))) _ _ p (x .last .1 .1 .1 .1 .1 .0) hp (x .ensures .1 u p hp)),
+          (λ j h. group-kept (a .s) (a .graph .now) (a .rules .now) (k .pre .0) (l .end) (x .result) (l .work) (x .last .1 .1 .1 .1 .1 .0) (x .ensures .0) (a .callers .now) (a .ends .now) j (a .work .now))
+          (group-from (a .s) (a .graph .now) (a .rules .now) (k .pre .0) (a .tail) (l .end) (a .work .now) (l .work) (l .inv .1) (a .callers .now) (a .ends .now) (l .at - 1) (x .last .1 .1 .1 .1 .1 .0) (x .ensures .1)),
     )
 
 -- src/summaries.rt:158:1
@@ -142,7 +143,8 @@ returns c =
     let l = c .before .loop in (
       l .inv .1,
       λ i hi into back. calls-run (decode-graph (a .graph .now)) (watch (decode-rules (a .rules .now))) i (a .callers .now) (a .work .now) (l .work) (a .m)
-          (λ j h t n p hp. l .inv .2 .3 j h t (omega (arith, c .loop-test .left)) n p hp i hi
+          (λ j h t n p hp. let f = group-of (decode-graph (a .graph .now)) (a .m) j t in
+          l .inv .2 .3 (f .0) (omega (arith, f .1, h)) (f .2) (omega (arith, c .loop-test .left)) j (f .1) h (f .3) n p hp i hi
           (links-of (a .s) (a .graph .now) (a .rules .now) (k .pre .0) j (omega (arith, h, edges-is (a .s) (a .graph .now) (a .rules .now) (k .pre .0))) (a .m) i (a .callers .now) (a .ends .now) (a .work .now) (eqb→eq _ (a .m) t) into back)),
     )
 
@@ -155,8 +157,8 @@ run-calls-spec =
     get16-requires
     cast-at
     loop-holds
-    sub-j
-    run-call-requires
+    sub-first
+    run-source-requires
     get16-requires-2
     cast-at-2
     loop-less

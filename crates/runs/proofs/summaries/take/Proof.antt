@@ -3,7 +3,7 @@ use native.Mathlib.Omega.{arith}
 use Rattle.files.specs.Decode.{decode-graph}
 use Rattle.files.specs.Graph.{node}
 use Rattle.judging.proofs.HeldLaws.{held-node}
-use Rattle.runs.proofs.SummaryLaws.{node-read, node-readable, node-of, queue-fits, node-there, at-fits, point-due, may-end, point-ends, point-runs}
+use Rattle.runs.proofs.SummaryLaws.{node-read, node-readable, queue-fits, node-there, at-fits, may-end, may-run, point-ends, point-runs}
 use borrow.Author.Needs.{needs}
 use Rattle.runs.proofs.summaries.take.Statement.{statement}
 use Rattle.runs.proofs.summaries.take.Tie as tie
@@ -96,18 +96,13 @@ run-edges-requires : tie.Need-run-edges-requires
 run-edges-requires c κs =
     let get16 = c .before .before .before .before .before .before .before .before .before .before .get16 in
     let put8 = c .before .before .before .before .put8 in
+    let node-at = c .before .before .before .before .before .before .before .before .before .node-at in
+    let read-v = c .before .before .before .before .before .before .before .v in
     let k = c .before .before .before .before .before .before .before .before .before .before .before .before .before .before .before in
     let a = k .args in (
       k .pre .0,
-      (
-        node-of (a .s) (a .graph .now) (a .rules .now) (k .pre .0) (get16 .result / 8)
-            (node-there (a .s) (a .graph .now) (a .rules .now) (k .pre .0) (a .head) (a .tail) (a .work .now) (k .pre .1 .1) (k .pre .1 .0) (get16 .result) (get16 .ensures)),
-        (
-          omega arith,
-          (point-due (a .s) (a .graph .now) (a .rules .now) (k .pre .0) (a .head) (a .tail) (a .work .now) (k .pre .1 .1) (k .pre .1 .0) (get16 .result) (get16 .ensures) (put8 .last .0)
-              (put8 .ensures)) .holding,
-        ),
-      ),
+      may-run (a .s) (a .graph .now) (a .rules .now) (k .pre .0) (a .head) (a .tail) (a .work .now) (k .pre .1 .1) (k .pre .1 .0) (get16 .result) (get16 .ensures) (put8 .last .0)
+          (put8 .ensures) _ (held-node (node-at .result) _ (node (decode-graph (a .graph .now)) (get16 .result / 8)) (read-v .given .1) (node-at .ensures)) (c .before .if1 .left),
     )
 
 -- src/summaries.rt:197:1

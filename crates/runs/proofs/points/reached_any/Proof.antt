@@ -1,8 +1,8 @@
 use Prim.Native.Nat.{_-_, _≤_}
 use native.Mathlib.Omega.{arith}
 use Rattle.runs.proofs.SummaryLaws.{ReachedTo, reached-more}
-use Rattle.runs.proofs.summaries.reached_any.Statement.{statement}
-use Rattle.runs.proofs.summaries.reached_any.Tie as tie
+use Rattle.runs.proofs.points.reached_any.Statement.{statement}
+use Rattle.runs.proofs.points.reached_any.Tie as tie
 
 abbrev Inv-loop : tie.InvT-loop
 Inv-loop work g p₀ y₀ p y = (p ≤ 8) × ReachedTo work g y p

@@ -4,8 +4,8 @@ use native.Mathlib.Omega.{arith}
 use lib.Bits.{bitOr}
 use Rattle.runs.specs.Worklist.Growth.{add-same, add-waiting, add-new}
 use borrow.Author.Needs.{needs}
-use Rattle.runs.proofs.summaries.add.Statement.{statement}
-use Rattle.runs.proofs.summaries.add.Tie as tie
+use Rattle.runs.proofs.points.add.Statement.{statement}
+use Rattle.runs.proofs.points.add.Tie as tie
 
 -- src/summaries.rt:91:14
 mul-at : tie.Need-mul-at

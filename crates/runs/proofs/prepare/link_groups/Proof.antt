@@ -4,17 +4,17 @@ use native.Mathlib.Omega.{arith}
 use lib.ListN.{length}
 use Rattle.files.specs.Decode.{decode-graph}
 use Rattle.judging.specs.Chains.{Chained, Outside}
-use Rattle.runs.specs.Prepared.{labelled}
+use Rattle.runs.specs.Prepared.{opens}
 use Rattle.runs.specs.Prepared.Files.{edges-is}
-use Rattle.runs.proofs.PrepareLaws.{label-below, label-on}
-use Rattle.runs.proofs.prepare.link_labels.Statement.{statement}
-use Rattle.runs.proofs.prepare.link_labels.Tie as tie
+use Rattle.runs.proofs.PrepareLaws.{opened-below, opened-on}
+use Rattle.runs.proofs.prepare.link_groups.Statement.{statement}
+use Rattle.runs.proofs.prepare.link_groups.Tie as tie
 
 abbrev Inv-loop : tie.InvT-loop
 Inv-loop graph rules s work₀ e₀ work e =
     (e ≤ s .edges)
     × (length work ≡ length work₀)
-    × (Chained work 34306 34324 (labelled (decode-graph graph)) 9 e)
+    × (Chained work 34306 34324 (opens (decode-graph graph)) 9 e)
     × (Outside 34306 42516 work₀ work)
 
 abbrev μ-loop : tie.MeasureT-loop
@@ -25,8 +25,8 @@ loop-holds : tie.Need-loop-holds Inv-loop μ-loop
 loop-holds c = (omega arith, refl, c .before .before .before .pre .1 .1, λ q d. refl)
 
 -- src/prepare.rt:111:13
-label-of-requires : tie.Need-label-of-requires Inv-loop μ-loop
-label-of-requires c κs = (c .before .before .before .before .before .before .pre .0, c .if1 .taken)
+opened-label-requires : tie.Need-opened-label-requires Inv-loop μ-loop
+opened-label-requires c κs = (c .before .before .before .before .before .before .pre .0, c .if1 .taken)
 
 -- src/prepare.rt:112:9
 link-requires : tie.Need-link-requires Inv-loop μ-loop
@@ -35,8 +35,8 @@ link-requires c κs =
     let a = k .args in
     let t = c .before .before .if1 .taken in
     let l = c .before .before .before .before .loop in
-    let x = c .before .label-of in
-    let b = label-below (a .s) (a .graph .now) (a .rules .now) (k .pre .0) (l .e) (x .result) t (x .ensures) in (
+    let x = c .before .opened-label in
+    let b = opened-below (a .s) (a .graph .now) (a .rules .now) (k .pre .0) (l .e) (x .result) t (x .ensures) in (
       omega (arith, b, l .inv .1, k .pre .1 .0),
       (omega (arith, t, l .inv .1, k .pre .1 .0, k .pre .0 .few-edges), omega (arith, t, k .pre .0 .few-edges)),
     )
@@ -56,10 +56,10 @@ loop-again c =
     let a = k .args in
     let l = c .before .before .before .before .before .before .before .loop in
     let t = c .before .before .before .before .before .if1 .taken in
-    let x = c .before .before .before .before .label-of in
+    let x = c .before .before .before .before .opened-label in
     let p = c .before .before .link in
     let n =
-    label-on (a .s) (a .graph .now) (a .rules .now) (k .pre .0) (l .e) (x .result) t (x .ensures) (a .work .now) (l .work) _
+    opened-on (a .s) (a .graph .now) (a .rules .now) (k .pre .0) (l .e) (x .result) t (x .ensures) (a .work .now) (l .work) _
     (omega (arith, l .inv .1, k .pre .1 .0)) (l .inv .2) (l .inv .3) (p .ensures) in
     (omega (arith, t), p .kept .0 ∙ l .inv .1, n .0, n .1)
 
@@ -74,16 +74,16 @@ returns c =
     let a = k .args in
     let l = c .before .before .loop in
     let n : l .e ≡ length ((decode-graph (a .graph .now)) .edges) = omega (arith, c .if1 .left, l .inv .0, edges-is (a .s) (a .graph .now) (a .rules .now) (k .pre .0)) in
-    (subst (Chained (l .work) 34306 34324 (labelled (decode-graph (a .graph .now))) 9) n (l .inv .2), l .inv .3)
+    (subst (Chained (l .work) 34306 34324 (opens (decode-graph (a .graph .now))) 9) n (l .inv .2), l .inv .3)
 
-pub link-labels-spec : {M : Type 1} → statement M
-link-labels-spec =
+pub link-groups-spec : {M : Type 1} → statement M
+link-groups-spec =
     tie.close
     (tie.spec
     Inv-loop
     μ-loop
     loop-holds
-    label-of-requires
+    opened-label-requires
     link-requires
     add-e
     loop-less
