@@ -6,7 +6,6 @@ use mathlib.Core.List.{List}
 use mathlib.Core.Option.{none}
 use Prim.Native.Nat.{ℕ, _≤_, _<_}
 use lib.ListN.{length}
-use Rattle.files.specs.Access.{InterfaceFile}
 use Rattle.files.specs.Checking.{checked}
 use Rattle.files.specs.Decode.{decode-graph, decode-property, decode-interface, decode-rules}
 use Rattle.files.specs.Graph.{Graph, Flow}
@@ -14,17 +13,16 @@ use Rattle.files.specs.Interface.{Interface, Of, united}
 use Rattle.files.specs.Outcome.{Said, Outcome, Answer, Answers, work-after, Check, whole-check, scan-check, file-checks, out-check, answered, Lines, line, whole-line, file-lines, out-line, short, no-start}
 use Rattle.files.specs.Outcome.{NoStart, too-large, TooLarge}
 use Rattle.files.specs.Property.{Row}
-use Rattle.files.specs.Record.{count}
-use Rattle.files.specs.Refusal.{graph, property, rules, interface, refusal, nodes-of}
+use Rattle.files.specs.Refusal.{graph, property, rules, interface, refusal}
 use Rattle.files.specs.Rules.{Monitor, watch}
 use Rattle.files.specs.Sides.{first-foreign, ForeignAt, shares, Shares, unprovided, Unprovided}
 use Rattle.files.specs.declared.check.Checked.{Checked}
-use Rattle.files.specs.declared.check.Checked.the-variants.{Accepted, Refused}
 use Rattle.files.specs.declared.record.Limits.{Limits}
-use Rattle.judging.specs.Judge.{GraphWithin, Strides}
+use Rattle.judging.specs.Judge.{Strides}
 use Rattle.judging.specs.Levels.{Satisfies}
 use Rattle.maximal.specs.Model.{model}
 use Rattle.maximal.specs.Modelling.{Bounded, model-room}
+use Rattle.runs.specs.Checks.{then-checked, side-checked}
 use Rattle.runs.specs.Join.{join}
 use Rattle.runs.specs.Prepared.{watch-room}
 use Rattle.runs.specs.Watching.{watch-said}
@@ -148,25 +146,12 @@ pub record DoesBoth (o : Outcome) (out store work out′ store′ work′ : List
 
 -- ---- the five files
 
--- the second of two checks where the first accepts
-abbrev pub then-checked : Checked → Checked → Checked
-then-checked (Refused f) y = Refused f
-then-checked (Accepted n c) y = y
-
 -- the files in argument order: the first refusal, or the counts of the known graph
 abbrev pub files-checked : Limits → List ℕ → List ℕ → List ℕ → List ℕ → List ℕ → Checked
 files-checked L ki kg oi p r =
-    then-checked (checked L interface ki 1) (then-checked (checked L graph kg 2) (then-checked (checked L interface oi 3) (then-checked (checked L property p 4)
-    (then-checked (checked L rules r 5) (checked L graph kg 2)))))
+    then-checked (side-checked L ki kg 1) (then-checked (checked L interface oi 3) (then-checked (checked L property p 4) (then-checked (checked L rules r 5) (side-checked L ki kg 1))))
 
 -- ---- what the code knows on its way
-
--- the known side's files are accepted, and its graph has so many nodes and records
-pub record KnownSide (L : Limits) (ki kg : List ℕ) (nodes records : ℕ) : Type 0 where
-  pub interface-file : InterfaceFile ki
-  pub graph-within : GraphWithin L kg
-  pub nodes-are : nodes ≡ nodes-of kg
-  pub records-are : records ≡ count kg
 
 -- the other side's files are accepted
 pub record OtherSide (L : Limits) (oi p : List ℕ) : Type 0 where

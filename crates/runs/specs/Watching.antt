@@ -5,13 +5,16 @@ use mathlib.Core.Bool.{cond}
 use mathlib.Core.List.{List, [], _∷_}
 use Prim.Native.Nat.{ℕ, _<_}
 use lib.ListN.{length}
+use Rattle.files.specs.Checking.{checked}
 use Rattle.files.specs.Decode.{decode-graph, decode-interface, decode-rules}
 use Rattle.files.specs.Graph.{Graph}
 use Rattle.files.specs.Outcome.{Said, Outcome, Check, whole-check, scan-check, file-checks, out-check, answered, Lines, line, whole-line, file-lines, out-line, short, no-start, NoStart}
 use Rattle.files.specs.Refusal.{graph, rules, interface}
 use Rattle.files.specs.Rules.{Monitor, watch}
 use Rattle.files.specs.Sides.{first-foreign, ForeignAt, unprovided, Unprovided}
+use Rattle.files.specs.declared.check.Checked.{Checked}
 use Rattle.files.specs.declared.record.Limits.{Limits}
+use Rattle.runs.specs.Checks.{then-checked, side-checked}
 use Rattle.runs.specs.Prepared.{watch-room}
 use Rattle.runs.specs.Runs.{Bad, Clean}
 use Rattle.runs.specs.Summary.{clean}
@@ -73,3 +76,7 @@ pub record Watches (G : Graph) (mon : Monitor) (m : ℕ) (s : Said) : Type 0 whe
   pub clean-writes : s .verdict ≡ 1 → (s .values ≡ []) × (s .written ≡ [])
   pub bad-writes : s .verdict ≡ 2 → (s .values ≡ length (trail G mon m) ∷ []) × (s .written ≡ trail-bytes G mon m)
   pub bad-shows : s .verdict ≡ 2 → TrailShows G mon m (trail G mon m)
+
+-- the files in argument order: the first refusal, or the counts of the graph
+abbrev pub files-checked : Limits → List ℕ → List ℕ → List ℕ → Checked
+files-checked L i g r = then-checked (side-checked L i g 1) (then-checked (checked L rules r 3) (side-checked L i g 1))

@@ -11,15 +11,17 @@ ghost use Rattle.judging.specs.Judge.{Strides};
 ghost use Rattle.judging.specs.Refinement.{Both};
 ghost use Rattle.maximal.specs.Modelling.{Bounded};
 ghost use Rattle.runs.specs.Answer.{watched-answer};
+ghost use Rattle.runs.specs.Checks.{KnownSide};
 ghost use Rattle.runs.specs.Composing.{composed, compose-verdict, joined-verdict, from-joined, from-size, from-sides, from-known};
-ghost use Rattle.runs.specs.Composing.{DoesBoth, KnownSide, OtherSide, Room, then-checked, files-checked};
+ghost use Rattle.runs.specs.Composing.{DoesBoth, OtherSide, Room, files-checked};
 use crate::answers::Verdict;
+use crate::checks::check_side;
+use crate::checks::then_checked;
 use crate::joining::write_join;
 use crate::regions::Regions;
 use crate::watching::watch_runs;
 use files::cells::clear;
 use files::check::Checked;
-use files::check::check_graph;
 use files::check::check_interface;
 use files::check::check_property;
 use files::check::check_rules;
@@ -145,16 +147,6 @@ fn compose_sides(
     )
 }
 
-// The second of two checks where the first accepts.
-fn then_checked(first: Checked, second: Checked) -> Checked
-    ensures { λ r. ⌜ r ≡ then-checked first second ⌝ }
-{
-    match first {
-        Checked::Refused(refusal) => Checked::Refused(refusal),
-        Checked::Accepted { .. } => second,
-    }
-}
-
 // The files in argument order: the first refusal, or the counts of the known graph.
 fn check_files(
     known: &[u8],
@@ -166,12 +158,11 @@ fn check_files(
 ) -> Checked
     ensures { λ r. ⌜ r ≡ files-checked limits (now (known .entry)) (now (graph .entry)) (now (other .entry)) (now (property .entry)) (now (rules .entry)) ⌝ }
 {
-    let counted = check_graph(graph, 2, limits);
-    let rest = then_checked(check_rules(rules, 5, limits), counted);
+    let side = check_side(known, graph, 1, limits);
+    let rest = then_checked(check_rules(rules, 5, limits), side);
     let rest = then_checked(check_property(property, 4, limits), rest);
     let rest = then_checked(check_interface(other, 3, limits), rest);
-    let rest = then_checked(counted, rest);
-    then_checked(check_interface(known, 1, limits), rest)
+    then_checked(side, rest)
 }
 
 // The files' refusals and the start method's 3, then the rest.

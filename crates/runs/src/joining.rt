@@ -10,15 +10,14 @@ ghost use Rattle.files.specs.Decode.{decode-graph, graph-bytes};
 ghost use Rattle.files.specs.Outcome.{Answers, answered};
 ghost use Rattle.files.specs.Record.{count};
 ghost use Rattle.files.specs.Refusal.{nodes-of};
-ghost use Rattle.judging.specs.Judge.{GraphWithin, Strides};
+ghost use Rattle.judging.specs.Judge.{Strides};
 ghost use Rattle.judging.specs.Refinement.{Both};
 ghost use Rattle.runs.specs.Join.{join};
-ghost use Rattle.runs.specs.Joining.{joined, joined-answer, join-said, from-graph1, from-interface2, from-graph2, from-sides, from-size, moved-bytes};
+ghost use Rattle.runs.specs.Joining.{joined, joined-answer, join-said, from-sides, from-size, moved-bytes};
 use crate::answers::Joined;
+use crate::checks::check_side;
 use files::cells::copy_at;
 use files::check::Checked;
-use files::check::check_graph;
-use files::check::check_interface;
 use files::encode::put_record;
 use files::graph::EdgeAt;
 use files::graph::edge_at;
@@ -127,93 +126,6 @@ fn join_sides(
     join_sizes(interface1, graph1, interface2, graph2, out, limits, s)
 }
 
-// The second graph's refusals, then the rest, where the first graph has so many nodes and records.
-fn join_graph2(
-    interface1: &[u8],
-    graph1: &[u8],
-    interface2: &[u8],
-    graph2: &[u8],
-    out: &mut [u8],
-    limits: Limits,
-    nodes: usize,
-    records: usize,
-) -> Joined
-    requires { ⌜ (InterfaceFile (now interface1)) × ((GraphWithin limits (now graph1)) × ((nodes ≡ nodes-of (now graph1)) × ((records ≡ count (now graph1)) × ((InterfaceFile (now interface2)) × (Strides limits))))) ⌝ }
-    ensures { λ r. ⌜ Answers (answered (from-graph2 limits (now (interface1 .entry)) (now (graph1 .entry)) (now (interface2 .entry)) (now (graph2 .entry)) (length (now (out .entry)))) (join-said limits (now (interface1 .entry)) (now (graph1 .entry)) (now (interface2 .entry)) (now (graph2 .entry)) (length (now (out .entry))))) (now (out .entry)) (now (out .exit)) (joined-answer r) ⌝ }
-{
-    match check_graph(graph2, 4, limits) {
-        Checked::Refused(refusal) => Joined::Refused(refusal),
-        Checked::Accepted {
-            nodes: nodes2,
-            records: records2,
-        } => {
-            let s = Sizes {
-                nodes: nodes,
-                edges: records - nodes,
-                nodes2: nodes2,
-                edges2: records2 - nodes2,
-            };
-            join_sides(interface1, graph1, interface2, graph2, out, limits, s)
-        }
-    }
-}
-
-// The second interface's refusals, then the rest.
-fn join_interface2(
-    interface1: &[u8],
-    graph1: &[u8],
-    interface2: &[u8],
-    graph2: &[u8],
-    out: &mut [u8],
-    limits: Limits,
-    nodes: usize,
-    records: usize,
-) -> Joined
-    requires { ⌜ (InterfaceFile (now interface1)) × ((GraphWithin limits (now graph1)) × ((nodes ≡ nodes-of (now graph1)) × ((records ≡ count (now graph1)) × (Strides limits)))) ⌝ }
-    ensures { λ r. ⌜ Answers (answered (from-interface2 limits (now (interface1 .entry)) (now (graph1 .entry)) (now (interface2 .entry)) (now (graph2 .entry)) (length (now (out .entry)))) (join-said limits (now (interface1 .entry)) (now (graph1 .entry)) (now (interface2 .entry)) (now (graph2 .entry)) (length (now (out .entry))))) (now (out .entry)) (now (out .exit)) (joined-answer r) ⌝ }
-{
-    match check_interface(interface2, 3, limits) {
-        Checked::Refused(refusal) => Joined::Refused(refusal),
-        Checked::Accepted { .. } => join_graph2(
-            interface1,
-            graph1,
-            interface2,
-            graph2,
-            out,
-            limits,
-            nodes,
-            records,
-        ),
-    }
-}
-
-// The first graph's refusals, then the rest.
-fn join_graph1(
-    interface1: &[u8],
-    graph1: &[u8],
-    interface2: &[u8],
-    graph2: &[u8],
-    out: &mut [u8],
-    limits: Limits,
-) -> Joined
-    requires { ⌜ (InterfaceFile (now interface1)) × (Strides limits) ⌝ }
-    ensures { λ r. ⌜ Answers (answered (from-graph1 limits (now (interface1 .entry)) (now (graph1 .entry)) (now (interface2 .entry)) (now (graph2 .entry)) (length (now (out .entry)))) (join-said limits (now (interface1 .entry)) (now (graph1 .entry)) (now (interface2 .entry)) (now (graph2 .entry)) (length (now (out .entry))))) (now (out .entry)) (now (out .exit)) (joined-answer r) ⌝ }
-{
-    match check_graph(graph1, 2, limits) {
-        Checked::Refused(refusal) => Joined::Refused(refusal),
-        Checked::Accepted { nodes, records } => join_interface2(
-            interface1,
-            graph1,
-            interface2,
-            graph2,
-            out,
-            limits,
-            nodes,
-            records,
-        ),
-    }
-}
-
 // Joins within limits that leave node numbers in a byte.
 pub fn join_within(
     interface1: &[u8],
@@ -226,10 +138,22 @@ pub fn join_within(
     requires { ⌜ Strides limits ⌝ }
     ensures { λ r. ⌜ Answers (joined limits (now (interface1 .entry)) (now (graph1 .entry)) (now (interface2 .entry)) (now (graph2 .entry)) (length (now (out .entry)))) (now (out .entry)) (now (out .exit)) (joined-answer r) ⌝ }
 {
-    match check_interface(interface1, 1, limits) {
+    match check_side(interface1, graph1, 1, limits) {
         Checked::Refused(refusal) => Joined::Refused(refusal),
-        Checked::Accepted { .. } => {
-            join_graph1(interface1, graph1, interface2, graph2, out, limits)
-        }
+        Checked::Accepted { nodes, records } => match check_side(interface2, graph2, 3, limits) {
+            Checked::Refused(refusal) => Joined::Refused(refusal),
+            Checked::Accepted {
+                nodes: nodes2,
+                records: records2,
+            } => {
+                let s = Sizes {
+                    nodes: nodes,
+                    edges: records - nodes,
+                    nodes2: nodes2,
+                    edges2: records2 - nodes2,
+                };
+                join_sides(interface1, graph1, interface2, graph2, out, limits, s)
+            }
+        },
     }
 }

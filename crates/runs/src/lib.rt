@@ -14,6 +14,7 @@ use answers::Verdict;
 use files::record::Limits;
 
 pub mod answers;
+pub mod checks;
 pub mod composing;
 pub mod entered;
 pub mod internal;

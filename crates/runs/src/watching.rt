@@ -1,19 +1,19 @@
 // The call "watch": refusals in the published order, then summaries, the search, and the verdict with the trail where it is bad.
 ghost use mathlib.Core.Path.{_≡_};
-ghost use Prim.Native.Nat.{_-_, _≤_};
+ghost use Prim.Native.Nat.{_≤_};
 ghost use lib.ListN.{length, replicate};
 ghost use Rattle.files.specs.Access.{InterfaceFile};
 ghost use Rattle.files.specs.Decode.{decode-graph, decode-rules};
 ghost use Rattle.files.specs.Outcome.{Answers, Does, answered};
-ghost use Rattle.files.specs.Record.{count};
-ghost use Rattle.files.specs.Refusal.{nodes-of};
 ghost use Rattle.files.specs.Rules.{watch};
-ghost use Rattle.judging.specs.Judge.{GraphWithin, Strides};
+ghost use Rattle.judging.specs.Judge.{Strides};
 ghost use Rattle.runs.specs.Answer.{watched-answer};
 ghost use Rattle.runs.specs.Prepared.{Ready};
 ghost use Rattle.runs.specs.Searching.{Says};
-ghost use Rattle.runs.specs.Watching.{watched, told, watch-verdict, from-sides, from-rules, from-graph, from-interface};
+ghost use Rattle.runs.specs.Watching.{watched, told, watch-verdict, from-sides, from-interface, files-checked};
 use crate::answers::Verdict;
+use crate::checks::check_side;
+use crate::checks::then_checked;
 use crate::prepare::prepare;
 use crate::regions::Regions;
 use crate::search::search;
@@ -23,8 +23,6 @@ use crate::trail::count_records;
 use crate::trail::write_trail;
 use files::cells::clear;
 use files::check::Checked;
-use files::check::check_graph;
-use files::check::check_interface;
 use files::check::check_rules;
 use files::interface::provided_methods;
 use files::interface::required_methods;
@@ -103,68 +101,16 @@ fn watch_sides(
     watch_runs(graph, rules, start, out, work, s)
 }
 
-// The rules' refusals and the start method's 3, then the rest.
-fn watch_rules(
-    interface: &[u8],
-    graph: &[u8],
-    rules: &[u8],
-    start: u8,
-    out: &mut [u8],
-    work: &mut [u8],
-    limits: Limits,
-    nodes: usize,
-    records: usize,
-) -> Verdict
-    requires { ⌜ (InterfaceFile (now interface)) × ((GraphWithin limits (now graph)) × ((nodes ≡ nodes-of (now graph)) × ((records ≡ count (now graph)) × ((Strides limits) × ((now work ≡ replicate (length (now work)) 0) × (46949 ≤ length (now work))))))) ⌝ }
-    ensures { λ v. ⌜ Answers (answered (from-rules limits (now (interface .entry)) (now (graph .entry)) (now (rules .entry)) start (length (now (out .entry))) (length (now (work .entry)))) (watch-verdict limits (now (interface .entry)) (now (graph .entry)) (now (rules .entry)) start (length (now (out .entry))) (length (now (work .entry))))) (now (out .entry)) (now (out .exit)) (watched-answer v) ⌝ }
+// The files in argument order: the first refusal, or the counts of the graph.
+fn check_files(interface: &[u8], graph: &[u8], rules: &[u8], limits: Limits) -> Checked
+    ensures { λ r. ⌜ r ≡ files-checked limits (now (interface .entry)) (now (graph .entry)) (now (rules .entry)) ⌝ }
 {
-    match check_rules(rules, 3, limits) {
-        Checked::Refused(refusal) => Verdict::Refused(refusal),
-        Checked::Accepted { .. } => {
-            if !((1 <= start) & (start <= 8)) {
-                return Verdict::Refused(Refusal::whole(3));
-            }
-            let s = Regions {
-                nodes: nodes,
-                edges: records - nodes,
-            };
-            watch_sides(interface, graph, rules, start, out, work, limits, s)
-        }
-    }
+    let side = check_side(interface, graph, 1, limits);
+    let rest = then_checked(check_rules(rules, 3, limits), side);
+    then_checked(side, rest)
 }
 
-// The graph's refusals, then the rest.
-fn watch_graph(
-    interface: &[u8],
-    graph: &[u8],
-    rules: &[u8],
-    start: u8,
-    out: &mut [u8],
-    work: &mut [u8],
-    limits: Limits,
-) -> Verdict
-    requires { ⌜ (InterfaceFile (now interface)) × ((Strides limits) × ((now work ≡ replicate (length (now work)) 0) × (46949 ≤ length (now work)))) ⌝ }
-    ensures { λ v. ⌜ Answers (answered (from-graph limits (now (interface .entry)) (now (graph .entry)) (now (rules .entry)) start (length (now (out .entry))) (length (now (work .entry)))) (watch-verdict limits (now (interface .entry)) (now (graph .entry)) (now (rules .entry)) start (length (now (out .entry))) (length (now (work .entry))))) (now (out .entry)) (now (out .exit)) (watched-answer v) ⌝ }
-{
-    match check_graph(graph, 2, limits) {
-        Checked::Refused(refusal) => Verdict::Refused(refusal),
-        Checked::Accepted { nodes, records } => {
-            watch_rules(
-                interface,
-                graph,
-                rules,
-                start,
-                out,
-                work,
-                limits,
-                nodes,
-                records,
-            )
-        }
-    }
-}
-
-// All files' refusals, in argument order, then the rest.
+// The files' refusals and the start method's 3, then the rest.
 fn watch_files(
     interface: &[u8],
     graph: &[u8],
@@ -177,9 +123,18 @@ fn watch_files(
     requires { ⌜ (Strides limits) × ((now work ≡ replicate (length (now work)) 0) × (46949 ≤ length (now work))) ⌝ }
     ensures { λ v. ⌜ Answers (answered (from-interface limits (now (interface .entry)) (now (graph .entry)) (now (rules .entry)) start (length (now (out .entry))) (length (now (work .entry)))) (watch-verdict limits (now (interface .entry)) (now (graph .entry)) (now (rules .entry)) start (length (now (out .entry))) (length (now (work .entry))))) (now (out .entry)) (now (out .exit)) (watched-answer v) ⌝ }
 {
-    match check_interface(interface, 1, limits) {
+    match check_files(interface, graph, rules, limits) {
         Checked::Refused(refusal) => Verdict::Refused(refusal),
-        Checked::Accepted { .. } => watch_graph(interface, graph, rules, start, out, work, limits),
+        Checked::Accepted { nodes, records } => {
+            if !((1 <= start) & (start <= 8)) {
+                return Verdict::Refused(Refusal::whole(3));
+            }
+            let s = Regions {
+                nodes: nodes,
+                edges: records - nodes,
+            };
+            watch_sides(interface, graph, rules, start, out, work, limits, s)
+        }
     }
 }
 

@@ -1,4 +1,4 @@
--- Joining as the code comes to it: through each file and through 9; then a joined graph that is too large, one that does not fit, and one that is written.
+-- Joining as the code comes to it: through the files of each side and through 9; then a joined graph that is too large, one that does not fit, and one that is written.
 use mathlib.Core.Path.{_≡_, sym, ap, ap₂, subst, _∙_}
 use mathlib.Core.Bool.{Bool, true, false}
 use mathlib.Core.List.{List, [], _∷_}
@@ -9,7 +9,6 @@ use lib.Dec.{T}
 use lib.ListN.{length}
 use Rattle.files.specs.Cells.{put-at}
 use Rattle.files.specs.Cells.Laws.{put-front}
-use Rattle.files.specs.Checking.{checked}
 use Rattle.files.specs.Decode.{decode-graph, decode-interface, graph-bytes}
 use Rattle.files.specs.Decode.Graphs.{few}
 use Rattle.files.specs.Graph.{Graph}
@@ -17,10 +16,9 @@ use Rattle.files.specs.Interface.{Interface}
 use Rattle.files.specs.Limits.{desk}
 use Rattle.files.specs.Outcome.{Said, Outcome, refuses, Answer, Answers, refused-answer, verdict-answer, Check, whole-check, scan-check, answered, refusal-at}
 use Rattle.files.specs.Outcome.Laws.{says-too-large}
-use Rattle.files.specs.Outcome.Steps.{whole-refuses, whole-passes, scan-refuses, scan-passes, answers-refused, answers-same, answers-file-refused, answers-file-passed, answers-large, answers-short}
+use Rattle.files.specs.Outcome.Steps.{whole-refuses, whole-passes, scan-refuses, scan-passes, answers-refused, answers-same, answers-large, answers-short}
 use Rattle.files.specs.Outcome.Steps.{answers-written}
 use Rattle.files.specs.Record.{count}
-use Rattle.files.specs.Refusal.{graph, interface}
 use Rattle.files.specs.Sides.{first-foreign, first-foreign-record, shares}
 use Rattle.files.specs.Sides.Reads.{record-found, none-found}
 use Rattle.files.specs.declared.check.Checked.{Checked}
@@ -29,8 +27,10 @@ use Rattle.files.specs.declared.record.Limits.{Limits}
 use Rattle.files.specs.declared.refusal.Refusal.{Refusal}
 use Rattle.judging.specs.Refinement.{Both}
 use Rattle.judging.specs.declared.sizes.Sizes.{Sizes}
+use Rattle.runs.specs.Checks.{side-checked}
+use Rattle.runs.specs.Checks.Laws.{side-settles, settled-refused, settled-passed}
 use Rattle.runs.specs.Join.{join}
-use Rattle.runs.specs.Joining.{joined, join-said, from-size, from-sides, from-graph2, from-interface2, from-graph1}
+use Rattle.runs.specs.Joining.{joined, join-said, from-size, from-sides, from-interface2, join-checks}
 use Rattle.runs.specs.Joining.Sizes.{passes-limits, limits-are, small, nodes-joined, edges-joined, bytes-joined}
 
 module _ (L : Limits) (i1 g1 i2 g2 out : List ℕ) where
@@ -49,47 +49,29 @@ module _ (L : Limits) (i1 g1 i2 g2 out : List ℕ) where
   abbrev on-sides : List Check
   on-sides = from-sides L i1 g1 i2 g2 (length out)
 
-  abbrev on-graph2 : List Check
-  on-graph2 = from-graph2 L i1 g1 i2 g2 (length out)
-
   abbrev on-interface2 : List Check
   on-interface2 = from-interface2 L i1 g1 i2 g2 (length out)
 
-  abbrev on-graph1 : List Check
-  on-graph1 = from-graph1 L i1 g1 i2 g2 (length out)
+  -- ---- the files of each side
 
-  -- ---- the files, as checking answers
+  abbrev on-files : List Check
+  on-files = join-checks L i1 g1 i2 g2 (length out)
 
-  module _ (x : Checked) where
-    pub interface1-refused : x ≡ checked L interface i1 1 → (r : Refusal) → x ≡ Refused r → Answers (joined L i1 g1 i2 g2 (length out)) out out (refused-answer r)
+  module _ (x : Checked) (is : x ≡ side-checked L i1 g1 1) where
+    pub first-refused : (f : Refusal) → x ≡ Refused f → Answers (joined L i1 g1 i2 g2 (length out)) out out (refused-answer f)
     unfolding joined
-    interface1-refused is r d = answers-file-refused L 1 interface i1 on-graph1 said out x is r d
+    first-refused = settled-refused L said on-files on-interface2 x (side-checked L i1 g1 1) is (side-settles L said 1 i1 g1 on-interface2) out
 
-    pub interface1-passed : x ≡ checked L interface i1 1 → (n c : ℕ) (out′ : List ℕ) (a : Answer) → x ≡ Accepted n c → Answers (answered on-graph1 said) out out′ a
-        → Answers (joined L i1 g1 i2 g2 (length out)) out out′ a
+    pub first-passed : (n c : ℕ) → x ≡ Accepted n c → (out′ : List ℕ) (a : Answer) → Answers (answered on-interface2 said) out out′ a → Answers (joined L i1 g1 i2 g2 (length out)) out out′ a
     unfolding joined
-    interface1-passed is n c out′ a d = answers-file-passed L 1 interface i1 on-graph1 said out x is n c out′ a d
+    first-passed = settled-passed L said on-files on-interface2 x (side-checked L i1 g1 1) is (side-settles L said 1 i1 g1 on-interface2) out
 
-    pub graph1-refused : x ≡ checked L graph g1 2 → (r : Refusal) → x ≡ Refused r → Answers (answered on-graph1 said) out out (refused-answer r)
-    graph1-refused is r d = answers-file-refused L 2 graph g1 on-interface2 said out x is r d
+  module _ (x : Checked) (is : x ≡ side-checked L i2 g2 3) where
+    pub second-refused : (f : Refusal) → x ≡ Refused f → Answers (answered on-interface2 said) out out (refused-answer f)
+    second-refused = settled-refused L said on-interface2 on-sides x (side-checked L i2 g2 3) is (side-settles L said 3 i2 g2 on-sides) out
 
-    pub graph1-passed : x ≡ checked L graph g1 2 → (n c : ℕ) (out′ : List ℕ) (a : Answer) → x ≡ Accepted n c
-        → Answers (answered on-interface2 said) out out′ a → Answers (answered on-graph1 said) out out′ a
-    graph1-passed is n c out′ a d = answers-file-passed L 2 graph g1 on-interface2 said out x is n c out′ a d
-
-    pub interface2-refused : x ≡ checked L interface i2 3 → (r : Refusal) → x ≡ Refused r → Answers (answered on-interface2 said) out out (refused-answer r)
-    interface2-refused is r d = answers-file-refused L 3 interface i2 on-graph2 said out x is r d
-
-    pub interface2-passed : x ≡ checked L interface i2 3 → (n c : ℕ) (out′ : List ℕ) (a : Answer) → x ≡ Accepted n c
-        → Answers (answered on-graph2 said) out out′ a → Answers (answered on-interface2 said) out out′ a
-    interface2-passed is n c out′ a d = answers-file-passed L 3 interface i2 on-graph2 said out x is n c out′ a d
-
-    pub graph2-refused : x ≡ checked L graph g2 4 → (r : Refusal) → x ≡ Refused r → Answers (answered on-graph2 said) out out (refused-answer r)
-    graph2-refused is r d = answers-file-refused L 4 graph g2 on-sides said out x is r d
-
-    pub graph2-passed : x ≡ checked L graph g2 4 → (n c : ℕ) (out′ : List ℕ) (a : Answer) → x ≡ Accepted n c
-        → Answers (answered on-sides said) out out′ a → Answers (answered on-graph2 said) out out′ a
-    graph2-passed is n c out′ a d = answers-file-passed L 4 graph g2 on-sides said out x is n c out′ a d
+    pub second-passed : (n c : ℕ) → x ≡ Accepted n c → (out′ : List ℕ) (a : Answer) → Answers (answered on-sides said) out out′ a → Answers (answered on-interface2 said) out out′ a
+    second-passed = settled-passed L said on-interface2 on-sides x (side-checked L i2 g2 3) is (side-settles L said 3 i2 g2 on-sides) out
 
   module _ (s : Sizes) (both : Both s g1 g2) where
     -- ---- 9, in argument order, then a shared method

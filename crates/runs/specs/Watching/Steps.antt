@@ -8,7 +8,6 @@ use native.Mathlib.Omega.{arith}
 use lib.Dec.{T, ltb}
 use lib.ListN.{length, drop, replicate}
 use borrow.Author.Tests.{lt-ltb, le-ltb}
-use Rattle.files.specs.Access.{AcceptedAs}
 use Rattle.files.specs.Basics.First.{whole}
 use Rattle.files.specs.Basics.Lists.{length-each}
 use Rattle.files.specs.Basics.Tests.{T-eq}
@@ -21,10 +20,10 @@ use Rattle.files.specs.Graph.{Graph}
 use Rattle.files.specs.Interface.{Interface}
 use Rattle.files.specs.Outcome.{Said, Outcome, refuses, says, Answer, Answers, Does, answer, out-after, refused-answer, verdict-answer, Check, whole-check, answered}
 use Rattle.files.specs.Outcome.{refusal-at, no-start, short, out-check}
-use Rattle.files.specs.Outcome.Steps.{whole-refuses, whole-passes, scan-refuses, scan-passes, answers-refused, answers-same, answers-file-refused, answers-file-passed, out-passes, out-refuses}
+use Rattle.files.specs.Outcome.Steps.{whole-refuses, whole-passes, scan-refuses, scan-passes, answers-refused, answers-same, out-passes, out-refuses}
 use Rattle.files.specs.Outcome.Steps.{file-low, check-low, out-low, does-left, does-cleared}
 use Rattle.files.specs.Record.{count}
-use Rattle.files.specs.Refusal.{graph, rules, interface, nodes-of}
+use Rattle.files.specs.Refusal.{graph, rules, interface}
 use Rattle.files.specs.Rules.{Monitor}
 use Rattle.files.specs.Sides.{first-foreign, first-foreign-record, unprovided}
 use Rattle.files.specs.Sides.Reads.{record-found, none-found}
@@ -32,12 +31,14 @@ use Rattle.files.specs.declared.check.Checked.{Checked}
 use Rattle.files.specs.declared.check.Checked.the-variants.{Accepted, Refused}
 use Rattle.files.specs.declared.record.Limits.{Limits}
 use Rattle.files.specs.declared.refusal.Refusal.{Refusal}
-use Rattle.judging.specs.Judge.{GraphWithin, Strides}
+use Rattle.judging.specs.Judge.{Strides}
+use Rattle.runs.specs.Checks.{then-checked, side-checked, KnownSide, Settles}
+use Rattle.runs.specs.Checks.Laws.{then-accepts, side-known, side-settles, file-settles, then-settles, accepted-settles, settled-refused, settled-passed}
 use Rattle.runs.specs.Prepared.{Ready, watch-room}
 use Rattle.runs.specs.Summary.{clean}
 use Rattle.runs.specs.Summary.Trails.{trail, trail-rec-bytes, trail-bytes}
 use Rattle.runs.specs.Summary.Trails.Laws.{trail-bytes-is}
-use Rattle.runs.specs.Watching.{watch-said, told, watch-verdict, from-verdict, from-sides, from-start, from-rules, from-graph, from-interface, watched}
+use Rattle.runs.specs.Watching.{watch-said, told, watch-verdict, from-verdict, from-sides, from-start, from-rules, from-graph, from-interface, watched, files-checked}
 use Rattle.runs.specs.Watching.Laws.{clean-said, bad-said}
 use Rattle.runs.specs.declared.regions.Regions.{Regions}
 
@@ -60,33 +61,27 @@ module _ (L : Limits) (i g r : List ℕ) (m : ℕ) (out : List ℕ) (work : ℕ)
   abbrev on-rules : List Check
   on-rules = from-rules L i g r m (length out) work
 
-  abbrev on-graph : List Check
-  on-graph = from-graph L i g r m (length out) work
-
   abbrev on-interface : List Check
   on-interface = from-interface L i g r m (length out) work
 
-  -- ---- the files, as checking answers
+  -- ---- the files
 
-  module _ (x : Checked) where
-    pub interface-refused : x ≡ checked L interface i 1 → (f : Refusal) → x ≡ Refused f → Answers (answered on-interface said) out out (refused-answer f)
-    interface-refused is f d = answers-file-refused L 1 interface i on-graph said out x is f d
+  by-rules : Checked
+  by-rules = then-checked (checked L rules r 3) (side-checked L i g 1)
 
-    pub interface-passed : x ≡ checked L interface i 1 → (n c : ℕ) (out′ : List ℕ) (a : Answer) → x ≡ Accepted n c → Answers (answered on-graph said) out out′ a
-        → Answers (answered on-interface said) out out′ a
-    interface-passed is n c out′ a d = answers-file-passed L 1 interface i on-graph said out x is n c out′ a d
+  files-settle : Settles said on-interface on-start (files-checked L i g r)
+  unfolding by-rules
+  files-settle =
+      then-settles L said on-interface on-rules on-start (side-checked L i g 1) by-rules (side-settles L said 1 i g on-rules)
+      (λ n c known. then-settles L said on-rules on-start on-start (checked L rules r 3) (side-checked L i g 1) (file-settles L said 3 rules r on-start)
+      (λ n3 c3 e3. accepted-settles L said on-start (side-checked L i g 1) n c known))
 
-    pub graph-refused : x ≡ checked L graph g 2 → (f : Refusal) → x ≡ Refused f → Answers (answered on-graph said) out out (refused-answer f)
-    graph-refused is f d = answers-file-refused L 2 graph g on-rules said out x is f d
+  module _ (x : Checked) (is : x ≡ files-checked L i g r) where
+    pub files-refused : (f : Refusal) → x ≡ Refused f → Answers (answered on-interface said) out out (refused-answer f)
+    files-refused = settled-refused L said on-interface on-start x (files-checked L i g r) is files-settle out
 
-    pub graph-passed : x ≡ checked L graph g 2 → (n c : ℕ) (out′ : List ℕ) (a : Answer) → x ≡ Accepted n c → Answers (answered on-rules said) out out′ a → Answers (answered on-graph said) out out′ a
-    graph-passed is n c out′ a d = answers-file-passed L 2 graph g on-rules said out x is n c out′ a d
-
-    pub rules-refused : x ≡ checked L rules r 3 → (f : Refusal) → x ≡ Refused f → Answers (answered on-rules said) out out (refused-answer f)
-    rules-refused is f d = answers-file-refused L 3 rules r on-start said out x is f d
-
-    pub rules-passed : x ≡ checked L rules r 3 → (n c : ℕ) (out′ : List ℕ) (a : Answer) → x ≡ Accepted n c → Answers (answered on-start said) out out′ a → Answers (answered on-rules said) out out′ a
-    rules-passed is n c out′ a d = answers-file-passed L 3 rules r on-start said out x is n c out′ a d
+    pub files-passed : (n c : ℕ) → x ≡ Accepted n c → (out′ : List ℕ) (a : Answer) → Answers (answered on-start said) out out′ a → Answers (answered on-interface said) out out′ a
+    files-passed = settled-passed L said on-interface on-start x (files-checked L i g r) is files-settle out
 
   -- ---- the start method
 
@@ -190,26 +185,27 @@ module _ (L : Limits) (i g r : List ℕ) (m : ℕ) (out work : List ℕ) where
 
 -- ---- what the checks of the files leave to the verdict
 
-module _ (L : Limits) (strides : Strides L) (g r : List ℕ) (within : GraphWithin L g) (nodes records : ℕ) (nodes-are : nodes ≡ nodes-of g) (records-are : records ≡ count g) where
-  pub nodes-first : nodes ≤ records
-  nodes-first = omega (arith, nodes-are, records-are, few L g within)
+module _ (L : Limits) (i g r : List ℕ) (x : Checked) (is : x ≡ files-checked L i g r) (n c : ℕ) (d : x ≡ Accepted n c) where
+  rules-accept : ((a : ℕ) × (b : ℕ) × (checked L rules r 3 ≡ Accepted a b)) × (side-checked L i g 1 ≡ Accepted n c)
+  rules-accept =
+      then-accepts (checked L rules r 3) (side-checked L i g 1) n c (then-accepts (side-checked L i g 1) (then-checked (checked L rules r 3) (side-checked L i g 1)) n c (sym is ∙ d) .1)
 
-  pub ready-of : (x : Checked) → x ≡ checked L rules r 3 → (n c : ℕ) → x ≡ Accepted n c → Ready (record { nodes = nodes; edges = records - nodes }) g r
-  ready-of x is n c d =
+  pub side-is : KnownSide L i g n c
+  side-is = side-known L i g 1 n c (rules-accept .1)
+
+  pub ready-of : Strides L → Ready (record { nodes = n; edges = c - n }) g r
+  ready-of strides =
+      let within = side-is .graph-within in
       let f = decoded-filed L g within in
-      let a = f .few-nodes in
-      let b = f .few-edges in
+      let a = rules-accept .0 in
       record {
         graph-file = record { limits = L; accepted = within };
-        rules-file = record { limits = L; accepted = accepted-counts L rules r 3 n c (sym is ∙ d) .0 };
-        nodes-are = nodes-are;
-        edges-are = ap₂ (λ (i j : ℕ). j - i) nodes-are records-are;
-        few-nodes = omega (arith, a, decoded-size L g within, nodes-are, strides .nodes-fit);
-        few-edges = omega (arith, b, decoded-edges L g within, nodes-are, records-are, strides .edges-fit);
+        rules-file = record { limits = L; accepted = accepted-counts L rules r 3 (a .0) (a .1) (a .2) .0 };
+        nodes-are = side-is .nodes-are;
+        edges-are = ap₂ (λ (i j : ℕ). j - i) (side-is .nodes-are) (side-is .records-are);
+        few-nodes = omega (arith, f .few-nodes, decoded-size L g within, side-is .nodes-are, strides .nodes-fit);
+        few-edges = omega (arith, f .few-edges, decoded-edges L g within, side-is .nodes-are, side-is .records-are, strides .edges-fit);
       }
-
-pub interface-of : (L : Limits) (i : List ℕ) (x : Checked) → x ≡ checked L interface i 1 → (n c : ℕ) → x ≡ Accepted n c → AcceptedAs interface i
-interface-of L i x is n c d = record { limits = L; accepted = accepted-counts L interface i 1 n c (sym is ∙ d) .0 }
 
 pub does-desk : (L : Limits) (i g r : List ℕ) (m : ℕ) (out work out′ work′ : List ℕ) (a : Answer) → L ≡ desk → Does (watched L i g r m (length out) (length work)) out work out′ work′ a
     → Does (watched desk i g r m (length out) (length work)) out work out′ work′ a

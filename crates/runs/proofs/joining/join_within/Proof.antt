@@ -1,55 +1,125 @@
-use Rattle.files.specs.Access.Laws.{accepted-as}
-use Rattle.files.specs.Refusal.{interface}
+-- The files of one side and then those of the other are refused, or all are accepted, and what is left is the tail of the checks from 9 on.
+use mathlib.Core.Path.{sym, _∙_}
+use Rattle.files.specs.Outcome.{refused-answer}
+use Rattle.judging.proofs.SimulateLaws.{both-sizes}
+use Rattle.runs.specs.Checks.Laws.{side-known, nodes-first}
 use Rattle.runs.specs.Joining.{joined-answer}
-use Rattle.runs.specs.Joining.Steps.{interface1-refused, interface1-passed}
+use Rattle.runs.specs.Joining.Steps.{first-refused, first-passed, second-refused, second-passed}
 use borrow.Author.Needs.{needs}
 use Rattle.runs.proofs.joining.join_within.Statement.{statement}
 use Rattle.runs.proofs.joining.join_within.Tie as tie
 
-check-interface-requires : tie.Need-check-interface-requires
-check-interface-requires c κs = search needs
+-- src/joining.rt:141:11
+check-side-requires : tie.Need-check-side-requires
+check-side-requires c κs = search needs
 
+-- src/joining.rt:142:26
 enum-known-refusal : tie.Need-enum-known-refusal
 enum-known-refusal c = search needs
 
-enum-told : tie.Need-enum-told
-enum-told c = search needs
+-- src/joining.rt:143:29
+enum-known-nodes : tie.Need-enum-known-nodes
+enum-known-nodes c = search needs
 
-join-graph1-requires : tie.Need-join-graph1-requires
-join-graph1-requires c κs =
-    let k = c .before .before .before .before .before .before .before .before .before in
+-- src/joining.rt:143:55
+check-side-requires-2 : tie.Need-check-side-requires-2
+check-side-requires-2 c κs = search needs
+
+-- src/joining.rt:144:30
+enum-known-refusal-2 : tie.Need-enum-known-refusal-2
+enum-known-refusal-2 c = search needs
+
+-- src/joining.rt:146:24
+enum-known-nodes2 : tie.Need-enum-known-nodes2
+enum-known-nodes2 c = search needs
+
+-- src/joining.rt:151:28
+sub-t18 : tie.Need-sub-t18
+sub-t18 c =
+    let a = c .before .before .before .before .before .before .before .before .before .before .before .before .before .args in
+    let x = c .before .before .before .before .before .before .before .check-side in
+    let d = c .before .before .before .before .before .nodes .given in
+    nodes-first (a .limits) (a .interface1 .now) (a .graph1 .now) (d .0 .0) (d .0 .1 .0) (side-known (a .limits) (a .interface1 .now) (a .graph1 .now) 1 (d .0 .0) (d .0 .1 .0) (sym (x .ensures) ∙ d .1))
+
+-- src/joining.rt:153:29
+sub-t19 : tie.Need-sub-t19
+sub-t19 c =
+    let a = c .before .before .before .before .before .before .before .before .before .before .before .before .before .args in
+    let y = c .before .before .before .check-side2 in
+    let e = c .before .nodes2 .given in
+    nodes-first (a .limits) (a .interface2 .now) (a .graph2 .now) (e .0 .0) (e .0 .1 .0) (side-known (a .limits) (a .interface2 .now) (a .graph2 .now) 3 (e .0 .0) (e .0 .1 .0) (sym (y .ensures) ∙ e .1))
+
+-- src/joining.rt:155:17
+join-sides-requires : tie.Need-join-sides-requires
+join-sides-requires c κs =
+    let k = c .before .before .before .before .before .before .before .before .before .before .before .before .before .before in
     let a = k .args in
-    let x = c .before .enum-told .given in
-    let h = c .before .before .before .check-interface in
-    (accepted-as (a .limits) interface (a .interface1 .now) 1 (h .result) (x .0 .0) (x .0 .1 .0) (h .ensures) (x .1), k .pre)
+    let x = c .before .before .before .before .before .before .before .before .check-side in
+    let d = c .before .before .before .before .before .before .nodes .given in
+    let y = c .before .before .before .before .check-side2 in
+    let e = c .before .before .nodes2 .given in
+    let first = side-known (a .limits) (a .interface1 .now) (a .graph1 .now) 1 (d .0 .0) (d .0 .1 .0) (sym (x .ensures) ∙ d .1) in
+    let second = side-known (a .limits) (a .interface2 .now) (a .graph2 .now) 3 (e .0 .0) (e .0 .1 .0) (sym (y .ensures) ∙ e .1) in (
+      first .interface-file,
+      (
+        second .interface-file,
+        (
+          both-sizes (a .limits) (k .pre) (a .graph1 .now) (a .graph2 .now) (first .graph-within) (second .graph-within) (d .0 .0) (d .0 .1 .0) (e .0 .0) (e .0 .1 .0) (first .nodes-are) (first .records-are)
+              (second .nodes-are) (second .records-are),
+          k .pre,
+        ),
+      ),
+    )
 
+-- src/joining.rt:130:1
 returns : tie.Need-returns
 returns c =
     let a = c .before .before .before .before .before .before .before .before .before .args in
-    let x = c .before .refusal .given in
-    let h = c .before .before .before .check-interface in
-    interface1-refused (a .limits) (a .interface1 .now) (a .graph1 .now) (a .interface2 .now) (a .graph2 .now) (a .out .now) (h .result) (h .ensures) (x .0 .0) (x .1)
+    let x = c .before .before .before .check-side in
+    let d = c .before .refusal .given in
+    first-refused (a .limits) (a .interface1 .now) (a .graph1 .now) (a .interface2 .now) (a .graph2 .now) (a .out .now) (x .result) (x .ensures) (d .0 .0) (d .1)
 
+-- src/joining.rt:130:1
+returns-2 : tie.Need-returns-2
+returns-2 c =
+    let a = c .before .before .before .before .before .before .before .before .before .before .before .before .before .args in
+    let x = c .before .before .before .before .before .before .before .check-side in
+    let d = c .before .before .before .before .before .nodes .given in
+    let y = c .before .before .before .check-side2 in
+    let e = c .before .refusal2 .given in
+    first-passed (a .limits) (a .interface1 .now) (a .graph1 .now) (a .interface2 .now) (a .graph2 .now) (a .out .now) (x .result) (x .ensures) (d .0 .0) (d .0 .1 .0) (d .1) (a .out .now) (refused-answer (e .0 .0)) (second-refused (a .limits) (a .interface1 .now) (a .graph1 .now) (a .interface2 .now) (a .graph2 .now) (a .out .now) (y .result) (y .ensures) (e .0 .0) (e .1))
+
+-- src/joining.rt:130:1
 same-length : tie.Need-same-length
 same-length c = search needs
 
-returns-2 : tie.Need-returns-2
-returns-2 c =
-    let a = c .before .before .before .before .before .before .before .before .before .before .before .before .args in
-    let x = c .before .before .before .before .enum-told .given in
-    let h = c .before .before .before .before .before .before .check-interface in
-    let j = c .before .before .join-graph1 in
-    interface1-passed (a .limits) (a .interface1 .now) (a .graph1 .now) (a .interface2 .now) (a .graph2 .now) (a .out .now)
-    (h .result) (h .ensures) (x .0 .0) (x .0 .1 .0) (j .last .1 .1 .1 .1 .0) (joined-answer (j .result)) (x .1) (j .ensures)
+-- src/joining.rt:130:1
+returns-3 : tie.Need-returns-3
+returns-3 c =
+    let a = c .before .before .before .before .before .before .before .before .before .before .before .before .before .before .before .before .before .args in
+    let x = c .before .before .before .before .before .before .before .before .before .before .before .check-side in
+    let d = c .before .before .before .before .before .before .before .before .before .nodes .given in
+    let y = c .before .before .before .before .before .before .before .check-side2 in
+    let e = c .before .before .before .before .before .nodes2 .given in
+    let j = c .before .before .join-sides in
+    let written = j .last .1 .1 .1 .1 .0 in
+    let says = joined-answer (j .result) in
+    first-passed (a .limits) (a .interface1 .now) (a .graph1 .now) (a .interface2 .now) (a .graph2 .now) (a .out .now) (x .result) (x .ensures) (d .0 .0) (d .0 .1 .0) (d .1) written says (second-passed (a .limits) (a .interface1 .now) (a .graph1 .now) (a .interface2 .now) (a .graph2 .now) (a .out .now) (y .result) (y .ensures) (e .0 .0) (e .0 .1 .0) (e .1) written says (j .ensures))
 
 pub join-within-spec : {M : Type 1} → statement M
 join-within-spec =
     tie.close
     (tie.spec
-    check-interface-requires
+    check-side-requires
     enum-known-refusal
-    enum-told
-    join-graph1-requires
+    enum-known-nodes
+    check-side-requires-2
+    enum-known-refusal-2
+    enum-known-nodes2
+    sub-t18
+    sub-t19
+    join-sides-requires
     returns
+    returns-2
     same-length
-    returns-2)
+    returns-3)

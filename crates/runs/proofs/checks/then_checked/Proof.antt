@@ -1,10 +1,10 @@
 -- One case of the definition for each case of the first check.
 use mathlib.Core.Path.{sym, ap}
 use Rattle.files.specs.declared.check.Checked.{Checked}
-use Rattle.runs.specs.Composing.{then-checked}
+use Rattle.runs.specs.Checks.{then-checked}
 use borrow.Author.Needs.{needs}
-use Rattle.runs.proofs.composing.then_checked.Statement.{statement}
-use Rattle.runs.proofs.composing.then_checked.Tie as tie
+use Rattle.runs.proofs.checks.then_checked.Statement.{statement}
+use Rattle.runs.proofs.checks.then_checked.Tie as tie
 
 enum-known-first : tie.Need-enum-known-first
 enum-known-first c = search needs
