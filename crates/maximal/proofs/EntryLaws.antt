@@ -1,12 +1,12 @@
 -- For the code that enters the entries: kind by kind, and what a method that is provided or not adds.
 use mathlib.Core.Path.{_≡_, refl, sym, ap, subst, _∙_}
-use mathlib.Core.Logic.{inr}
+use mathlib.Core.Logic.{inl}
 use mathlib.Core.Bool.{Bool, true, false, _&&_}
 use mathlib.Core.List.{List, [], List·Memᴰ}
-use Prim.Native.Nat.{ℕ, _+_, _/_, _^_, _≤_, _<_}
+use Prim.Native.Nat.{ℕ, _+_, _*_, _/_, _^_, _≤_, _<_}
 use native.Mathlib.Omega.{arith}
 use lib.Dec.{T, eqb}
-use lib.ListN.{length, getD, replicate, getD-replicate}
+use lib.ListN.{length}
 use lib.Pow.{pow-lt}
 use Rattle.files.specs.Basics.Tests.{any}
 use Rattle.files.specs.Decode.{decode-property}
@@ -14,9 +14,10 @@ use Rattle.files.specs.Interface.{Interface, provides}
 use Rattle.files.specs.Property.{Row, Property}
 use Rattle.judging.specs.Chains.{Outside}
 use Rattle.maximal.specs.declared.places.Scope.{Scope}
-use Rattle.maximal.specs.Charting.{Scoped, flag-of, state-of, Known, Admitted}
+use Rattle.maximal.specs.Charting.{Scoped, flag-of, state-of, target, Known, Admitted}
 use Rattle.maximal.specs.Charting.Entries.{EntriesBelow, entries-none, entries-more}
-use Rattle.maximal.specs.Charting.Files.{rows-is, rows-named}
+use Rattle.maximal.specs.Charting.Files.{rows-is, rows-fit, rows-named}
+use Rattle.maximal.specs.Charting.Kept.{tables-same}
 use Rattle.maximal.specs.Charting.Entering.{admitted-none}
 use Rattle.maximal.specs.Charting.States.{known-i, collected-entry, entry-is}
 use Rattle.maximal.specs.Collected.{supports-of, Tables}
@@ -30,16 +31,14 @@ pub record KindsEntered (s : Scope) (I : Interface) (P : List Row) (long₀ k c 
   pub tables : Tables P w
   pub entries : EntriesBelow I P k c w
 
--- a buffer of zeros is blank but for what is written before the states
-pub zeros-outside : (w w′ : List ℕ) → w ≡ replicate (length w) 0 → length w′ ≡ length w → Outside 0 256 w w′ → Outside 0 256 (replicate (length w′) 0) w′
-zeros-outside w w′ e l o b d = o b d ∙ ap (λ (u : List ℕ). getD u b 0) (e ∙ ap (λ (n : ℕ). replicate n 0) (sym l))
-
-pub kinds-none : (s : Scope) (I : Interface) (P : List Row) (w : List ℕ) → 103456 ≤ length w → Tables P w → Outside 0 256 (replicate (length w) 0) w → KindsEntered s I P (length w) 2 0 w
-kinds-none s I P w room x o = record {
+-- the tables stand before the rows, so a row may be cleared
+pub kinds-none : (s : Scope) (I : Interface) (p : List ℕ) → Scoped s p → (w w′ : List ℕ) → Tables (decode-property p) w → ((t : ℕ) → t < 256 → target w′ 2304 t ≡ false) → Outside (13312 + 32 * 2304) (13312 + 32 * 2304 + 32) w w′
+    → KindsEntered s I (decode-property p) (length w′) 2 0 w′
+kinds-none s I p scoped w w′ x blank o = record {
   fits = omega arith;
   long = refl;
-  tables = x;
-  entries = entries-none I P w (λ b l m. o b (inr l) ∙ getD-replicate {A = ℕ} (length w) b 0 0 (omega arith));
+  tables = tables-same (decode-property p) w w′ (rows-fit s p scoped) (λ b h. o b (inl (omega arith))) x;
+  entries = entries-none I (decode-property p) w′ blank;
 }
 
 module _ (s : Scope) (I : Interface) (p : List ℕ) (scoped : Scoped s p) where

@@ -6,11 +6,11 @@ use mathlib.Core.List.{List, List·Memᴰ}
 use Prim.Native.Nat.{ℕ, _+_, _*_, _/_, _%_, _^_, _≤_, _<_}
 use native.Mathlib.Omega.{arith}
 use lib.Dec.{T, eqb, eqb→eq}
-use lib.ListN.{length}
+use lib.ListN.{length, getD}
 use Rattle.files.specs.Basics.Least.{least-hit}
 use Rattle.files.specs.Basics.Tests.{and-l, and-r}
 use Rattle.files.specs.Cells.{put-cell}
-use Rattle.files.specs.Cells.Laws.{cell-agree, bit-byte}
+use Rattle.files.specs.Cells.Laws.{byte-outside, cell-agree, cell-same, cell-other, bit-byte}
 use Rattle.files.specs.Decode.{decode-property}
 use Rattle.files.specs.Interface.{Interface, requires-method}
 use Rattle.files.specs.Property.{Row, Property}
@@ -18,7 +18,7 @@ use Rattle.judging.specs.Chains.{Outside}
 use Rattle.maximal.specs.declared.places.Scope.{Scope}
 use Rattle.maximal.specs.Charting.{Scoped, flag-of, kind-at, set-at, method-at, asked-at, target, earlier, Known, Crowded, Admitted, Charting, Asking}
 use Rattle.maximal.specs.Charting.Files.{rows-is, rows-fit, rows-named}
-use Rattle.maximal.specs.Charting.Kept.{tables-same, charting-same}
+use Rattle.maximal.specs.Charting.Kept.{tables-same, charting-same, charting-beside}
 use Rattle.maximal.specs.Charting.Anew.{followed-anew}
 use Rattle.maximal.specs.Charting.Slots.{followed-none, followed-again}
 use Rattle.maximal.specs.Charting.States.{known-i, collected-next}
@@ -35,9 +35,9 @@ use Rattle.maximal.proofs.SlotLaws.{slot-outside, slot-other, slot-same
 module _ (s : Scope) (I : Interface) (P : List Row) where
   -- what is known of t states once the slots below q are worked, from c states on
   abbrev pub Worked : ℕ → ℕ → ℕ → List ℕ → Type 0
-  Worked c t q w = (t ≤ s .states → Charting I P t q q w × (Tables P w × (c ≤ t))) × ((t ≤ s .states + 1) × (s .states < t → Crowded I P (s .states)))
+  Worked c t q w = (t ≤ s .states → Charting I P t q w × (Tables P w × (c ≤ t))) × ((t ≤ s .states + 1) × (s .states < t → Crowded I P (s .states)))
 
-  pub worked-all : (c q : ℕ) (w : List ℕ) → c ≤ s .states → Charting I P c q q w → Tables P w → Worked c c q w
+  pub worked-all : (c q : ℕ) (w : List ℕ) → c ≤ s .states → Charting I P c q w → Tables P w → Worked c c q w
   worked-all c q w l x y = (λ h. (x, (y, omega arith)), (omega arith, λ h. absurd (omega arith)))
 
   -- so far there are c states, at least m
@@ -46,7 +46,7 @@ module _ (s : Scope) (I : Interface) (P : List Row) where
     pub more : m ≤ c
     pub long : length w ≡ long₀
     pub tables : Tables P w
-    pub charting : Charting I P c q q w
+    pub charting : Charting I P c q w
 
   pub working-on : (m long₀ c t q q′ : ℕ) (w : List ℕ) → t ≤ s .states → m ≤ c → length w ≡ long₀ → q ≡ q′ → Worked c t q w → Working m long₀ q′ t w
   working-on m long₀ c t q q′ w l h e d x = record {
@@ -54,11 +54,11 @@ module _ (s : Scope) (I : Interface) (P : List Row) where
     more = omega (arith, x .0 l .1 .1);
     long = e;
     tables = x .0 l .1 .0;
-    charting = subst (λ (i : ℕ). Charting I P t i i w) d (x .0 l .0);
+    charting = subst (λ (i : ℕ). Charting I P t i w) d (x .0 l .0);
   }
 
   pub working-end : (m long₀ q q′ c : ℕ) (w : List ℕ) → q ≡ q′ → Working m long₀ q c w → Worked m c q′ w
-  working-end m long₀ q q′ c w d x = (λ h. (subst (λ (i : ℕ). Charting I P c i i w) d (x .charting), (x .tables, x .more)), (omega (arith, x .fits), λ h. absurd (omega (arith, x .fits))))
+  working-end m long₀ q q′ c w d x = (λ h. (subst (λ (i : ℕ). Charting I P c i w) d (x .charting), (x .tables, x .more)), (omega (arith, x .fits), λ h. absurd (omega (arith, x .fits))))
 
 module _ (s : Scope) (I : Interface) (p : List ℕ) (scoped : Scoped s p) where
   abbrev P : List Row
@@ -107,13 +107,20 @@ module _ (s : Scope) (I : Interface) (p : List ℕ) (scoped : Scoped s p) where
 
   -- ---- what follows state i under a label
 
-  module _ (i label c : ℕ) (w : List ℕ) (hi : i < c) (hl : label < 9) (hc : c ≤ s .states) (room : 103456 ≤ length w) (tables : Tables P w) (x : Charting I P c (9 * i + label) (9 * i + label) w)
-      (b : Bool) (is : b ≡ (eqb label 0 || requires-method I label)) where
+  -- the slot's row is cleared
+  module _ (i label c : ℕ) (w₀ w : List ℕ) (hi : i < c) (hl : label < 9) (hc : c ≤ s .states) (room : 103456 ≤ length w) (tables₀ : Tables P w₀) (x₀ : Charting I P c (9 * i + label) w₀)
+      (blank : (t : ℕ) → t < 256 → target w (9 * i + label) t ≡ false) (beside : Outside (13312 + 32 * (9 * i + label)) (13312 + 32 * (9 * i + label) + 32) w₀ w) (b : Bool) (is : b ≡ (eqb label 0 || requires-method I label)) where
     abbrev q : ℕ
     q = 9 * i + label
 
     in-rows : q < 2304
-    in-rows = omega (arith, x .holds .few)
+    in-rows = omega (arith, x₀ .holds .few)
+
+    x : Charting I P c q w
+    x = charting-beside q w₀ w beside I P c in-rows (omega arith) x₀
+
+    tables : Tables P w
+    tables = tables-same P w₀ w (rows-fit s p scoped) (λ d l. beside d (inl (omega arith))) tables₀
 
     of-state : q / 9 ≡ i
     of-state = omega arith
@@ -124,12 +131,26 @@ module _ (s : Scope) (I : Interface) (p : List ℕ) (scoped : Scoped s p) where
     labelled : is-label I P (q % 9) ≡ b
     labelled = ap (is-label I P) of-label ∙ label-is I P wf label ∙ sym is
 
-    pub worked-none : not b ≡ true → Worked s I P c c (q + 1) w
-    worked-none e = worked-all s I P c (q + 1) w hc (followed-none I P wf c q w in-rows (λ t. off b e (subst T labelled t)) x) tables
+    pub worked-none : not b ≡ true → (w₁ : List ℕ) → w₁ ≡ put-cell w 1792 1 q 0 → Worked s I P c c (q + 1) w₁
+    worked-none e w₁ d =
+        worked-all s I P c (q + 1) w₁ hc
+        (followed-none I P wf c q w₁ (λ t m. bits q t ∙ blank t m) (ap (λ (u : List ℕ). method-at u q) d ∙ cell-same w 1792 1 q 0 (omega (arith, in-rows)) (omega arith)) (λ t. off b e (subst T labelled t))
+        (charting-same I P c w w₁ (λ j l. cell-agree w₁ w 256 1 j (λ n m k. low n (omega (arith, x .holds .few)))) (λ j l. cell-agree w₁ w 512 4 j (λ n m k. low n (omega (arith, x .holds .few)))) q in-rows (omega arith) (λ j t l m n. bits j t)
+        (λ j l. (ap (λ (u : List ℕ). method-at u j) d ∙ cell-other w 1792 1 q j 0 (λ z. omega arith), cell-agree w₁ w 4096 4 j (λ n m k. high n (omega (arith, in-rows))))) x))
+        (tables-same P w w₁ (rows-fit s p scoped) (λ n l. low n (omega arith)) tables)
       where
         off : (b : Bool) → not b ≡ true → T b → ⊥
         off true e t = subst T (sym e) tt
         off false e t = t
+
+        low : (n : ℕ) → n < 1792 → getD w₁ n 0 ≡ getD w n 0
+        low n l = ap (λ (u : List ℕ). getD u n 0) d ∙ byte-outside w 1792 1 q 0 n (inl (omega arith))
+
+        high : (n : ℕ) → 4096 ≤ n → getD w₁ n 0 ≡ getD w n 0
+        high n l = ap (λ (u : List ℕ). getD u n 0) d ∙ byte-outside w 1792 1 q 0 n (inr (omega (arith, in-rows)))
+
+        bits : (j t : ℕ) → target w₁ j t ≡ target w j t
+        bits j t = bit-byte w₁ w 13312 13312 (256 * j + t) (high (13312 + (256 * j + t) / 8) (omega arith))
 
     pub stored-fits : (v : ℕ) → v ≡ set-at w i → v < 2 ^ s .rows
     stored-fits v e = subst (λ (k : ℕ). v < 2 ^ k) (rows-is s p scoped) (subst (λ (u : ℕ). u < 2 ^ length P) (sym e) (x .holds .known i hi .of-rows))
@@ -146,15 +167,16 @@ module _ (s : Scope) (I : Interface) (p : List ℕ) (scoped : Scoped s p) where
       sets-kept : (j : ℕ) → j < c → set-at w₂ j ≡ set-at w j
       sets-kept j l = cell-agree w₂ w 512 4 j (λ d m n. outside d (inl (omega (arith, x .holds .few))))
 
+      bits : (j t : ℕ) → target w₂ j t ≡ target w j t
+      bits j t = bit-byte w₂ w 13312 13312 (256 * j + t) (outside (13312 + (256 * j + t) / 8) (inr (omega arith)))
+
       method-low : kind / 2 < 256
       method-low = omega (arith, is-kind, x .holds .known i hi .method-to)
 
       asking-here : Asking I P c q (kind / 2) set w₂
       asking-here = record {
-        charting = charting-same I P c w w₂ kinds sets-kept q q (q + 1) (omega arith)
-            (λ j t l m. bit-byte w₂ w 13312 13312 (256 * j + t) (outside (13312 + (256 * j + t) / 8) (inr (omega arith))))
-            (λ j l. slot-other q (kind / 2) set w w₁ w₂ in-rows room e₁ e₂ j (omega (arith, in-rows)) (λ z. omega arith))
-            (λ j l m. slot-other q (kind / 2) set w w₁ w₂ in-rows room e₁ e₂ j m (λ z. omega arith) .0 ∙ x .blank-methods j (omega arith) m) x;
+        charting = charting-same I P c w w₂ kinds sets-kept q in-rows (omega arith) (λ j t l m z. bits j t) (λ j l. slot-other q (kind / 2) set w w₁ w₂ in-rows room e₁ e₂ j (omega (arith, in-rows)) (λ z. omega arith)) x;
+        blank = λ t m. bits q t ∙ blank t m;
         label = subst T (sym labelled) (on b e);
         method-is = slot-same q (kind / 2) set w w₁ w₂ in-rows room e₁ e₂ method-low narrow .0;
         asked-is = slot-same q (kind / 2) set w w₁ w₂ in-rows room e₁ e₂ method-low narrow .1;

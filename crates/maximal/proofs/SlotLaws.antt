@@ -1,22 +1,24 @@
--- For the code that works the slots of states, what its stores change: a row of bits copied from another, and a slot's method and what it asks for.
+-- For the code that works the slots of states, what its stores change: a row of bits cleared or copied from another, and a slot's method and what it asks for.
 use mathlib.Core.Path.{_≡_, sym, ap, ap₂, subst, _∙_}
 use mathlib.Core.Logic.{inl, inr}
+use mathlib.Core.Bool.{false}
 use mathlib.Core.List.{List}
 use Prim.Native.Nat.{ℕ, _+_, _*_, _/_, _%_, _^_, _≤_, _<_}
 use native.Mathlib.Decide.{ℕ-discrete}
+use native.Mathlib.Nat.{zero-div}
 use native.Mathlib.Omega.{arith}
 use lib.Dec.{eqb}
 use lib.ListN.{length, getD}
 use Rattle.files.specs.Cells.{cell, put-cell, has-bit}
-use Rattle.files.specs.Cells.Laws.{length-put-cell, cell-same, cell-other, cell-apart, cell-one, byte-outside, has-bit-is, bit-byte}
+use Rattle.files.specs.Cells.Laws.{length-put-cell, cell-same, cell-other, cell-apart, cell-one, byte-outside, has-bit-is}
 use Rattle.judging.specs.Chains.{Outside}
 use Rattle.maximal.specs.Charting.{method-at, asked-at, target}
 
--- ---- a row of bits copied
+-- ---- a row of bits filled
 
--- k bytes of row p stand in row q, and nothing else has changed
-abbrev pub Copied : List ℕ → ℕ → ℕ → ℕ → List ℕ → Type 0
-Copied w₀ p q k w = ((i : ℕ) → i < k → getD w (13312 + 32 * q + i) 0 ≡ getD w₀ (13312 + 32 * p + i) 0) × Outside (13312 + 32 * q) (13312 + 32 * q + 32) w₀ w
+-- the first k bytes of row q are those of f, and nothing else has changed
+abbrev pub Filled : List ℕ → ℕ → (ℕ → ℕ) → ℕ → List ℕ → Type 0
+Filled w₀ q f k w = ((i : ℕ) → i < k → getD w (13312 + 32 * q + i) 0 ≡ f i) × Outside (13312 + 32 * q) (13312 + 32 * q + 32) w₀ w
 
 -- a row has 32 bytes
 pub in-row : (w : List ℕ) (p t : ℕ) → target w p t ≡ has-bit w (13312 + 32 * p) t
@@ -25,23 +27,21 @@ in-row w p t =
     let b : (256 * p + t) % 8 ≡ t % 8 = omega arith in
     has-bit-is w 13312 (256 * p + t) ∙ ap₂ (λ (n k : ℕ). eqb (getD w n 0 / 2 ^ k % 2) 1) a b ∙ sym (has-bit-is w (13312 + 32 * p) t)
 
-module _ (w₀ w : List ℕ) (p q k : ℕ) (pq : p < q) (x : Copied w₀ p q k w) where
+module _ (w₀ w : List ℕ) (q k : ℕ) (f : ℕ → ℕ) (x : Filled w₀ q f k w) where
   -- one byte more
-  pub copied-on : q < 2304 → 103456 ≤ length w → k < 32 → (b : ℕ) (w′ : List ℕ) → b < 256 → b ≡ cell w (13312 + 32 * p) 1 k → w′ ≡ put-cell w (13312 + 32 * q) 1 k b → Copied w₀ p q (k + 1) w′
-  copied-on hq room hk b w′ hb is e = subst (Copied w₀ p q (k + 1)) (sym e) (λ i l. byte i l (ℕ-discrete i k), beside)
+  pub filled-on : q ≤ 2304 → 103456 ≤ length w → k < 32 → (b : ℕ) (w′ : List ℕ) → b < 256 → b ≡ f k → w′ ≡ put-cell w (13312 + 32 * q) 1 k b → Filled w₀ q f (k + 1) w′
+  filled-on hq room hk b w′ hb is e = subst (Filled w₀ q f (k + 1)) (sym e) (λ i l. byte i l (ℕ-discrete i k), beside)
     where
       more : List ℕ
       more = put-cell w (13312 + 32 * q) 1 k b
 
-      byte : (i : ℕ) → i < k + 1 → Dec (i ≡ k) → getD more (13312 + 32 * q + i) 0 ≡ getD w₀ (13312 + 32 * p + i) 0
+      byte : (i : ℕ) → i < k + 1 → Dec (i ≡ k) → getD more (13312 + 32 * q + i) 0 ≡ f i
       byte i l (yes z) =
           ap (λ (n : ℕ). getD more (13312 + 32 * q + n) 0) z
           ∙ sym (cell-one more (13312 + 32 * q) k)
           ∙ cell-same w (13312 + 32 * q) 1 k b (omega arith) (omega arith)
           ∙ is
-          ∙ cell-one w (13312 + 32 * p) k
-          ∙ x .1 (13312 + 32 * p + k) (inl (omega arith))
-          ∙ ap (λ (n : ℕ). getD w₀ (13312 + 32 * p + n) 0) (sym z)
+          ∙ ap f (sym z)
       byte i l (no n) = byte-outside w (13312 + 32 * q) 1 k b (13312 + 32 * q + i) (inl (omega arith)) ∙ x .0 i (omega arith)
 
       beside : Outside (13312 + 32 * q) (13312 + 32 * q + 32) w₀ more
@@ -49,8 +49,23 @@ module _ (w₀ w : List ℕ) (p q k : ℕ) (pq : p < q) (x : Copied w₀ p q k w
       beside b′ (inr l) = byte-outside w (13312 + 32 * q) 1 k b b′ (inr (omega arith)) ∙ x .1 b′ (inr l)
 
   -- all bytes
-  pub copied-all : 32 ≤ k → (t : ℕ) → t < 256 → target w q t ≡ target w₀ p t
-  copied-all l t ht = in-row w q t ∙ bit-byte w w₀ (13312 + 32 * q) (13312 + 32 * p) t (x .0 (t / 8) (omega arith)) ∙ sym (in-row w₀ p t)
+  filled-all : 32 ≤ k → (t : ℕ) → t < 256 → target w q t ≡ eqb (f (t / 8) / 2 ^ (t % 8) % 2) 1
+  filled-all l t ht = in-row w q t ∙ has-bit-is w (13312 + 32 * q) t ∙ ap (λ (y : ℕ). eqb (y / 2 ^ (t % 8) % 2) 1) (x .0 (t / 8) (omega arith))
+
+-- with the bytes of row p
+abbrev pub row-bytes : List ℕ → ℕ → ℕ → ℕ
+row-bytes w p i = getD w (13312 + 32 * p + i) 0
+
+-- an earlier row is still as it was
+pub copied-byte : (w₀ w : List ℕ) (p q k b : ℕ) → p < q → k < 32 → Outside (13312 + 32 * q) (13312 + 32 * q + 32) w₀ w → b ≡ cell w (13312 + 32 * p) 1 k → b ≡ row-bytes w₀ p k
+copied-byte w₀ w p q k b pq hk o e = e ∙ cell-one w (13312 + 32 * p) k ∙ o (13312 + 32 * p + k) (inl (omega arith))
+
+pub copied-all : (w₀ w : List ℕ) (p q k : ℕ) → Filled w₀ q (row-bytes w₀ p) k w → 32 ≤ k → (t : ℕ) → t < 256 → target w q t ≡ target w₀ p t
+copied-all w₀ w p q k x l t ht = filled-all w₀ w q k (row-bytes w₀ p) x l t ht ∙ sym (in-row w₀ p t ∙ has-bit-is w₀ (13312 + 32 * p) t)
+
+-- with zeros
+pub cleared-all : (w₀ w : List ℕ) (q k : ℕ) → Filled w₀ q (λ (i : ℕ). 0) k w → 32 ≤ k → (t : ℕ) → t < 256 → target w q t ≡ false
+cleared-all w₀ w q k x l t ht = filled-all w₀ w q k (λ (i : ℕ). 0) x l t ht ∙ ap (λ (y : ℕ). eqb (y % 2) 1) (zero-div (2 ^ (t % 8)))
 
 -- ---- the methods and what is asked for
 

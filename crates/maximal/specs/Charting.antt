@@ -68,7 +68,7 @@ same-state w kind set i = is-pair w 256 512 kind set i
 abbrev pub found : List ℕ → ℕ → ℕ → ℕ → ℕ
 found w c kind set = least (same-state w kind set) c
 
--- the method of a slot once it is worked, 0 before; and what its state asks for under its label
+-- the method of a slot, 0 where its label is none; and what its state asks for under its label
 abbrev pub method-at : List ℕ → ℕ → ℕ
 method-at w p = cell w 1792 1 p
 
@@ -150,18 +150,17 @@ module _ (I : Interface) (P : List Row) where
     pub no-method : (T (is-label I P (p % 9)) → ⊥) → method-at w p ≡ 0
     pub asked-is : T (is-label I P (p % 9)) → asked-at w p ≡ asked-of P (set-at w (p / 9)) (p % 9)
 
-  -- the entries are there, the slots below q are worked, and those from q on are blank, their methods from b on
-  pub record Charting (c q b : ℕ) (w : List ℕ) : Type 0 where
+  -- the entries are there, and the slots below q are worked
+  pub record Charting (c q : ℕ) (w : List ℕ) : Type 0 where
     pub holds : Holds c w
     pub entry-bits : (t : ℕ) → t < 256 → target w 2304 t ≡ (ltb t c && is-entry I P (stored (length P) w t))
     pub entries-there : (s : State) → Entry I P s → (t : ℕ) × (t < c) × (stored (length P) w t ≡ s)
     pub followed : (p : ℕ) → p < q → Followed c w p
-    pub blank-rows : (p t : ℕ) → q ≤ p → p < 2304 → t < 256 → target w p t ≡ false
-    pub blank-methods : (p : ℕ) → b ≤ p → p < 2304 → method-at w p ≡ 0
 
-  -- slot q is next, and has its method and what it asks for
+  -- slot q is next, its row is blank, and it has its method and what it asks for
   pub record Asking (c q method set : ℕ) (w : List ℕ) : Type 0 where
-    pub charting : Charting c q (q + 1) w
+    pub charting : Charting c q w
+    pub blank : (t : ℕ) → t < 256 → target w q t ≡ false
     pub label : T (is-label I P (q % 9))
     pub method-is : method-at w q ≡ method
     pub asked-is : asked-at w q ≡ set

@@ -1,7 +1,7 @@
 // The call "model": refusals in the published order, then the model's states, its size and its bytes.
 ghost use mathlib.Core.Path.{_≡_};
 ghost use Prim.Native.Nat.{_≤_};
-ghost use lib.ListN.{length, replicate};
+ghost use lib.ListN.{length};
 ghost use Rattle.files.specs.Access.{InterfaceFile};
 ghost use Rattle.files.specs.Decode.{decode-interface, decode-property};
 ghost use Rattle.files.specs.Outcome.{Answers, Does};
@@ -47,7 +47,7 @@ fn write_found(
     Modelled::Written(c, edges)
 }
 
-// The model of two accepted files, in a buffer of zeros.
+// The model of two accepted files.
 fn build(
     interface: &[u8],
     property: &[u8],
@@ -56,7 +56,7 @@ fn build(
     work: &mut [u8],
     limits: Limits,
 ) -> Modelled
-    requires { ⌜ (InterfaceFile (now interface)) × ((Scoped s (now property)) × ((s .states ≡ limits .nodes) × ((now work ≡ replicate (length (now work)) 0) × (103456 ≤ length (now work))))) ⌝ }
+    requires { ⌜ (InterfaceFile (now interface)) × ((Scoped s (now property)) × ((s .states ≡ limits .nodes) × (103456 ≤ length (now work)))) ⌝ }
     ensures { λ r. ⌜ Answers (from-size limits (now (interface .entry)) (now (property .entry)) (length (now (out .entry)))) (now (out .entry)) (now (out .exit)) (modelled-answer r) ⌝ }
 {
     let c = explore(interface, property, s, work);
@@ -74,7 +74,7 @@ fn model_property(
     work: &mut [u8],
     limits: Limits,
 ) -> Modelled
-    requires { ⌜ (InterfaceFile (now interface)) × ((Bounded limits) × ((now work ≡ replicate (length (now work)) 0) × (103456 ≤ length (now work)))) ⌝ }
+    requires { ⌜ (InterfaceFile (now interface)) × ((Bounded limits) × (103456 ≤ length (now work))) ⌝ }
     ensures { λ r. ⌜ Answers (from-property limits (now (interface .entry)) (now (property .entry)) (length (now (out .entry)))) (now (out .entry)) (now (out .exit)) (modelled-answer r) ⌝ }
 {
     match check_property(property, 2, limits) {
@@ -98,7 +98,7 @@ fn model_files(
     work: &mut [u8],
     limits: Limits,
 ) -> Modelled
-    requires { ⌜ (Bounded limits) × ((now work ≡ replicate (length (now work)) 0) × (103456 ≤ length (now work))) ⌝ }
+    requires { ⌜ (Bounded limits) × (103456 ≤ length (now work)) ⌝ }
     ensures { λ r. ⌜ Answers (from-interface limits (now (interface .entry)) (now (property .entry)) (length (now (out .entry)))) (now (out .entry)) (now (out .exit)) (modelled-answer r) ⌝ }
 {
     match check_interface(interface, 1, limits) {
@@ -121,7 +121,6 @@ pub fn model_within(
     if work.len() < Places::ROOM {
         return Modelled::Refused(Refusal::whole(13));
     }
-    clear(work);
     let answer = model_files(interface, property, out, work, limits);
     clear(work);
     answer

@@ -1,10 +1,11 @@
-// All states of a model: the entries, then for each state and label those that follow, until every state is worked. Equal sets asked for are worked once a method.
+// All states of a model: the entries, then for each state and label those that follow, until every state is worked. Equal sets asked for are worked once a method. Nothing is read from the buffer but what was written before: a slot's row is
+// cleared when its turn comes.
 // `explore` states that all states are there with what follows them, or that the model has too many.
 ghost use mathlib.Core.Path.{_≡_};
-ghost use mathlib.Core.Bool.{_||_};
+ghost use mathlib.Core.Bool.{false, _||_};
 ghost use Prim.Native.Nat.{ℕ, _+_, _*_, _≤_, _<_};
 ghost use lib.Dec.{eqb};
-ghost use lib.ListN.{length, replicate};
+ghost use lib.ListN.{length};
 ghost use Rattle.files.specs.Interface.{requires-method};
 ghost use Rattle.files.specs.Access.{InterfaceFile};
 ghost use Rattle.files.specs.Decode.{decode-interface, decode-property};
@@ -33,11 +34,24 @@ fn is_label(interface: &[u8], label: u8) -> bool
     (label == 0) | requires_method(interface, label)
 }
 
+// Row q becomes blank.
+fn clear_row(work: &mut [u8], q: usize)
+    requires { ⌜ (q ≤ 2304) × (103456 ≤ length (now work)) ⌝ }
+    ensures { λ _. ⌜ ((t : ℕ) → t < 256 → target (now (work .exit)) q t ≡ false) × (Outside (13312 + 32 * q) (13312 + 32 * q + 32) (now (work .entry)) (now (work .exit))) ⌝ }
+{
+    let mut k = 0;
+    while k < LINE {
+        put8(work, Places::TARGETS + LINE * q, k, 0);
+        k += 1;
+    }
+}
+
 // Enters the entries of all provided methods.
 fn enter_entries(interface: &[u8], property: &[u8], s: Scope, work: &mut [u8]) -> usize
-    requires { ⌜ (InterfaceFile (now interface)) × ((Scoped s (now property)) × ((103456 ≤ length (now work)) × ((Tables (decode-property (now property)) (now work)) × (Outside 0 256 (replicate (length (now work)) 0) (now work))))) ⌝ }
-    ensures { λ t. ⌜ (t ≤ s .states → (Charting (decode-interface (now (interface .entry))) (decode-property (now (property .entry))) t 0 0 (now (work .exit))) × (Tables (decode-property (now (property .entry))) (now (work .exit)))) × ((t ≤ s .states + 1) × (s .states < t → Crowded (decode-interface (now (interface .entry))) (decode-property (now (property .entry))) (s .states))) ⌝ }
+    requires { ⌜ (InterfaceFile (now interface)) × ((Scoped s (now property)) × ((103456 ≤ length (now work)) × (Tables (decode-property (now property)) (now work)))) ⌝ }
+    ensures { λ t. ⌜ (t ≤ s .states → (Charting (decode-interface (now (interface .entry))) (decode-property (now (property .entry))) t 0 (now (work .exit))) × (Tables (decode-property (now (property .entry))) (now (work .exit)))) × ((t ≤ s .states + 1) × (s .states < t → Crowded (decode-interface (now (interface .entry))) (decode-property (now (property .entry))) (s .states))) ⌝ }
 {
+    clear_row(work, Places::ENTRIES);
     let mut kind = 2;
     let mut c = 0;
     while kind < 18 {
@@ -77,7 +91,7 @@ fn follow_anew(
     set: u32,
 ) -> usize
     requires { ⌜ (Scoped s (now property)) × ((q < 9 * c) × ((c ≤ s .states) × ((103456 ≤ length (now work)) × ((Tables (decode-property (now property)) (now work)) × (Asking (decode-interface (now interface)) (decode-property (now property)) c q method set (now work)))))) ⌝ }
-    ensures { λ t. ⌜ (t ≤ s .states → (Charting (decode-interface (now (interface .entry))) (decode-property (now (property .entry))) t (q + 1) (q + 1) (now (work .exit))) × ((Tables (decode-property (now (property .entry))) (now (work .exit))) × (c ≤ t))) × ((t ≤ s .states + 1) × (s .states < t → Crowded (decode-interface (now (interface .entry))) (decode-property (now (property .entry))) (s .states))) ⌝ }
+    ensures { λ t. ⌜ (t ≤ s .states → (Charting (decode-interface (now (interface .entry))) (decode-property (now (property .entry))) t (q + 1) (now (work .exit))) × ((Tables (decode-property (now (property .entry))) (now (work .exit))) × (c ≤ t))) × ((t ≤ s .states + 1) × (s .states < t → Crowded (decode-interface (now (interface .entry))) (decode-property (now (property .entry))) (s .states))) ⌝ }
 {
     let going = admit(interface, property, s, work, q, c, 2 * method, set);
     if s.states < going {
@@ -96,13 +110,15 @@ fn follow(
     label: u8,
     c: usize,
 ) -> usize
-    requires { ⌜ (InterfaceFile (now interface)) × ((Scoped s (now property)) × ((i < c) × ((label < 9) × ((c ≤ s .states) × ((103456 ≤ length (now work)) × ((Tables (decode-property (now property)) (now work)) × (Charting (decode-interface (now interface)) (decode-property (now property)) c (9 * i + label) (9 * i + label) (now work)))))))) ⌝ }
-    ensures { λ t. ⌜ (t ≤ s .states → (Charting (decode-interface (now (interface .entry))) (decode-property (now (property .entry))) t (9 * i + label + 1) (9 * i + label + 1) (now (work .exit))) × ((Tables (decode-property (now (property .entry))) (now (work .exit))) × (c ≤ t))) × ((t ≤ s .states + 1) × (s .states < t → Crowded (decode-interface (now (interface .entry))) (decode-property (now (property .entry))) (s .states))) ⌝ }
+    requires { ⌜ (InterfaceFile (now interface)) × ((Scoped s (now property)) × ((i < c) × ((label < 9) × ((c ≤ s .states) × ((103456 ≤ length (now work)) × ((Tables (decode-property (now property)) (now work)) × (Charting (decode-interface (now interface)) (decode-property (now property)) c (9 * i + label) (now work)))))))) ⌝ }
+    ensures { λ t. ⌜ (t ≤ s .states → (Charting (decode-interface (now (interface .entry))) (decode-property (now (property .entry))) t (9 * i + label + 1) (now (work .exit))) × ((Tables (decode-property (now (property .entry))) (now (work .exit))) × (c ≤ t))) × ((t ≤ s .states + 1) × (s .states < t → Crowded (decode-interface (now (interface .entry))) (decode-property (now (property .entry))) (s .states))) ⌝ }
 {
+    let q = 9 * i + (label as usize);
+    clear_row(work, q);
     if !is_label(interface, label) {
+        put8(work, Places::METHODS, q, 0);
         return c;
     }
-    let q = 9 * i + (label as usize);
     let method = get8(work, Places::KINDS, i) / 2;
     let set = asked(property, s.rows, get32(work, Places::SETS, i), label);
     // The first slot below q with this method that asks for this set, or q.
@@ -118,8 +134,8 @@ fn follow(
 
 // Enters what follows state i under every label.
 fn expand(interface: &[u8], property: &[u8], s: Scope, work: &mut [u8], i: usize, c: usize) -> usize
-    requires { ⌜ (InterfaceFile (now interface)) × ((Scoped s (now property)) × ((i < c) × ((c ≤ s .states) × ((103456 ≤ length (now work)) × ((Tables (decode-property (now property)) (now work)) × (Charting (decode-interface (now interface)) (decode-property (now property)) c (9 * i) (9 * i) (now work))))))) ⌝ }
-    ensures { λ t. ⌜ (t ≤ s .states → (Charting (decode-interface (now (interface .entry))) (decode-property (now (property .entry))) t (9 * i + 9) (9 * i + 9) (now (work .exit))) × ((Tables (decode-property (now (property .entry))) (now (work .exit))) × (c ≤ t))) × ((t ≤ s .states + 1) × (s .states < t → Crowded (decode-interface (now (interface .entry))) (decode-property (now (property .entry))) (s .states))) ⌝ }
+    requires { ⌜ (InterfaceFile (now interface)) × ((Scoped s (now property)) × ((i < c) × ((c ≤ s .states) × ((103456 ≤ length (now work)) × ((Tables (decode-property (now property)) (now work)) × (Charting (decode-interface (now interface)) (decode-property (now property)) c (9 * i) (now work))))))) ⌝ }
+    ensures { λ t. ⌜ (t ≤ s .states → (Charting (decode-interface (now (interface .entry))) (decode-property (now (property .entry))) t (9 * i + 9) (now (work .exit))) × ((Tables (decode-property (now (property .entry))) (now (work .exit))) × (c ≤ t))) × ((t ≤ s .states + 1) × (s .states < t → Crowded (decode-interface (now (interface .entry))) (decode-property (now (property .entry))) (s .states))) ⌝ }
 {
     let mut label = 0;
     let mut total = c;
@@ -133,9 +149,9 @@ fn expand(interface: &[u8], property: &[u8], s: Scope, work: &mut [u8], i: usize
     total
 }
 
-// All states, in a buffer of zeros. How many there are; one more than there may be where there are more.
+// All states. How many there are; one more than there may be where there are more.
 pub(crate) fn explore(interface: &[u8], property: &[u8], s: Scope, work: &mut [u8]) -> usize
-    requires { ⌜ (InterfaceFile (now interface)) × ((Scoped s (now property)) × (((now work) ≡ replicate (length (now work)) 0) × (103456 ≤ length (now work)))) ⌝ }
+    requires { ⌜ (InterfaceFile (now interface)) × ((Scoped s (now property)) × (103456 ≤ length (now work))) ⌝ }
     ensures { λ t. ⌜ (t ≤ s .states → Charted (decode-interface (now (interface .entry))) (decode-property (now (property .entry))) t (now (work .exit))) × ((t ≤ s .states + 1) × (s .states < t → Crowded (decode-interface (now (interface .entry))) (decode-property (now (property .entry))) (s .states))) ⌝ }
 {
     tabulate(property, s.rows, work);

@@ -29,7 +29,7 @@ module _ (I : Interface) (P : List Row) where
   module _ (wf : Property P) (k : ℕ) (enough : or-count P ≤ k) (c a b q method set : ℕ) (w v w′ : List ℕ) (in-slots : q < 9 * c) (asking : Asking I P c q method set w)
       (x : Admitted I P c a (2 * method) (supports-of P k (2 * method / 2) (flag-of (2 * method)) set) q w v)
       (y : Admitted I P a b (2 * method + 1) (supports-of P k ((2 * method + 1) / 2) (flag-of (2 * method + 1)) set) q v w′) where
-    chart : Charting I P c q (q + 1) w
+    chart : Charting I P c q w
     chart = asking .charting
 
     in-rows : q < 2304
@@ -92,7 +92,7 @@ module _ (I : Interface) (P : List Row) where
     in-list m e kind = eqb m kind && any (λ u. eqb e u) (sets kind)
 
     row-bits : (t : ℕ) → t < 256 → target w′ q t ≡ (ltb t b && is-next I P s₀ l (stored n w′ t))
-    row-bits t m = y .marked t m ∙ ap (λ (z : Bool). z || (ltb t b && in-list (kind-at w′ t) (set-at w′ t) (2 * method + 1))) (x .marked t m ∙ ap (λ (z : Bool). z || (ltb t a && in-list (kind-at v t) (set-at v t) (2 * method))) (chart .blank-rows q t (omega arith) in-rows m))
+    row-bits t m = y .marked t m ∙ ap (λ (z : Bool). z || (ltb t b && in-list (kind-at w′ t) (set-at w′ t) (2 * method + 1))) (x .marked t m ∙ ap (λ (z : Bool). z || (ltb t a && in-list (kind-at v t) (set-at v t) (2 * method))) (asking .blank t m))
         ∙ same-test ((ltb t a && in-list (kind-at v t) (set-at v t) (2 * method)) || (ltb t b && in-list (kind-at w′ t) (set-at w′ t) (2 * method + 1))) (ltb t b && is-next I P s₀ l (stored n w′ t))
         (λ z. forth (or-e (ltb t a && in-list (kind-at v t) (set-at v t) (2 * method)) (ltb t b && in-list (kind-at w′ t) (set-at w′ t) (2 * method + 1)) z))
         (λ z. back (ltb→lt t b (and-l (ltb t b) (is-next I P s₀ l (stored n w′ t)) z)) (and-r (ltb t b) (is-next I P s₀ l (stored n w′ t)) z))
@@ -144,14 +144,12 @@ module _ (I : Interface) (P : List Row) where
         (i .0, i .1, ap₂ (λ (j u : ℕ). state-of n j u) (i .2) (i .3) ∙ is)
 
     -- with what follows it by either flag, the slot is worked
-    pub followed-anew : Charting I P b (q + 1) (q + 1) w′
+    pub followed-anew : Charting I P b (q + 1) w′
     followed-anew = record {
       holds = y .holds;
       entry-bits = entry-bits-kept I P wf a b (2 * method + 1) (sets (2 * method + 1)) q v w′ y (λ e. omega (arith, in-rows)) entry-bits-first entries-first;
       entries-there = λ s e. still-there I P wf a b (2 * method + 1) (sets (2 * method + 1)) q v w′ y s (entries-first s e);
       followed = λ p h. each p h (ℕ-discrete p q);
-      blank-rows = λ p t h d m. y .others-kept p t (omega arith) m (λ e. omega arith) ∙ x .others-kept p t (omega arith) m (λ e. omega arith) ∙ chart .blank-rows p t (omega arith) d m;
-      blank-methods = λ p h d. method-kept I P wf a b (2 * method + 1) (sets (2 * method + 1)) q v w′ y p d ∙ method-kept I P wf c a (2 * method) (sets (2 * method)) q w v x p d ∙ chart .blank-methods p h d;
     }
       where
         entry-bits-first : (t : ℕ) → t < 256 → target v 2304 t ≡ (ltb t a && is-entry I P (stored n v t))

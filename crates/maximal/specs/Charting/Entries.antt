@@ -1,24 +1,23 @@
--- The entries of a model entered kind by kind: what is known once those of the kinds below k are there, from a blank buffer on to that of all entries.
+-- The entries of a model entered kind by kind: what is known once those of the kinds below k are there, from a blank row on to that of all entries.
 use mathlib.Core.Path.{_≡_, refl, sym, ap, ap₂, subst, _∙_}
 use mathlib.Core.Logic.{_⊎_, inl, inr}
 use mathlib.Core.Bool.{Bool, false, _&&_, _||_}
 use mathlib.Core.List.{List}
-use Prim.Native.Nat.{ℕ, _+_, _*_, _/_, _%_, _^_, _≤_, _<_}
+use Prim.Native.Nat.{ℕ, _+_, _^_, _<_}
 use native.Mathlib.Decide.{ℕ-discrete, decLt}
 use native.Mathlib.Omega.{arith}
 use lib.Dec.{T, eqb, eqb→eq, ltb, ltb→lt, lt→ltb}
-use lib.ListN.{length, getD}
+use lib.ListN.{length}
 use Rattle.files.specs.Basics.Binary.{value}
 use Rattle.files.specs.Basics.Tests.{same-test, eq-eqb, and-l, and-r, and-i, or-e, or-l, or-r, any, any-e}
-use Rattle.files.specs.Cells.Laws.{has-bit-is, cell-one}
 use Rattle.files.specs.Interface.{Interface}
 use Rattle.files.specs.Property.{Row, Property}
-use Rattle.maximal.specs.Charting.{kind-at, set-at, state-of, stored, method-at, target, Holds, Admitted, Charting}
+use Rattle.maximal.specs.Charting.{kind-at, set-at, state-of, stored, target, Holds, Admitted, Charting}
 use Rattle.maximal.specs.Charting.Kept.{off}
-use Rattle.maximal.specs.Charting.Entering.{method-kept, same-place, still-there, tested}
+use Rattle.maximal.specs.Charting.Entering.{same-place, still-there, tested}
 use Rattle.maximal.specs.Charting.States.{kind-of, kind-of-is, kind-provided, state-of-is}
 use Rattle.maximal.specs.Masks.{member}
-use Rattle.maximal.specs.Masks.Laws.{member-none, value-lt}
+use Rattle.maximal.specs.Masks.Laws.{value-lt}
 use Rattle.maximal.specs.Model.{State, Entry, is-entry}
 use Rattle.maximal.specs.Model.Computed.{entry-e, entry-i}
 use Rattle.maximal.specs.Model.Supports.{length-tab}
@@ -31,33 +30,23 @@ module _ (I : Interface) (P : List Row) where
   abbrev early : ℕ → State → Bool
   early k s = is-entry I P s && ltb (kind-of s) k
 
-  -- those are there, and marked; all else is blank
+  -- those are there, and marked
   pub record EntriesBelow (k c : ℕ) (w : List ℕ) : Type 0 where
     pub holds : Holds I P c w
     pub bits : (t : ℕ) → t < 256 → target w 2304 t ≡ (ltb t c && early k (stored n w t))
     pub there : (s : State) → Entry I P s → kind-of s < k → (t : ℕ) × (t < c) × (stored n w t ≡ s)
-    pub blank-rows : (p t : ℕ) → p < 2304 → t < 256 → target w p t ≡ false
-    pub blank-methods : (p : ℕ) → p < 2304 → method-at w p ≡ 0
 
   -- ---- before all kinds
 
-  pub entries-none : (w : List ℕ) → ((b : ℕ) → 256 ≤ b → b < 87072 → getD w b 0 ≡ 0) → EntriesBelow 2 0 w
-  entries-none w zeros = record {
+  pub entries-none : (w : List ℕ) → ((t : ℕ) → t < 256 → target w 2304 t ≡ false) → EntriesBelow 2 0 w
+  entries-none w blank = record {
     holds = record { few = omega arith; known = λ i l. absurd (omega arith); once = λ i j l m. absurd (omega arith) };
-    bits = λ t l. blank 2304 t (omega arith) l ∙ sym (off (ltb t 0 && early 2 (stored n w t)) (λ z. absurd (below-none t (ltb→lt t 0 (and-l (ltb t 0) (early 2 (stored n w t)) z)))));
+    bits = λ t l. blank t l ∙ sym (off (ltb t 0 && early 2 (stored n w t)) (λ z. absurd (below-none t (ltb→lt t 0 (and-l (ltb t 0) (early 2 (stored n w t)) z)))));
     there = λ s e l. absurd (omega (arith, kind-provided I s (e .provided) .0));
-    blank-rows = λ p t l m. blank p t (omega arith) m;
-    blank-methods = λ p l. cell-one w 1792 p ∙ zeros (1792 + p) (omega arith) (omega arith);
   }
     where
       below-none : (t : ℕ) → t < 0 → ⊥
       below-none t l = omega arith
-
-      blank : (p t : ℕ) → p ≤ 2304 → t < 256 → target w p t ≡ false
-      blank p t l m =
-          has-bit-is w 13312 (256 * p + t)
-          ∙ ap (λ (x : ℕ). eqb (x / 2 ^ ((256 * p + t) % 8) % 2) 1) (zeros (13312 + (256 * p + t) / 8) (omega arith) (omega arith))
-          ∙ member-none ((256 * p + t) % 8)
 
   -- ---- one kind more
 
@@ -137,20 +126,16 @@ module _ (I : Interface) (P : List Row) where
           ∙ ap (λ (z : Bool). z || (ltb t c′ && in-list t)) (e .bits t l ∙ tested I P wf c c′ k A 2304 w w′ x (early k) was-there t)
           ∙ one-more t;
       there = λ s y l. found s y l (decLt (kind-of s) k);
-      blank-rows = λ p t l m. x .others-kept p t (omega arith) m (λ z. omega arith) ∙ e .blank-rows p t l m;
-      blank-methods = λ p l. method-kept I P wf c c′ k A 2304 w w′ x p l ∙ e .blank-methods p l;
     }
 
   -- ---- after all kinds
 
-  pub entries-all : (c : ℕ) (w : List ℕ) → EntriesBelow 18 c w → Charting I P c 0 0 w
+  pub entries-all : (c : ℕ) (w : List ℕ) → EntriesBelow 18 c w → Charting I P c 0 w
   entries-all c w e = record {
     holds = e .holds;
     entry-bits = λ t l. e .bits t l ∙ same-test (ltb t c && early 18 (stored n w t)) (ltb t c && is-entry I P (stored n w t)) (forth t) (back t);
     entries-there = λ s y. e .there s y (kind-provided I s (y .provided) .1);
     followed = λ p l. absurd (omega arith);
-    blank-rows = λ p t l. e .blank-rows p t;
-    blank-methods = λ p l. e .blank-methods p;
   }
     where
       forth : (t : ℕ) → T (ltb t c && early 18 (stored n w t)) → T (ltb t c && is-entry I P (stored n w t))

@@ -1,14 +1,15 @@
 -- What stays in the buffer where its bytes stay: the tables, the states, what is marked of them, and a slot that is worked.
 use mathlib.Core.Path.{_≡_, refl, sym, ap, ap₂, subst, _∙_}
+use mathlib.Core.Logic.{_⊎_, inl, inr}
 use mathlib.Core.Bool.{Bool, true, false, _&&_}
 use mathlib.Core.List.{List}
-use Prim.Native.Nat.{ℕ, _*_, _/_, _%_, _≤_, _<_}
+use Prim.Native.Nat.{ℕ, _+_, _*_, _/_, _%_, _≤_, _<_}
 use native.Mathlib.Decide.{decLt}
 use native.Mathlib.Omega.{arith}
 use lib.Dec.{T, ltb, ltb→lt}
 use lib.ListN.{length, getD}
 use Rattle.files.specs.Basics.Tests.{and-l}
-use Rattle.files.specs.Cells.Laws.{cell-agree}
+use Rattle.files.specs.Cells.Laws.{bit-byte, cell-agree}
 use Rattle.files.specs.Interface.{Interface}
 use Rattle.files.specs.Property.{Row}
 use Rattle.maximal.specs.Charting.{kind-at, set-at, state-of, stored, method-at, asked-at, target, Known, Holds, Followed, Charting}
@@ -66,14 +67,41 @@ module _ (I : Interface) (P : List Row) (c : ℕ) (w w′ : List ℕ) (kinds : (
     asked-is = λ t. asked ∙ x .asked-is t ∙ ap (λ (m : ℕ). asked-of P m (p % 9)) (sym (sets (p / 9) h));
   }
 
-  -- the slots that are worked, where no row of bits changes
-  pub charting-same : (q b b′ : ℕ) → q ≤ 9 * c → ((p t : ℕ) → p ≤ 2304 → t < 256 → target w′ p t ≡ target w p t) → ((p : ℕ) → p < q → (method-at w′ p ≡ method-at w p) × (asked-at w′ p ≡ asked-at w p))
-      → ((p : ℕ) → b′ ≤ p → p < 2304 → method-at w′ p ≡ 0) → Charting I P c q b w → Charting I P c q b′ w′
-  charting-same q b b′ in-slots bits slots blank x = record {
+  -- the slots that are worked, where no row of bits changes but that of the next slot
+  pub charting-same : (q : ℕ) → q < 2304 → q ≤ 9 * c → ((p t : ℕ) → p ≤ 2304 → t < 256 → (p ≡ q → ⊥) → target w′ p t ≡ target w p t)
+      → ((p : ℕ) → p < q → (method-at w′ p ≡ method-at w p) × (asked-at w′ p ≡ asked-at w p)) → Charting I P c q w → Charting I P c q w′
+  charting-same q in-rows in-slots bits slots x = record {
     holds = holds-same (x .holds);
-    entry-bits = λ t m. bits 2304 t (omega arith) m ∙ x .entry-bits t m ∙ tested-same (is-entry I P) t;
+    entry-bits = λ t m. bits 2304 t (omega arith) m (λ e. omega arith) ∙ x .entry-bits t m ∙ tested-same (is-entry I P) t;
     entries-there = λ s e. there-same s (x .entries-there s e);
-    followed = λ p h. followed-same p (omega arith) (λ t m. bits p t (omega (arith, x .holds .few)) m) (slots p h .0) (slots p h .1) (x .followed p h);
-    blank-rows = λ p t h d m. bits p t (omega arith) m ∙ x .blank-rows p t h d m;
-    blank-methods = blank;
+    followed = λ p h. followed-same p (omega arith) (λ t m. bits p t (omega arith) m (λ e. omega arith)) (slots p h .0) (slots p h .1) (x .followed p h);
   }
+
+-- ---- a row that changes
+
+-- all but row q is as it was
+module _ (q : ℕ) (w w′ : List ℕ) (rest : (b : ℕ) → (b < 13312 + 32 * q) ⊎ (13312 + 32 * q + 32 ≤ b) → getD w′ b 0 ≡ getD w b 0) where
+  pub row-kinds : (i : ℕ) → i < 256 → kind-at w′ i ≡ kind-at w i
+  row-kinds i h = cell-agree w′ w 256 1 i (λ b d e. rest b (inl (omega arith)))
+
+  pub row-sets : (i : ℕ) → i < 256 → set-at w′ i ≡ set-at w i
+  row-sets i h = cell-agree w′ w 512 4 i (λ b d e. rest b (inl (omega arith)))
+
+  pub row-methods : (i : ℕ) → i < 2304 → method-at w′ i ≡ method-at w i
+  row-methods i h = cell-agree w′ w 1792 1 i (λ b d e. rest b (inl (omega arith)))
+
+  pub row-asked : (i : ℕ) → i < 2304 → asked-at w′ i ≡ asked-at w i
+  row-asked i h = cell-agree w′ w 4096 4 i (λ b d e. rest b (inl (omega arith)))
+
+  pub row-others : (i t : ℕ) → i ≤ 2304 → t < 256 → (i ≡ q → ⊥) → target w′ i t ≡ target w i t
+  row-others i t h m d = bit-byte w′ w 13312 13312 (256 * i + t) (rest (13312 + (256 * i + t) / 8) (side (decLt i q)))
+    where
+      side : Dec (i < q) → (13312 + (256 * i + t) / 8 < 13312 + 32 * q) ⊎ (13312 + 32 * q + 32 ≤ 13312 + (256 * i + t) / 8)
+      side (yes l) = inl (omega arith)
+      side (no l) = let g : q < i = omega (arith, d) in inr (omega arith)
+
+  -- no slot that is worked changes with the row of the next one
+  pub charting-beside : (I : Interface) (P : List Row) (c : ℕ) → q < 2304 → q ≤ 9 * c → Charting I P c q w → Charting I P c q w′
+  charting-beside I P c in-rows in-slots x =
+      charting-same I P c w w′ (λ i h. row-kinds i (omega (arith, x .holds .few))) (λ i h. row-sets i (omega (arith, x .holds .few))) q in-rows in-slots row-others
+      (λ p h. (row-methods p (omega arith), row-asked p (omega arith))) x

@@ -1,22 +1,20 @@
 -- A slot without a label, and one that asks as an earlier one did; and that the model is found once all slots are worked.
 use mathlib.Core.Path.{_≡_, sym, ap, ap₂, subst, _∙_}
 use mathlib.Core.Logic.{_⊎_, inl, inr}
-use mathlib.Core.Bool.{Bool, not, _&&_}
+use mathlib.Core.Bool.{Bool, false, not, _&&_}
 use mathlib.Core.List.{List}
 use Prim.Native.Nat.{ℕ, _+_, _*_, _/_, _%_, _^_, _≤_, _<_}
 use native.Mathlib.Decide.{decLt, ℕ-discrete}
-use native.Mathlib.Nat.{eq-or-lt-of-le}
 use native.Mathlib.Omega.{arith}
 use lib.Dec.{T, T-not, eqb, ltb, ltb→lt, lt→ltb}
 use lib.ListN.{length, getD}
 use Rattle.files.specs.Basics.Binary.{value}
-use Rattle.files.specs.Basics.Tests.{at-most, decide, T-eq, and-l, and-r, any}
-use Rattle.files.specs.Cells.Laws.{bit-byte, cell-agree}
+use Rattle.files.specs.Basics.Tests.{decide, T-eq, and-l, and-r, any}
 use Rattle.files.specs.Interface.{Interface}
 use Rattle.files.specs.Property.{Row, Property}
 use Rattle.maximal.specs.Collected.{or-count, supports-of}
 use Rattle.maximal.specs.Charting.{flag-of, kind-at, set-at, state-of, stored, method-at, asked-at, target, Followed, Charting, Asking, Charted}
-use Rattle.maximal.specs.Charting.Kept.{off, holds-same, stored-same, tested-same, there-same, followed-same}
+use Rattle.maximal.specs.Charting.Kept.{off, holds-same, stored-same, tested-same, there-same, followed-same, row-kinds, row-sets, row-methods, row-asked, row-others}
 use Rattle.maximal.specs.Charting.States.{kind-of, state-of-is, next-is}
 use Rattle.maximal.specs.Masks.{member, rows, asked-of}
 use Rattle.maximal.specs.Masks.Laws.{value-lt}
@@ -30,14 +28,12 @@ module _ (I : Interface) (P : List Row) where
 
   -- ---- a slot without a label, and one that asks as an earlier one did
 
-  pub followed-none : (wf : Property P) (c q : ℕ) (w : List ℕ) → q < 2304 → (T (is-label I P (q % 9)) → ⊥) → Charting I P c q q w → Charting I P c (q + 1) (q + 1) w
-  followed-none wf c q w h no-label x = record {
+  pub followed-none : (wf : Property P) (c q : ℕ) (w : List ℕ) → ((t : ℕ) → t < 256 → target w q t ≡ false) → method-at w q ≡ 0 → (T (is-label I P (q % 9)) → ⊥) → Charting I P c q w → Charting I P c (q + 1) w
+  followed-none wf c q w blank none no-label x = record {
     holds = x .holds;
     entry-bits = x .entry-bits;
     entries-there = x .entries-there;
     followed = λ p l. each p l (ℕ-discrete p q);
-    blank-rows = λ p t l d m. x .blank-rows p t (omega arith) d m;
-    blank-methods = λ p l d. x .blank-methods p (omega arith) d;
   }
     where
       unlabelled : (t : ℕ) → T (ltb t c && is-next I P (stored n w (q / 9)) (q % 9) (stored n w t)) → ⊥
@@ -48,10 +44,10 @@ module _ (I : Interface) (P : List Row) where
       each : (p : ℕ) → p < q + 1 → Dec (p ≡ q) → Followed I P c w p
       each p l (no d) = x .followed p (omega arith)
       each p l (yes d) = subst (Followed I P c w) (sym d) (record {
-        bits = λ t m. x .blank-rows q t (omega arith) h m ∙ sym (off (ltb t c && is-next I P (stored n w (q / 9)) (q % 9) (stored n w t)) (unlabelled t));
+        bits = λ t m. blank t m ∙ sym (off (ltb t c && is-next I P (stored n w (q / 9)) (q % 9) (stored n w t)) (unlabelled t));
         all-there = λ s z. absurd (no-label (label-i I P wf (q % 9) (z .label) .0));
         method-is = λ t. absurd (no-label t);
-        no-method = λ t. x .blank-methods q (omega arith) h;
+        no-method = λ t. none;
         asked-is = λ t. absurd (no-label t);
       })
 
@@ -74,47 +70,34 @@ module _ (I : Interface) (P : List Row) where
   -- row q made as that of an earlier slot p with the same method that asks for the same set
   pub followed-again : (wf : Property P) (k : ℕ) (enough : or-count P ≤ k) (c q method set p : ℕ) (w w′ : List ℕ) → q < 9 * c → p < q → 0 < method → method-at w p ≡ method → asked-at w p ≡ set
       → Asking I P c q method set w → ((t : ℕ) → t < 256 → target w′ q t ≡ target w p t) → ((b : ℕ) → (b < 13312 + 32 * q) ⊎ (13312 + 32 * q + 32 ≤ b) → getD w′ b 0 ≡ getD w b 0)
-      → Charting I P c (q + 1) (q + 1) w′
+      → Charting I P c (q + 1) w′
   followed-again wf k enough c q method set p w w′ in-slots pq pos at-p asked-p asking row rest = record {
     holds = holds-same I P c w w′ kind-same set-same (x .holds);
     entry-bits = λ t m. other 2304 t (omega arith) m (λ e. omega arith) ∙ x .entry-bits t m ∙ test (is-entry I P) t;
     entries-there = λ s e. moved s (x .entries-there s e);
     followed = λ i h. each i h (ℕ-discrete i q);
-    blank-rows = λ i t h d m. other i t (omega arith) m (λ e. omega arith) ∙ x .blank-rows i t (omega arith) d m;
-    blank-methods = λ i h d. method-same i d ∙ x .blank-methods i h d;
   }
     where
-      x : Charting I P c q (q + 1) w
+      x : Charting I P c q w
       x = asking .charting
 
       in-rows : q < 2304
       in-rows = omega (arith, x .holds .few)
 
       kind-same : (i : ℕ) → i < c → kind-at w′ i ≡ kind-at w i
-      kind-same i h = cell-agree w′ w 256 1 i (λ b d e. rest b (inl (omega (arith, x .holds .few))))
+      kind-same i h = row-kinds q w w′ rest i (omega (arith, x .holds .few))
 
       set-same : (i : ℕ) → i < c → set-at w′ i ≡ set-at w i
-      set-same i h = cell-agree w′ w 512 4 i (λ b d e. rest b (inl (omega (arith, x .holds .few))))
+      set-same i h = row-sets q w w′ rest i (omega (arith, x .holds .few))
 
       method-same : (i : ℕ) → i < 2304 → method-at w′ i ≡ method-at w i
-      method-same i h = cell-agree w′ w 1792 1 i (λ b d e. rest b (inl (omega arith)))
+      method-same = row-methods q w w′ rest
 
       asked-same : (i : ℕ) → i < 2304 → asked-at w′ i ≡ asked-at w i
-      asked-same i h = cell-agree w′ w 4096 4 i (λ b d e. rest b (inl (omega arith)))
+      asked-same = row-asked q w w′ rest
 
       other : (i t : ℕ) → i ≤ 2304 → t < 256 → (i ≡ q → ⊥) → target w′ i t ≡ target w i t
-      other i t h m d = bit-byte w′ w 13312 13312 (256 * i + t) (rest (13312 + (256 * i + t) / 8) (side (decLt i q)))
-        where
-          side : Dec (i < q) → (13312 + (256 * i + t) / 8 < 13312 + 32 * q) ⊎ (13312 + 32 * q + 32 ≤ 13312 + (256 * i + t) / 8)
-          side (yes l) = inl (omega arith)
-          side (no l) = let g : q < i = omega (arith, neq) in inr (omega arith)
-            where
-              neq : q < i
-              neq = go (eq-or-lt-of-le (at-most q i (λ z. l z)))
-                where
-                  go : (q ≡ i) ⊎ (q < i) → q < i
-                  go (inl e) = absurd (d (sym e))
-                  go (inr z) = z
+      other = row-others q w w′ rest
 
       test : (f : State → Bool) (t : ℕ) → (ltb t c && f (stored n w t)) ≡ (ltb t c && f (stored n w′ t))
       test = tested-same I P c w w′ kind-same set-same
@@ -167,8 +150,8 @@ module _ (I : Interface) (P : List Row) where
 
   -- ---- all slots are worked
 
-  pub charted : (wf : Property P) (c q b : ℕ) (w : List ℕ) → 9 * c ≤ q → Charting I P c q b w → Charted I P c w
-  charted wf c q b w all x = record {
+  pub charted : (wf : Property P) (c q : ℕ) (w : List ℕ) → 9 * c ≤ q → Charting I P c q w → Charted I P c w
+  charted wf c q w all x = record {
     holds = x .holds;
     complete = complete;
     entries-are = λ t h. x .entry-bits t (omega (arith, x .holds .few)) ∙ ap (λ (z : Bool). z && is-entry I P (stored n w t)) (T-eq (ltb t c) (lt→ltb t c h));

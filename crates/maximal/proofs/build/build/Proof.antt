@@ -22,7 +22,7 @@ returns c = let k = c .before .before .before .before .before .before .before .b
 
 -- src/build.rt:66:5
 write-found-requires : tie.Need-write-found-requires
-write-found-requires c κs = let k = c .before .before .before .before .before .before .before .before .before .before .before .before in let x = c .before .before .before .before .before .before .explore in (k .pre .1 .0, (k .pre .1 .1 .0, (c .before .before .if1 .left, (omega (arith, x .kept .1 .1 .1 .0, k .pre .1 .1 .1 .1), x .ensures .0 (c .before .before .if1 .left)))))
+write-found-requires c κs = let k = c .before .before .before .before .before .before .before .before .before .before .before .before in let x = c .before .before .before .before .before .before .explore in (k .pre .1 .0, (k .pre .1 .1 .0, (c .before .before .if1 .left, (omega (arith, x .kept .1 .1 .1 .0, k .pre .1 .1 .1), x .ensures .0 (c .before .before .if1 .left)))))
 
 -- src/build.rt:51:1
 same-length-2 : tie.Need-same-length-2

@@ -1,4 +1,4 @@
-use mathlib.Core.Path.{sym, ap, _∙_}
+use mathlib.Core.Path.{ap, _∙_}
 use native.Mathlib.Omega.{arith}
 use Prim.Native.Nat.{ℕ}
 use lib.ListN.{replicate}
@@ -16,17 +16,13 @@ whole-requires c κs = search needs
 returns : tie.Need-returns
 returns c = let k = c .before .before .before .before .before .before in does-nothing (k .args .limits) (k .args .interface .now) (k .args .property .now) (k .args .out .now) (k .args .work .now) (c .whole .result) (c .before .if1 .taken) (c .whole .ensures)
 
--- src/build.rt:124:5
+-- src/build.rt:124:9
+model-files-requires : tie.Need-model-files-requires
+model-files-requires c κs = search needs
+
+-- src/build.rt:125:5
 clear-requires : tie.Need-clear-requires
 clear-requires c κs = search needs
-
--- src/build.rt:125:9
-model-files-requires : tie.Need-model-files-requires
-model-files-requires c κs = let k = c .before .before .before .before .before .before .before .before .before .before .before in let x = c .before .before .before .before .clear in (k .pre, (x .ensures ∙ ap (λ (n : ℕ). replicate n 0) (sym (x .kept .0)), omega (arith, x .kept .0, c .before .before .before .before .before .before .if1 .left)))
-
--- src/build.rt:126:5
-clear-requires-2 : tie.Need-clear-requires-2
-clear-requires-2 c κs = search needs
 
 -- src/build.rt:111:1
 same-length : tie.Need-same-length
@@ -38,7 +34,7 @@ same-length-2 c = search needs
 
 -- src/build.rt:111:1
 returns-2 : tie.Need-returns-2
-returns-2 c = let k = c .before .before .before .before .before .before .before .before .before .before .before .before .before .before .before .before .before .before .before .before in let j = c .before .before .before .before .before .before .before .before .model-files in does-model (k .args .limits) (k .args .interface .now) (k .args .property .now) (k .args .out .now) (k .args .work .now) (j .last .1 .1 .0) (c .before .before .clear2 .last .0) (modelled-answer (j .result)) (c .before .before .before .before .before .before .before .before .before .before .before .before .before .before .before .if1 .left) (j .ensures) (c .before .before .clear2 .ensures ∙ ap (λ (n : ℕ). replicate n 0) (j .kept .1 .1 .1 .0 ∙ c .before .before .before .before .before .before .before .before .before .before .before .before .before .clear .kept .0))
+returns-2 c = let k = c .before .before .before .before .before .before .before .before .before .before .before .before .before .before .before .before in let j = c .before .before .before .before .before .before .before .before .model-files in does-model (k .args .limits) (k .args .interface .now) (k .args .property .now) (k .args .out .now) (k .args .work .now) (j .last .1 .1 .0) (c .before .before .clear .last .0) (modelled-answer (j .result)) (c .before .before .before .before .before .before .before .before .before .before .before .if1 .left) (j .ensures) (c .before .before .clear .ensures ∙ ap (λ (n : ℕ). replicate n 0) (j .kept .1 .1 .1 .0))
 
 pub model-within-spec : {M : Type 1} → statement M
 model-within-spec =
@@ -46,9 +42,8 @@ model-within-spec =
     (tie.spec
     whole-requires
     returns
-    clear-requires
     model-files-requires
-    clear-requires-2
+    clear-requires
     same-length
     same-length-2
     returns-2)

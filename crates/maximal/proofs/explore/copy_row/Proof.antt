@@ -2,12 +2,12 @@ use mathlib.Core.Path.{_≡_, refl, _∙_}
 use Prim.Native.Nat.{_-_, _≤_}
 use native.Mathlib.Omega.{arith}
 use lib.ListN.{length}
-use Rattle.maximal.proofs.SlotLaws.{Copied, copied-on, copied-all}
+use Rattle.maximal.proofs.SlotLaws.{Filled, row-bytes, filled-on, copied-byte, copied-all}
 use Rattle.maximal.proofs.explore.copy_row.Statement.{statement}
 use Rattle.maximal.proofs.explore.copy_row.Tie as tie
 
 abbrev Inv-loop : tie.InvT-loop
-Inv-loop work₀ p q k₀ work k = (k ≤ 32) × (length work ≡ length work₀) × (Copied work₀ p q k work)
+Inv-loop work₀ p q k₀ work k = (k ≤ 32) × (length work ≡ length work₀) × (Filled work₀ q (row-bytes work₀ p) k work)
 
 abbrev μ-loop : tie.MeasureT-loop
 μ-loop work₀ p q k₀ work k = 32 - k
@@ -64,7 +64,7 @@ loop-again c =
     let l = c .before .before .before .before .before .before .before .loop in
     let x = c .before .before .before .before .get8 in
     let y = c .before .before .put8 in
-    (omega (arith, c .before .before .before .before .before .before .loop-test .taken), y .kept .0 ∙ l .inv .1, copied-on (a .work .now) (l .work) (a .p) (a .q) (l .k) (k .pre .0) (l .inv .2) (k .pre .1 .0) (omega (arith, l .inv .1, k .pre .1 .1)) (c .before .before .before .before .before .before .loop-test .taken) (x .result) (y .last .0) (omega arith) (x .ensures) (y .ensures))
+    (omega (arith, c .before .before .before .before .before .before .loop-test .taken), y .kept .0 ∙ l .inv .1, filled-on (a .work .now) (l .work) (a .q) (l .k) (row-bytes (a .work .now) (a .p)) (l .inv .2) (omega (arith, k .pre .1 .0)) (omega (arith, l .inv .1, k .pre .1 .1)) (c .before .before .before .before .before .before .loop-test .taken) (x .result) (y .last .0) (omega arith) (copied-byte (a .work .now) (l .work) (a .p) (a .q) (l .k) (x .result) (k .pre .0) (c .before .before .before .before .before .before .loop-test .taken) (l .inv .2 .1) (x .ensures)) (y .ensures))
 
 -- src/explore.rt:70:1
 same-length : tie.Need-same-length Inv-loop μ-loop
@@ -76,7 +76,7 @@ returns c =
     let k = c .before .before .before in
     let a = k .args in
     let l = c .before .loop in
-    (copied-all (a .work .now) (l .work) (a .p) (a .q) (l .k) (k .pre .0) (l .inv .2) (omega (arith, c .loop-test .left)), l .inv .2 .1)
+    (copied-all (a .work .now) (l .work) (a .p) (a .q) (l .k) (l .inv .2) (omega (arith, c .loop-test .left)), l .inv .2 .1)
 
 pub copy-row-spec : {M : Type 1} → statement M
 copy-row-spec =

@@ -5,7 +5,6 @@ use lib.ListN.{length}
 use Rattle.files.specs.Decode.{decode-interface, decode-property}
 use Rattle.maximal.specs.Charting.Files.{rows-named}
 use Rattle.maximal.specs.Charting.Slots.{charted}
-use Rattle.maximal.proofs.EntryLaws.{zeros-outside}
 use Rattle.maximal.proofs.ExploreLaws.{worked-all, Working, working-on}
 use Rattle.maximal.proofs.explore.explore.Statement.{statement}
 use Rattle.maximal.proofs.explore.explore.Tie as tie
@@ -18,15 +17,14 @@ abbrev μ-loop : tie.MeasureT-loop
 
 -- src/explore.rt:154:5
 tabulate-requires : tie.Need-tabulate-requires Inv-loop μ-loop
-tabulate-requires c κs = let k = c .before .before .before .before in (k .pre .1 .0 .file, (k .pre .1 .0 .rows-are, (k .pre .1 .0 .few-rows, k .pre .1 .1 .1)))
+tabulate-requires c κs = let k = c .before .before .before .before in (k .pre .1 .0 .file, (k .pre .1 .0 .rows-are, (k .pre .1 .0 .few-rows, k .pre .1 .1)))
 
 -- src/explore.rt:155:9
 enter-entries-requires : tie.Need-enter-entries-requires Inv-loop μ-loop
 enter-entries-requires c κs =
     let k = c .before .before .before .before .before .before .before .before in
-    let a = k .args in
     let x = c .before .before .before .tabulate in
-    (k .pre .0, (k .pre .1 .0, (omega (arith, k .pre .1 .1 .1, x .kept .1 .1 .0), (x .ensures .0, zeros-outside (a .work .now) (x .last .1 .1 .0) (k .pre .1 .1 .0) (x .kept .1 .1 .0) (x .ensures .1)))))
+    (k .pre .0, (k .pre .1 .0, (omega (arith, k .pre .1 .1, x .kept .1 .1 .0), x .ensures .0)))
 
 -- src/explore.rt:157:9
 same-length : tie.Need-same-length Inv-loop μ-loop
@@ -53,7 +51,7 @@ expand-requires c κs =
     let a = k .args in
     let l = c .before .before .loop in
     let x = l .inv in
-    (k .pre .0, (k .pre .1 .0, (c .before .loop-test .taken, (x .fits, (omega (arith, k .pre .1 .1 .1, x .long, c .before .before .before .before .before .before .before .enter-entries .kept .1 .1 .1 .0, c .before .before .before .before .before .before .before .before .before .before .before .tabulate .kept .1 .1 .0), (x .tables, x .charting))))))
+    (k .pre .0, (k .pre .1 .0, (c .before .loop-test .taken, (x .fits, (omega (arith, k .pre .1 .1, x .long, c .before .before .before .before .before .before .before .enter-entries .kept .1 .1 .1 .0, c .before .before .before .before .before .before .before .before .before .before .before .tabulate .kept .1 .1 .0), (x .tables, x .charting))))))
 
 -- src/explore.rt:163:13
 same-length-2 : tie.Need-same-length-2 Inv-loop μ-loop
@@ -90,7 +88,7 @@ returns-3 c =
     let k = c .before .before .before .before .before .before .before .before .before .before .before .before .before .before .before in
     let a = k .args in
     let l = c .before .loop in
-    (λ h. charted (decode-interface (a .interface .now)) (decode-property (a .property .now)) (rows-named (a .s) (a .property .now) (k .pre .1 .0)) (l .c) (9 * l .i) (9 * l .i) (l .work) (omega (arith, c .loop-test .left)) (l .inv .charting), (omega (arith, l .inv .fits), λ h. absurd (omega (arith, h, l .inv .fits))))
+    (λ h. charted (decode-interface (a .interface .now)) (decode-property (a .property .now)) (rows-named (a .s) (a .property .now) (k .pre .1 .0)) (l .c) (9 * l .i) (l .work) (omega (arith, c .loop-test .left)) (l .inv .charting), (omega (arith, l .inv .fits), λ h. absurd (omega (arith, h, l .inv .fits))))
 
 pub explore-spec : {M : Type 1} → statement M
 explore-spec =
