@@ -160,8 +160,8 @@ module _ (G : Graph) (mon : Monitor) where
     entered-none e = ap (λ (c : Bool). cond c (entry-recs G mon (place n q) l (span 0 (size G))) []) (call-test ∙ e)
 
   -- node k, as it was read, is an entry of method l
-  entry-test : (l k : ℕ) (v : GraphNode) → v ≡ node-held (node G k) → is-entry-of G mon l k ≡ (v .entry && eqb (v .method) l)
-  entry-test l k v is = sym (ap (λ (u : GraphNode). u .entry && eqb (u .method) l) is)
+  pub entry-test : (l k : ℕ) (v : GraphNode) → v ≡ node-held (node G k) → (v .entry && eqb (v .method) l) ≡ is-entry-of G mon l k
+  entry-test l k v is = ap (λ (u : GraphNode). u .entry && eqb (u .method) l) is
 
 module _ (s : Regions) (g r : List ℕ) (ready : Ready s g r) where
   abbrev G : Graph
@@ -323,15 +323,15 @@ module _ (s : Regions) (g r : List ℕ) (ready : Ready s g r) where
           (leaves-in (ready .graph-file .limits) G (is-filed s g r ready) n) (at .no-return) l k low calling d))
 
       -- at node k
-      module _ (k : ℕ) (hk : k < s .nodes) (v : GraphNode) (v-is : v ≡ node-held (node G k)) where
-        module _ (yes : (v .entry && eqb (v .method) l) ≡ true) (may : May G mon m head (entry-recs G mon (place n q) l (span k 1)) tail w) where
+      module _ (k : ℕ) (hk : k < s .nodes) (b : Bool) (b-is : b ≡ is-entry-of G mon l k) where
+        module _ (yes : b ≡ true) (may : May G mon m head (entry-recs G mon (place n q) l (span k 1)) tail w) where
           is-entered : entry-recs G mon (place n q) l (span k 1) ≡ rec-of n q 2 l k p ∷ []
           is-entered =
-              ap (λ (b : Bool). map (λ (i : ℕ). rec-of n q 2 l i (mon q (calls (meth G n) l))) (put b k [])) (entry-test G mon l k v v-is ∙ yes)
+              ap (λ (b : Bool). map (λ (i : ℕ). rec-of n q 2 l i (mon q (calls (meth G n) l))) (put b k [])) (sym b-is ∙ yes)
               ∙ ap (λ (i : ℕ). rec-of n q 2 l k i ∷ []) (sym p-is)
 
           at-entry : Leaving G mon m head w (rec-of n q 2 l k p)
-          at-entry = entry-leaves k (entry-e G mon l k (node-in s g r ready k hk) (subst T (sym (entry-test G mon l k v v-is ∙ yes)) tt))
+          at-entry = entry-leaves k (entry-e G mon l k (node-in s g r ready k hk) (subst T (sym (sym b-is ∙ yes)) tt))
 
           pub may-enter : (p < 8) × ((46949 ≤ length w) × ((head < tail) × (T (not (seen w k p)) → tail ≤ 2048)))
           may-enter =
@@ -342,10 +342,10 @@ module _ (s : Regions) (g r : List ℕ) (ready : Ready s g r) where
           did-enter =
               did-push G mon m (size-fits s g r ready) (edges-fit s g r ready) head tail (entry-recs G mon (place n q) l (span k 1)) (rec-of n q 2 l k p) w is-entered (at .below) may at-entry
 
-        pub no-entry : (v .entry && eqb (v .method) l) ≡ false → Looked G mon m head (entry-recs G mon (place n q) l (span k 1)) tail tail w w
+        pub no-entry : b ≡ false → Looked G mon m head (entry-recs G mon (place n q) l (span k 1)) tail tail w w
         no-entry e =
             looked-none G mon m head (entry-recs G mon (place n q) l (span k 1)) tail w
-            (ap (λ (b : Bool). map (λ (i : ℕ). rec-of n q 2 l i (mon q (calls (meth G n) l))) (put b k [])) (entry-test G mon l k v v-is ∙ e))
+            (ap (λ (b : Bool). map (λ (i : ℕ). rec-of n q 2 l i (mon q (calls (meth G n) l))) (put b k [])) (sym b-is ∙ e))
 
       -- at all entries
       abbrev every : List Rec
@@ -383,15 +383,15 @@ module _ (s : Regions) (g r : List ℕ) (ready : Ready s g r) where
 
   -- ---- the starts
 
-  module _ (m tail : ℕ) (w : List ℕ) (below : 0 < tail) (k : ℕ) (hk : k < s .nodes) (v : GraphNode) (v-is : v ≡ node-held (node G k)) where
-    module _ (yes : (v .entry && eqb (v .method) m) ≡ true) (may : May G mon m 0 (starts-of G mon m (span k 1)) tail w) where
+  module _ (m tail : ℕ) (w : List ℕ) (below : 0 < tail) (k : ℕ) (hk : k < s .nodes) (b : Bool) (b-is : b ≡ is-entry-of G mon m k) where
+    module _ (yes : b ≡ true) (may : May G mon m 0 (starts-of G mon m (span k 1)) tail w) where
       is-start : starts-of G mon m (span k 1) ≡ rec-of k 0 0 0 k 0 ∷ []
-      is-start = ap (λ (b : Bool). map (started G mon) (put b k [])) (entry-test G mon m k v v-is ∙ yes)
+      is-start = ap (λ (b : Bool). map (started G mon) (put b k [])) (sym b-is ∙ yes)
 
       start-leaves : Leaving G mon m 0 w (rec-of k 0 0 0 k 0)
       start-leaves = record {
         leaves = start-i G mon (is-flow s g r ready) (labels-small s g r ready) (monitor-small s g r ready) m k
-            (entry-e G mon m k (node-in s g r ready k hk) (subst T (sym (entry-test G mon m k v v-is ∙ yes)) tt));
+            (entry-e G mon m k (node-in s g r ready k hk) (subst T (sym (sym b-is ∙ yes)) tt));
         at-small = node-small k (node-in s g r ready k hk);
         state-small = omega arith;
         step-small = omega arith;
@@ -407,8 +407,8 @@ module _ (s : Regions) (g r : List ℕ) (ready : Ready s g r) where
           → Looked G mon m 0 (starts-of G mon m (span k 1)) tail i w w′
       did-start = did-push G mon m (size-fits s g r ready) (edges-fit s g r ready) 0 tail (starts-of G mon m (span k 1)) (rec-of k 0 0 0 k 0) w is-start below may start-leaves
 
-    pub no-start : (v .entry && eqb (v .method) m) ≡ false → Looked G mon m 0 (starts-of G mon m (span k 1)) tail tail w w
-    no-start e = looked-none G mon m 0 (starts-of G mon m (span k 1)) tail w (ap (λ (b : Bool). map (started G mon) (put b k [])) (entry-test G mon m k v v-is ∙ e))
+    pub no-start : b ≡ false → Looked G mon m 0 (starts-of G mon m (span k 1)) tail tail w w
+    no-start e = looked-none G mon m 0 (starts-of G mon m (span k 1)) tail w (ap (λ (b : Bool). map (started G mon) (put b k [])) (sym b-is ∙ e))
 
   -- ---- a turn
 

@@ -58,6 +58,12 @@ Stands o g1 g2 (First i) = (6 * i + 6 ≤ length g1) × (o ≡ says (record { ve
 Stands o g1 g2 (Second i) = (6 * i + 6 ≤ length g2) × (o ≡ says (record { verdict = 1; values = []; written = part g2 i 1 }))
 Stands o g1 g2 (Refused r) = o ≡ refuses r
 
+-- what a place answers
+abbrev pub shown-at : Place → Shown
+shown-at (First i) = Part
+shown-at (Second i) = Part
+shown-at (Refused r) = shown-variants.Refused r
+
 -- What showing says where it is not refused: the part is the record of the node of that number in the joined graph.
 pub record Shows (K G : Graph) (number : ℕ) (s : Said) : Type 0 where
   pub verdict-one : s .verdict ≡ 1

@@ -10,6 +10,7 @@ ghost use Rattle.files.specs.Graph.{size};
 ghost use Rattle.files.specs.Rules.{calls, watch};
 ghost use Rattle.runs.specs.Prepared.{Ready, Tables};
 ghost use Rattle.runs.specs.Runs.{meth};
+ghost use Rattle.runs.specs.Summary.{is-entry-of};
 ghost use Rattle.runs.specs.Searching.{place, entry-recs, calls-from, CalledSet, entereds, Here, May, Looked};
 use crate::items::push;
 use crate::prepare::step;
@@ -44,6 +45,17 @@ pub(crate) fn called_set(graph: &[u8], rules: &[u8], s: Regions, work: &[u8], g:
     set
 }
 
+// Node n is an entry of method m.
+pub(crate) fn is_entry(graph: &[u8], rules: &[u8], s: Regions, n: usize, m: u8) -> bool
+    requires { ⌜ (Ready s (now graph) (now rules)) × (n < s .nodes) ⌝ }
+    ensures { λ r. ⌜ r ≡ is-entry-of (decode-graph (now (graph .entry))) (watch (decode-rules (now (rules .entry)))) m n ⌝ }
+{
+    let NodeAt::Is(v) = node_at(graph, n, 0) else {
+        return false;
+    };
+    v.entry & (v.method == m)
+}
+
 // Looks at the call of method l entered at node n, if it is an entry, in state p.
 fn look_entry(
     graph: &[u8],
@@ -62,10 +74,7 @@ fn look_entry(
     requires { ⌜ (Ready s (now graph) (now rules)) × ((n < s .nodes) × ((1 ≤ l) × ((l ≤ 8) × ((T (calls-from (decode-graph (now graph)) (watch (decode-rules (now rules))) g (first-edge (decode-graph (now graph)) g) l)) × ((p ≡ watch (decode-rules (now rules)) q (calls (meth (decode-graph (now graph)) g) l)) × ((Here (decode-graph (now graph)) (watch (decode-rules (now rules))) start head tail (now work) (place g q)) × (May (decode-graph (now graph)) (watch (decode-rules (now rules))) start head (entry-recs (decode-graph (now graph)) (watch (decode-rules (now rules))) (place g q) l (span n 1)) tail (now work)))))))) ⌝ }
     ensures { λ t. ⌜ Looked (decode-graph (now (graph .entry))) (watch (decode-rules (now (rules .entry)))) start head (entry-recs (decode-graph (now (graph .entry))) (watch (decode-rules (now (rules .entry)))) (place g q) l (span n 1)) tail t (now (work .entry)) (now (work .exit)) ⌝ }
 {
-    let NodeAt::Is(v) = node_at(graph, n, 0) else {
-        return tail;
-    };
-    if v.entry & (v.method == l) {
+    if is_entry(graph, rules, s, n, l) {
         return push(work, tail, head, g as u8, q, 2, l, n as u8, p);
     }
     tail

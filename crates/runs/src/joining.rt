@@ -30,6 +30,14 @@ use files::sides::first_foreign;
 use files::sides::shares;
 use judging::sizes::Sizes;
 
+// Node v of the second graph, counted on from the first's n nodes.
+fn moved_node(n: usize, v: usize) -> u8
+    requires { ⌜ n + v < 256 ⌝ }
+    ensures { λ r. ⌜ r ≡ n + v ⌝ }
+{
+    (n + v) as u8
+}
+
 // Writes edge j of the second graph, with its nodes counted on from the first's, as record `at`.
 fn write_moved(graph2: &[u8], s: Sizes, out: &mut [u8], at: usize, j: usize)
     requires { ⌜ (GraphFile (now graph2)) × ((s .nodes2 ≡ nodes-of (now graph2)) × ((s .edges2 ≡ count (now graph2) - nodes-of (now graph2)) × ((s .nodes + s .nodes2 ≤ 256) × ((j < s .edges2) × (6 * at + 6 ≤ length (now out)))))) ⌝ }
@@ -38,8 +46,8 @@ fn write_moved(graph2: &[u8], s: Sizes, out: &mut [u8], at: usize, j: usize)
     let EdgeAt::Is(e) = edge_at(graph2, s.nodes2, j, 4) else {
         return;
     };
-    let from = (s.nodes + e.from) as u8;
-    let to = (s.nodes + e.to) as u8;
+    let from = moved_node(s.nodes, e.from);
+    let to = moved_node(s.nodes, e.to);
     put_record(out, at, Record::edge(from, e.label, to));
 }
 

@@ -12,6 +12,7 @@ ghost use Rattle.runs.specs.Prepared.{Ready, Tables};
 ghost use Rattle.runs.specs.Searching.{starts-of, May, Looked, Turn, Says, Yielding, item-end};
 ghost use Rattle.runs.specs.Summary.Trails.{is-bad};
 use crate::entered::called_set;
+use crate::entered::is_entry;
 use crate::entered::look_entered;
 use crate::internal::look_internals;
 use crate::items::push;
@@ -35,10 +36,7 @@ fn look_start(
     requires { ⌜ (Ready s (now graph) (now rules)) × ((n < s .nodes) × ((0 < tail) × (May (decode-graph (now graph)) (watch (decode-rules (now rules))) start 0 (starts-of (decode-graph (now graph)) (watch (decode-rules (now rules))) start (span n 1)) tail (now work)))) ⌝ }
     ensures { λ t. ⌜ Looked (decode-graph (now (graph .entry))) (watch (decode-rules (now (rules .entry)))) start 0 (starts-of (decode-graph (now (graph .entry))) (watch (decode-rules (now (rules .entry)))) start (span n 1)) tail t (now (work .entry)) (now (work .exit)) ⌝ }
 {
-    let NodeAt::Is(v) = node_at(graph, n, 0) else {
-        return tail;
-    };
-    if v.entry & (v.method == start) {
+    if is_entry(graph, rules, s, n, start) {
         return push(work, tail, 0, n as u8, 0, 0, 0, n as u8, 0);
     }
     tail

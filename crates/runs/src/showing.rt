@@ -1,9 +1,11 @@
 // Showing: the record of a joined node, as six bytes of the file it came from. `show_within` gives the part, empty where it is refused; `show_refusal_within` says why.
 ghost use mathlib.Core.Path.{_≡_};
-ghost use Prim.Native.Nat.{_<_};
+ghost use Prim.Native.Nat.{_+_, _*_, _≤_, _<_};
+ghost use lib.ListN.{length};
 ghost use Rattle.files.specs.Outcome.{answer, written-of};
+ghost use Rattle.files.specs.Record.{part};
 ghost use Rattle.files.specs.Refusal.{nodes-of};
-ghost use Rattle.runs.specs.Showing.{shown, shown-answer, from-second, Stands};
+ghost use Rattle.runs.specs.Showing.{shown, shown-answer, from-second, Stands, shown-at};
 ghost use Rattle.judging.specs.Judge.{GraphWithin};
 use crate::answers::Shown;
 use files::check::Checked;
@@ -48,6 +50,14 @@ fn find_place(graph1: &[u8], graph2: &[u8], number: usize, limits: Limits) -> Pl
     }
 }
 
+// Record i of a file.
+fn record_at<'a>(graph: &'a [u8], i: usize) -> &'a [u8]
+    requires { ⌜ 6 * i + 6 ≤ length (now graph) ⌝ }
+    ensures { λ r. ⌜ now r ≡ part (now (graph .entry)) i 1 ⌝ }
+{
+    &graph[Record::LEN * i..Record::LEN * i + Record::LEN]
+}
+
 // The six bytes of the node of this number in the joined graph, as a part of its file; empty where showing is refused.
 pub fn show_within<'a>(
     graph1: &'a [u8],
@@ -58,9 +68,20 @@ pub fn show_within<'a>(
     ensures { λ r. ⌜ now r ≡ written-of (shown limits (now (graph1 .entry)) (now (graph2 .entry)) number) ⌝ }
 {
     match find_place(graph1, graph2, number, limits) {
-        Place::First(i) => &graph1[Record::LEN * i..Record::LEN * i + Record::LEN],
-        Place::Second(i) => &graph2[Record::LEN * i..Record::LEN * i + Record::LEN],
+        Place::First(i) => record_at(graph1, i),
+        Place::Second(i) => record_at(graph2, i),
         Place::Refused(_) => &graph2[..0],
+    }
+}
+
+// That a record is shown, or why none is.
+fn shown_at(place: Place) -> Shown
+    ensures { λ r. ⌜ r ≡ shown-at place ⌝ }
+{
+    match place {
+        Place::First(_) => Shown::Part,
+        Place::Second(_) => Shown::Part,
+        Place::Refused(refusal) => Shown::Refused(refusal),
     }
 }
 
@@ -68,9 +89,5 @@ pub fn show_within<'a>(
 pub fn show_refusal_within(graph1: &[u8], graph2: &[u8], number: usize, limits: Limits) -> Shown
     ensures { λ r. ⌜ shown-answer r ≡ answer (shown limits (now (graph1 .entry)) (now (graph2 .entry)) number) ⌝ }
 {
-    match find_place(graph1, graph2, number, limits) {
-        Place::First(_) => Shown::Part,
-        Place::Second(_) => Shown::Part,
-        Place::Refused(refusal) => Shown::Refused(refusal),
-    }
+    shown_at(find_place(graph1, graph2, number, limits))
 }

@@ -43,8 +43,8 @@ module _ (g : List ℕ) (x : GraphFile g) (n n₂ e₂ : ℕ) (nodes-are : n₂ 
   pub to-fits : n + u .to < 256
   to-fits = omega (arith, ap (λ (v : GraphEdge). v .to) held, to-in (decode-graph g) flow j inside, decoded-size (x .limits) g (x .accepted), nodes-are, fits)
 
-  pub moved-is : six (edge-record (n + u .from) (u .label) (n + u .to)) ≡ moved-bytes n (decode-graph g) j
-  moved-is = ap (λ (v : GraphEdge). six (edge-record (n + v .from) (v .label) (n + v .to))) held
+  pub moved-is : (from to : ℕ) → from ≡ n + u .from → to ≡ n + u .to → six (edge-record from (u .label) to) ≡ moved-bytes n (decode-graph g) j
+  moved-is from to a b = ap₂ (λ (x y : ℕ). six (edge-record x (u .label) y)) a b ∙ ap (λ (v : GraphEdge). six (edge-record (n + v .from) (v .label) (n + v .to))) held
 
 -- ---- all parts
 

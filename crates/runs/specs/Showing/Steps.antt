@@ -5,14 +5,14 @@ use mathlib.Core.List.{List, []}
 use Prim.Native.Nat.{ℕ, _+_, _*_, _-_, _≤_, _<_}
 use native.Mathlib.Omega.{arith}
 use lib.Dec.{leb}
-use lib.ListN.{length, take, drop}
+use lib.ListN.{length}
 use borrow.Author.Tests.{lt-ltb, le-ltb, le-leb, lt-leb}
 use Rattle.files.specs.Checking.{checked}
 use Rattle.files.specs.Checking.Laws.{accepted-counts}
 use Rattle.files.specs.Decode.{decode-graph}
 use Rattle.files.specs.Decode.Graphs.{few, decoded-size}
 use Rattle.files.specs.Graph.{size}
-use Rattle.files.specs.Outcome.{Said, Outcome, says, refuses, refusal-at, Check, whole-check, file-checks, answered, answer, refused-answer, verdict-answer, written-of}
+use Rattle.files.specs.Outcome.{Said, Outcome, says, refuses, refusal-at, Check, whole-check, file-checks, answered, answer, written-of}
 use Rattle.files.specs.Outcome.Steps.{file-refuses, file-passes, whole-refuses, whole-passes}
 use Rattle.files.specs.Record.{count, part}
 use Rattle.files.specs.Refusal.{graph, nodes-of}
@@ -20,7 +20,7 @@ use Rattle.files.specs.declared.check.Checked.{Checked}
 use Rattle.files.specs.declared.check.Checked.the-variants.{Accepted, Refused}
 use Rattle.files.specs.declared.record.Limits.{Limits}
 use Rattle.files.specs.declared.refusal.Refusal.{Refusal}
-use Rattle.runs.specs.Showing.{show-size, show-said, shown, from-second, Stands}
+use Rattle.runs.specs.Showing.{shown-answer, show-size, show-said, shown, from-second, Stands, shown-at}
 use Rattle.judging.specs.Judge.{GraphWithin}
 use Rattle.runs.specs.declared.showing.Place.{Place}
 use Rattle.runs.specs.declared.showing.Place.the-variants as place
@@ -106,21 +106,18 @@ module _ (L : Limits) (g1 g2 : List ℕ) (number : ℕ) (x : Checked) (is : x �
 
 -- ---- from a place to the part and the answer
 
--- a record stands in its file, and is the part and the answer
-abbrev pub FromRecord : Outcome → List ℕ → ℕ → Type 0
-FromRecord o l i = (6 * i + 6 ≤ length l) × (take (6 * i + 6 - 6 * i) (drop (6 * i) l) ≡ written-of o) × (verdict-answer 1 [] ≡ answer o)
+module _ (o : Outcome) (g1 g2 : List ℕ) where
+  pub stands-answer : (p : Place) → Stands o g1 g2 p → shown-answer (shown-at p) ≡ answer o
+  stands-answer (place.First i) s = sym (ap answer (s .1))
+  stands-answer (place.Second i) s = sym (ap answer (s .1))
+  stands-answer (place.Refused r) s = sym (ap answer s)
 
-from-record : (o : Outcome) (l : List ℕ) (i : ℕ) → 6 * i + 6 ≤ length l → o ≡ says (record { verdict = 1; values = []; written = part l i 1 }) → FromRecord o l i
-from-record o l i h d =
-    let e : 6 * i + 6 - 6 * i ≡ 6 = omega arith in
-    (h, ap (λ (n : ℕ). take n (drop (6 * i) l)) e ∙ sym (ap written-of d), sym (ap answer d))
+  module _ (p : Place) (stands : Stands o g1 g2 p) where
+    pub found-first : (i : ℕ) → p ≡ place.First i → (6 * i + 6 ≤ length g1) × (part g1 i 1 ≡ written-of o)
+    found-first i e = let s = subst (Stands o g1 g2) e stands in (s .0, sym (ap written-of (s .1)))
 
-module _ (o : Outcome) (g1 g2 : List ℕ) (p : Place) (stands : Stands o g1 g2 p) where
-  pub found-first : (i : ℕ) → p ≡ place.First i → FromRecord o g1 i
-  found-first i e = let s = subst (Stands o g1 g2) e stands in from-record o g1 i (s .0) (s .1)
+    pub found-second : (i : ℕ) → p ≡ place.Second i → (6 * i + 6 ≤ length g2) × (part g2 i 1 ≡ written-of o)
+    found-second i e = let s = subst (Stands o g1 g2) e stands in (s .0, sym (ap written-of (s .1)))
 
-  pub found-second : (i : ℕ) → p ≡ place.Second i → FromRecord o g2 i
-  found-second i e = let s = subst (Stands o g1 g2) e stands in from-record o g2 i (s .0) (s .1)
-
-  pub found-nowhere : (r : Refusal) → p ≡ place.Refused r → ([] ≡ written-of o) × (refused-answer r ≡ answer o)
-  found-nowhere r e = let d = subst (Stands o g1 g2) e stands in (sym (ap written-of d), sym (ap answer d))
+    pub found-nowhere : (r : Refusal) → p ≡ place.Refused r → [] ≡ written-of o
+    found-nowhere r e = sym (ap written-of (subst (Stands o g1 g2) e stands))

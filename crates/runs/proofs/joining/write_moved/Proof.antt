@@ -1,6 +1,6 @@
+-- Both nodes stay in a byte, since the joined graph has at most 256.
 use mathlib.Core.Path.{ap, _∙_}
 use Prim.Native.Nat.{_*_}
-use native.Mathlib.Omega.{arith}
 use lib.ListN.{getD}
 use Rattle.files.proofs.AccessLaws.{held-edge}
 use Rattle.files.specs.Cells.{put-at}
@@ -12,73 +12,66 @@ use borrow.Author.Needs.{needs}
 use Rattle.runs.proofs.joining.write_moved.Statement.{statement}
 use Rattle.runs.proofs.joining.write_moved.Tie as tie
 
+-- src/joining.rt:46:25
 edge-at-requires : tie.Need-edge-at-requires
 edge-at-requires c κs = search needs
 
+-- src/joining.rt:46:20
 enum-known-e : tie.Need-enum-known-e
 enum-known-e c = search needs
 
+-- src/joining.rt:47:9
 enum-told : tie.Need-enum-told
 enum-told c = search needs
 
+-- src/joining.rt:47:9
 returns : tie.Need-returns
 returns c = search needs
 
-add-from : tie.Need-add-from
-add-from c =
-    let k = c .before .before .before .before .before .before .before .before in
+-- src/joining.rt:49:9
+moved-node-requires : tie.Need-moved-node-requires
+moved-node-requires c κs =
+    let k = c .before .before .before .before .before .before in
     let a = k .args in
-    let x = c .before .before .before .before .before .edge-at in
-    let h = held-edge (x .result) _ (getD ((decode-graph (a .graph2 .now)) .edges) (a .j) no-edge) (c .before .before .before .e .given .1) (x .ensures) in
     let p = k .pre .1 in
-    omega (arith, from-fits (a .graph2 .now) (k .pre .0) (a .s .nodes) (a .s .nodes2) (a .s .edges2) (p .0) (p .1 .0) (p .1 .1 .0) (a .j) (p .1 .1 .1 .0) _ h)
+    let x = c .before .before .before .edge-at in
+    let h = held-edge (x .result) _ (getD ((decode-graph (a .graph2 .now)) .edges) (a .j) no-edge) (c .before .e .given .1) (x .ensures) in
+    from-fits (a .graph2 .now) (k .pre .0) (a .s .nodes) (a .s .nodes2) (a .s .edges2) (p .0) (p .1 .0) (p .1 .1 .0) (a .j) (p .1 .1 .1 .0) _ h
 
-cast-from : tie.Need-cast-from
-cast-from c =
-    let k = c .before .before .before .before .before .before .before .before in
+-- src/joining.rt:50:9
+moved-node-requires-2 : tie.Need-moved-node-requires-2
+moved-node-requires-2 c κs =
+    let k = c .before .before .before .before .before .before .before in
     let a = k .args in
-    let x = c .before .before .before .before .before .edge-at in
-    let h = held-edge (x .result) _ (getD ((decode-graph (a .graph2 .now)) .edges) (a .j) no-edge) (c .before .before .before .e .given .1) (x .ensures) in
     let p = k .pre .1 in
-    omega (arith, from-fits (a .graph2 .now) (k .pre .0) (a .s .nodes) (a .s .nodes2) (a .s .edges2) (p .0) (p .1 .0) (p .1 .1 .0) (a .j) (p .1 .1 .1 .0) _ h)
+    let x = c .before .before .before .before .edge-at in
+    let h = held-edge (x .result) _ (getD ((decode-graph (a .graph2 .now)) .edges) (a .j) no-edge) (c .before .before .e .given .1) (x .ensures) in
+    to-fits (a .graph2 .now) (k .pre .0) (a .s .nodes) (a .s .nodes2) (a .s .edges2) (p .0) (p .1 .0) (p .1 .1 .0) (a .j) (p .1 .1 .1 .0) _ h
 
-add-to : tie.Need-add-to
-add-to c =
-    let k = c .before .before .before .before .before .before .before .before .before .before in
-    let a = k .args in
-    let x = c .before .before .before .before .before .before .before .edge-at in
-    let h = held-edge (x .result) _ (getD ((decode-graph (a .graph2 .now)) .edges) (a .j) no-edge) (c .before .before .before .before .before .e .given .1) (x .ensures) in
-    let p = k .pre .1 in
-    omega (arith, to-fits (a .graph2 .now) (k .pre .0) (a .s .nodes) (a .s .nodes2) (a .s .edges2) (p .0) (p .1 .0) (p .1 .1 .0) (a .j) (p .1 .1 .1 .0) _ h)
-
-cast-to : tie.Need-cast-to
-cast-to c =
-    let k = c .before .before .before .before .before .before .before .before .before .before in
-    let a = k .args in
-    let x = c .before .before .before .before .before .before .before .edge-at in
-    let h = held-edge (x .result) _ (getD ((decode-graph (a .graph2 .now)) .edges) (a .j) no-edge) (c .before .before .before .before .before .e .given .1) (x .ensures) in
-    let p = k .pre .1 in
-    omega (arith, to-fits (a .graph2 .now) (k .pre .0) (a .s .nodes) (a .s .nodes2) (a .s .edges2) (p .0) (p .1 .0) (p .1 .1 .0) (a .j) (p .1 .1 .1 .0) _ h)
-
+-- src/joining.rt:51:25
 edge-requires : tie.Need-edge-requires
 edge-requires c κs = search needs
 
+-- src/joining.rt:51:5
 put-record-requires : tie.Need-put-record-requires
-put-record-requires c κs = c .before .before .before .before .before .before .before .before .before .before .before .before .pre .1 .1 .1 .1 .1
+put-record-requires c κs = c .before .before .before .before .before .before .before .before .before .before .pre .1 .1 .1 .1 .1
 
+-- src/joining.rt:42:1
 same-length : tie.Need-same-length
 same-length c = search needs
 
+-- src/joining.rt:42:1
 returns-2 : tie.Need-returns-2
 returns-2 c =
-    let d = c .before .before .before .before .before .before .before .before .before .before in
-    let k = d .before .before .before .before .before in
+    let k = c .before .before .before .before .before .before .before .before .before .before .before .before .before in
     let a = k .args in
-    let x = d .before .before .edge-at in
-    let h = held-edge (x .result) _ (getD ((decode-graph (a .graph2 .now)) .edges) (a .j) no-edge) (d .e .given .1) (x .ensures) in
     let p = k .pre .1 in
-    c .before .before .put-record .ensures ∙ ap (put-at (a .out .now) (6 * a .at)) (ap six (c .before .before .before .edge .ensures)
-    ∙ moved-is (a .graph2 .now) (k .pre .0) (a .s .nodes) (a .s .nodes2) (a .s .edges2) (p .0) (p .1 .0) (p .1 .1 .0) (a .j) (p .1 .1 .1 .0) _ h)
+    let x = c .before .before .before .before .before .before .before .before .before .before .edge-at in
+    let h = held-edge (x .result) _ (getD ((decode-graph (a .graph2 .now)) .edges) (a .j) no-edge) (c .before .before .before .before .before .before .before .before .e .given .1) (x .ensures) in
+    let from = c .before .before .before .before .before .before .moved-node in
+    let to = c .before .before .before .before .before .moved-node2 in
+    c .before .before .put-record .ensures
+    ∙ ap (put-at (a .out .now) (6 * a .at)) (ap six (c .before .before .before .edge .ensures) ∙ moved-is (a .graph2 .now) (k .pre .0) (a .s .nodes) (a .s .nodes2) (a .s .edges2) (p .0) (p .1 .0) (p .1 .1 .0) (a .j) (p .1 .1 .1 .0) _ h (from .result) (to .result) (from .ensures) (to .ensures))
 
 pub write-moved-spec : {M : Type 1} → statement M
 write-moved-spec =
@@ -88,10 +81,8 @@ write-moved-spec =
     enum-known-e
     enum-told
     returns
-    add-from
-    cast-from
-    add-to
-    cast-to
+    moved-node-requires
+    moved-node-requires-2
     edge-requires
     put-record-requires
     same-length

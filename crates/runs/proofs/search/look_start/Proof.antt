@@ -1,89 +1,48 @@
-use native.Mathlib.Omega.{arith}
-use Rattle.files.specs.Decode.{decode-graph}
-use Rattle.files.specs.Graph.{node}
-use Rattle.judging.proofs.HeldLaws.{held-node}
-use Rattle.runs.proofs.SearchLaws.{node-small, may-start, did-start, no-start}
-use Rattle.runs.proofs.SummaryLaws.{node-read, node-in, node-readable}
+-- The one record of the list is pushed, or the list is empty.
+use Rattle.runs.proofs.SearchLaws.{may-start, did-start, no-start}
 use borrow.Author.Needs.{needs}
 use Rattle.runs.proofs.search.look_start.Statement.{statement}
 use Rattle.runs.proofs.search.look_start.Tie as tie
 
--- src/search.rt:223:25
-node-at-requires : tie.Need-node-at-requires
-node-at-requires c κs =
-    let k = c .before .before .before in
-    let a = k .args in
-    (k .pre .0 .graph-file, node-readable (a .s) (a .graph .now) (a .rules .now) (k .pre .0) (a .n) (node-in (a .s) (a .graph .now) (a .rules .now) (k .pre .0) (a .n) (k .pre .1 .0)))
+-- src/search.rt:39:8
+is-entry-requires : tie.Need-is-entry-requires
+is-entry-requires c κs = search needs
 
--- src/search.rt:223:20
-enum-known-v : tie.Need-enum-known-v
-enum-known-v c = search needs
-
--- src/search.rt:224:9
-enum-told : tie.Need-enum-told
-enum-told c = search needs
-
--- src/search.rt:224:9
-returns : tie.Need-returns
-returns c = absurd (node-read (c .before .before .node-at .result) _ _ (c .before .before .node-at .ensures) (c .enum-told .given .1))
-
--- src/search.rt:227:36
+-- src/search.rt:40:36
 cast-push : tie.Need-cast-push
-cast-push c =
-    let k = c .before .before .before .before .before .before .before .before .before .before .before in
-    let a = k .args in
-    omega (arith, node-small (a .s) (a .graph .now) (a .rules .now) (k .pre .0) (a .n) (node-in (a .s) (a .graph .now) (a .rules .now) (k .pre .0) (a .n) (k .pre .1 .0)))
+cast-push c = search needs
 
--- src/search.rt:227:54
+-- src/search.rt:40:54
 cast-push-2 : tie.Need-cast-push-2
-cast-push-2 c =
-    let k = c .before .before .before .before .before .before .before .before .before .before .before in
-    let a = k .args in
-    omega (arith, node-small (a .s) (a .graph .now) (a .rules .now) (k .pre .0) (a .n) (node-in (a .s) (a .graph .now) (a .rules .now) (k .pre .0) (a .n) (k .pre .1 .0)))
+cast-push-2 c = search needs
 
--- src/search.rt:227:9
+-- src/search.rt:40:9
 push-requires : tie.Need-push-requires
 push-requires c κs =
-    let k = c .before .before .before .before .before .before .before .before .before .before .before in
+    let k = c .before .before .before .before .before .before in
     let a = k .args in
-    let h = held-node (c .before .before .before .before .before .before .before .node-at .result) _ (node (decode-graph (a .graph .now)) (a .n))
-    (c .before .before .before .before .before .v .given .1) (c .before .before .before .before .before .before .before .node-at .ensures) in
-    may-start (a .s) (a .graph .now) (a .rules .now) (k .pre .0) (a .start) (a .tail) (a .work .now) (k .pre .1 .1 .0) (a .n) (k .pre .1 .0) _ h (c .before .if1 .taken) (k .pre .1 .1 .1)
+    may-start (a .s) (a .graph .now) (a .rules .now) (k .pre .0) (a .start) (a .tail) (a .work .now) (k .pre .1 .1 .0) (a .n) (k .pre .1 .0) (c .before .before .is-entry .result) (c .before .before .is-entry .ensures) (c .before .if1 .taken) (k .pre .1 .1 .1)
 
--- src/search.rt:227:9
+-- src/search.rt:40:9
 same-length : tie.Need-same-length
 same-length c = search needs
 
--- src/search.rt:227:9
+-- src/search.rt:40:9
+returns : tie.Need-returns
+returns c =
+    let k = c .before .before .before .before .before .before .before .before .before in
+    let a = k .args in
+    let x = c .before .before .push in
+    did-start (a .s) (a .graph .now) (a .rules .now) (k .pre .0) (a .start) (a .tail) (a .work .now) (k .pre .1 .1 .0) (a .n) (k .pre .1 .0) (c .before .before .before .before .before .is-entry .result) (c .before .before .before .before .before .is-entry .ensures) (c .before .before .before .before .if1 .taken) (k .pre .1 .1 .1) (x .result) (x .last .0) (x .ensures)
+
+-- src/search.rt:27:1
 returns-2 : tie.Need-returns-2
 returns-2 c =
-    let k = c .before .before .before .before .before .before .before .before .before .before .before .before .before .before in
+    let k = c .before .before .before .before .before in
     let a = k .args in
-    let h = held-node (c .before .before .before .before .before .before .before .before .before .before .node-at .result) _ (node (decode-graph (a .graph .now)) (a .n))
-    (c .before .before .before .before .before .before .before .before .v .given .1) (c .before .before .before .before .before .before .before .before .before .before .node-at .ensures) in
-    did-start (a .s) (a .graph .now) (a .rules .now) (k .pre .0) (a .start) (a .tail) (a .work .now) (k .pre .1 .1 .0) (a .n) (k .pre .1 .0) _ h (c .before .before .before .before .if1 .taken)
-    (k .pre .1 .1 .1) (c .before .before .push .result) (c .before .before .push .last .0) (c .before .before .push .ensures)
-
--- src/search.rt:219:1
-returns-3 : tie.Need-returns-3
-returns-3 c =
-    let k = c .before .before .before .before .before .before .before .before .before .before in
-    let a = k .args in
-    let h = held-node (c .before .before .before .before .before .before .node-at .result) _ (node (decode-graph (a .graph .now)) (a .n)) (c .before .before .before .before .v .given .1)
-    (c .before .before .before .before .before .before .node-at .ensures) in
-    no-start (a .s) (a .graph .now) (a .rules .now) (k .pre .0) (a .start) (a .tail) (a .work .now) (k .pre .1 .1 .0) (a .n) (k .pre .1 .0) _ h (c .if1 .left)
+    no-start (a .s) (a .graph .now) (a .rules .now) (k .pre .0) (a .start) (a .tail) (a .work .now) (k .pre .1 .1 .0) (a .n) (k .pre .1 .0) (c .before .is-entry .result) (c .before .is-entry .ensures) (c .if1 .left)
 
 pub look-start-spec : {M : Type 1} → statement M
 look-start-spec =
     tie.close
-    (tie.spec
-    node-at-requires
-    enum-known-v
-    enum-told
-    returns
-    cast-push
-    cast-push-2
-    push-requires
-    same-length
-    returns-2
-    returns-3)
+    (tie.spec is-entry-requires cast-push cast-push-2 push-requires same-length returns returns-2)

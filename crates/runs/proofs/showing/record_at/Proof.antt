@@ -1,0 +1,51 @@
+-- Six bytes from the record on.
+use mathlib.Core.Path.{_≡_, ap}
+use Prim.Native.Nat.{ℕ, _+_, _*_, _-_}
+use native.Mathlib.Omega.{arith}
+use lib.ListN.{take, drop}
+use borrow.Author.Needs.{needs}
+use Rattle.runs.proofs.showing.record_at.Statement.{statement}
+use Rattle.runs.proofs.showing.record_at.Tie as tie
+
+-- src/showing.rt:58:12
+mul-result : tie.Need-mul-result
+mul-result c = search needs
+
+-- src/showing.rt:58:29
+mul-result-2 : tie.Need-mul-result-2
+mul-result-2 c = search needs
+
+-- src/showing.rt:58:29
+add-result : tie.Need-add-result
+add-result c = search needs
+
+-- src/showing.rt:58:5
+sub-result : tie.Need-sub-result
+sub-result c = search needs
+
+-- src/showing.rt:58:5
+part-result-start : tie.Need-part-result-start
+part-result-start c = search needs
+
+-- src/showing.rt:58:5
+part-result-end : tie.Need-part-result-end
+part-result-end c = search needs
+
+-- src/showing.rt:54:1
+returns : tie.Need-returns
+returns c =
+    let a = c .before .args in
+    let e : 6 * a .i + 6 - 6 * a .i ≡ 6 = omega arith in
+    ap (λ (n : ℕ). take n (drop (6 * a .i) (a .graph .now))) e
+
+pub record-at-spec : {M : Type 1} → statement M
+record-at-spec =
+    tie.close
+    (tie.spec
+    mul-result
+    mul-result-2
+    add-result
+    sub-result
+    part-result-start
+    part-result-end
+    returns)
