@@ -42,6 +42,15 @@ use Rattle.runs.specs.Worklist.Unions.{any-more}
 use Rattle.runs.specs.declared.regions.Regions.{Regions}
 use Rattle.runs.proofs.SummaryLaws.{node-in, member-edge, to-is, label-is, edge-in-file}
 
+all-left : (n : ℕ) → n ≡ n - 0
+all-left n = omega arith
+
+-- a list of records as a loop looks at it, number by number: the whole, what is left from a number on, and what is of one number
+pub record Series : Type 0 where
+  pub whole : List Rec
+  pub left : ℕ → List Rec
+  pub one : ℕ → List Rec
+
 module _ (G : Graph) (mon : Monitor) (m : ℕ) where
   -- of the records `now`, those of the list `part` come next
   module _ (head : ℕ) (rs now part rest : List Rec) (a b : ℕ) (u v : List ℕ) (e : now ≡ part ++ rest) (x : LookedTo G mon m head rs now a b u v) where
@@ -54,6 +63,28 @@ module _ (G : Graph) (mon : Monitor) (m : ℕ) where
   -- so far, in a buffer of the same length
   abbrev pub Along : ℕ → List Rec → List Rec → ℕ → List ℕ → List ℕ → ℕ → Type 0
   Along head rs now tail w₀ w k = (length w ≡ length w₀) × LookedTo G mon m head rs now tail k w₀ w
+
+  -- up to number n of a series
+  abbrev pub Upto : ℕ → Series → ℕ → ℕ → List ℕ → List ℕ → ℕ → Type 0
+  Upto head S n tail w₀ w k = Along head (S .whole) (S .left n) tail w₀ w k
+
+  module _ (head : ℕ) (S : Series) (tail : ℕ) (w₀ : List ℕ) where
+    pub series-start : (n : ℕ) → S .whole ≡ S .left n → Upto head S n tail w₀ w₀ tail
+    series-start n e = (refl, looked-same G mon m head (S .whole) (S .whole) (S .left n) tail tail w₀ w₀ e (looked-start G mon m head (S .whole) tail w₀))
+
+    module _ (n : ℕ) (w : List ℕ) (k : ℕ) (so-far : Upto head S n tail w₀ w k) where
+      pub series-here : (x : Place) → Here G mon m head tail w₀ x → Here G mon m head k w x
+      series-here x h = here-on G mon m head (S .whole) (S .left n) tail k w₀ w x h (so-far .1)
+
+      pub series-end : S .left n ≡ [] → Looked G mon m head (S .whole) tail k w₀ w
+      series-end e = looked-same G mon m head (S .whole) (S .left n) [] tail k w₀ w e (so-far .1)
+
+      module _ (next : S .left n ≡ S .one n ++ S .left (n + 1)) where
+        pub one-may : May G mon m head (S .whole) tail w₀ → May G mon m head (S .one n) k w
+        one-may = next-may head (S .whole) (S .left n) (S .one n) (S .left (n + 1)) tail k w₀ w next (so-far .1)
+
+        pub one-looked : (k′ : ℕ) (w′ : List ℕ) → length w′ ≡ length w → Looked G mon m head (S .one n) k k′ w w′ → Upto head S (n + 1) tail w₀ w′ k′
+        one-looked k′ w′ e x = (e ∙ so-far .0, next-looked head (S .whole) (S .left n) (S .one n) (S .left (n + 1)) tail k w₀ w next (so-far .1) k′ w′ x)
 
   -- the list by another name
   pub looked-named : (head : ℕ) (rs fs : List Rec) (a b : ℕ) (u v : List ℕ) → rs ≡ fs → Looked G mon m head fs a b u v → Looked G mon m head rs a b u v
@@ -78,29 +109,50 @@ module _ (G : Graph) (mon : Monitor) (m : ℕ) where
         (subst (λ (v : List ℕ). Looked G mon m head (t ∷ []) tail (pushed-tail w tail head t) w v) (sym (e .1))
         (look-one G mon m few-nodes few-edges head tail t w below may-one lv)))
 
-  -- ---- one number more, as the loops count
+  -- ---- the series of each loop: its start, one number more, and its end
 
-  pub starts-next : (n : ℕ) → n < size G → starts-of G mon m (span n (size G - n)) ≡ starts-of G mon m (span n 1) ++ starts-of G mon m (span (n + 1) (size G - (n + 1)))
-  starts-next n h =
-      subst (λ (k : ℕ). starts-of G mon m (span n (size G - n)) ≡ starts-of G mon m (span n 1) ++ starts-of G mon m (span k (size G - k))) (sym (add-one n)) (starts-on G mon m n h)
+  abbrev pub the-starts : Series
+  the-starts = record { whole = starts-of G mon m (span 0 (size G)); left = λ n. starts-of G mon m (span n (size G - n)); one = λ n. starts-of G mon m (span n 1) }
+
+  pub starts-first : the-starts .whole ≡ the-starts .left 0
+  starts-first = ap (λ (k : ℕ). starts-of G mon m (span 0 k)) (all-left (size G))
+
+  pub starts-next : (n : ℕ) → n < size G → the-starts .left n ≡ the-starts .one n ++ the-starts .left (n + 1)
+  starts-next n h = subst (λ (k : ℕ). the-starts .left n ≡ the-starts .one n ++ the-starts .left k) (sym (add-one n)) (starts-on G mon m n h)
 
   module _ (x : Place) where
-    pub entries-next : (l n : ℕ) → n < size G → entry-recs G mon x l (span n (size G - n)) ≡ entry-recs G mon x l (span n 1) ++ entry-recs G mon x l (span (n + 1) (size G - (n + 1)))
-    entries-next l n h =
-        subst (λ (k : ℕ). entry-recs G mon x l (span n (size G - n)) ≡ entry-recs G mon x l (span n 1) ++ entry-recs G mon x l (span k (size G - k))) (sym (add-one n)) (entries-on G mon m x l n h)
+    abbrev pub the-entries : ℕ → Series
+    the-entries l = record { whole = entry-recs G mon x l (span 0 (size G)); left = λ n. entry-recs G mon x l (span n (size G - n)); one = λ n. entry-recs G mon x l (span n 1) }
 
-    pub states-next : (j r : ℕ) → r < 8 → passed-recs G mon x j (span r (8 - r)) ≡ passed-recs G mon x j (span r 1) ++ passed-recs G mon x j (span (r + 1) (8 - (r + 1)))
-    states-next j r h =
-        subst (λ (k : ℕ). passed-recs G mon x j (span r (8 - r)) ≡ passed-recs G mon x j (span r 1) ++ passed-recs G mon x j (span k (8 - k))) (sym (add-one r)) (states-on G mon m x j r h)
+    abbrev pub the-states : ℕ → Series
+    the-states j = record { whole = passed-recs G mon x j (span 0 8); left = λ r. passed-recs G mon x j (span r (8 - r)); one = λ r. passed-recs G mon x j (span r 1) }
 
-    pub internals-next : (j : ℕ) → j < first-edge G (suc (x .at)) → internals G mon x j ≡ internal-at G mon x j ++ internals G mon x (j + 1)
-    internals-next j h = subst (λ (k : ℕ). internals G mon x j ≡ internal-at G mon x j ++ internals G mon x k) (sym (add-one j)) (internals-on G mon m x j h)
+    abbrev pub the-internals : Series
+    the-internals = record { whole = internals G mon x (first-edge G (x .at)); left = internals G mon x; one = internal-at G mon x }
 
-    pub passeds-next : (j : ℕ) → j < first-edge G (suc (x .at)) → passeds G mon x j ≡ passed-at G mon x j ++ passeds G mon x (j + 1)
-    passeds-next j h = subst (λ (k : ℕ). passeds G mon x j ≡ passed-at G mon x j ++ passeds G mon x k) (sym (add-one j)) (passeds-on G mon m x j h)
+    abbrev pub the-passeds : Series
+    the-passeds = record { whole = passeds G mon x (first-edge G (x .at)); left = passeds G mon x; one = passed-at G mon x }
 
-    pub entereds-next : (l : ℕ) → l < 9 → entereds G mon x l ≡ entered-at G mon x l ++ entereds G mon x (l + 1)
-    entereds-next l h = subst (λ (k : ℕ). entereds G mon x l ≡ entered-at G mon x l ++ entereds G mon x k) (sym (add-one l)) (entereds-on G mon m x l h)
+    abbrev pub the-entereds : Series
+    the-entereds = record { whole = entereds G mon x 1; left = entereds G mon x; one = entered-at G mon x }
+
+    pub entries-first : (l : ℕ) → (the-entries l) .whole ≡ (the-entries l) .left 0
+    entries-first l = ap (λ (k : ℕ). entry-recs G mon x l (span 0 k)) (all-left (size G))
+
+    pub entries-next : (l n : ℕ) → n < size G → (the-entries l) .left n ≡ (the-entries l) .one n ++ (the-entries l) .left (n + 1)
+    entries-next l n h = subst (λ (k : ℕ). (the-entries l) .left n ≡ (the-entries l) .one n ++ (the-entries l) .left k) (sym (add-one n)) (entries-on G mon m x l n h)
+
+    pub states-next : (j r : ℕ) → r < 8 → (the-states j) .left r ≡ (the-states j) .one r ++ (the-states j) .left (r + 1)
+    states-next j r h = subst (λ (k : ℕ). (the-states j) .left r ≡ (the-states j) .one r ++ (the-states j) .left k) (sym (add-one r)) (states-on G mon m x j r h)
+
+    pub internals-next : (j : ℕ) → j < first-edge G (suc (x .at)) → the-internals .left j ≡ the-internals .one j ++ the-internals .left (j + 1)
+    internals-next j h = subst (λ (k : ℕ). the-internals .left j ≡ the-internals .one j ++ the-internals .left k) (sym (add-one j)) (internals-on G mon m x j h)
+
+    pub passeds-next : (j : ℕ) → j < first-edge G (suc (x .at)) → the-passeds .left j ≡ the-passeds .one j ++ the-passeds .left (j + 1)
+    passeds-next j h = subst (λ (k : ℕ). the-passeds .left j ≡ the-passeds .one j ++ the-passeds .left k) (sym (add-one j)) (passeds-on G mon m x j h)
+
+    pub entereds-next : (l : ℕ) → l < 9 → the-entereds .left l ≡ the-entereds .one l ++ the-entereds .left (l + 1)
+    entereds-next l h = subst (λ (k : ℕ). the-entereds .left l ≡ the-entereds .one l ++ the-entereds .left k) (sym (add-one l)) (entereds-on G mon m x l h)
 
 -- ---- the methods that node n calls
 
@@ -186,11 +238,6 @@ module _ (s : Regions) (g r : List ℕ) (ready : Ready s g r) where
       let h : j < length (G .edges) = omega (arith, first-edge-le G (suc n)) in
       (h, in-leaves (ready .graph-file .limits) G (is-filed s g r ready) n j h a b)
 
-  pub owned : (n j last : ℕ) → first-edge G n ≤ j → j < last → last ≡ first-edge G (suc n) → (j < s .edges) × ((edge j) .from ≡ n)
-  owned n j last a b e =
-      let h = subst (λ (i : ℕ). j < i) e b in
-      (edge-in-file s g r ready (suc n) j h, owns n j a h .1)
-
   pub first-last : (n : ℕ) → first-edge G n ≤ first-edge G (suc n)
   first-last n = subst (λ (k : ℕ). first-edge G n ≤ first-edge G k) (add-one n) (scan-starts g (ready .graph-file) n)
 
@@ -206,6 +253,16 @@ module _ (s : Regions) (g r : List ℕ) (ready : Ready s g r) where
 
     pub last-is : (x : ℕ) → Tables G mon w → x ≡ cell w 33792 2 (n + 1) → x ≡ first-edge G (suc n)
     last-is x t e = e ∙ t .firsts (n + 1) (omega arith) ∙ ap (first-edge G) (add-one n)
+
+    -- edge j between the two, and past them
+    module _ (last j : ℕ) (t : Tables G mon w) (e : last ≡ cell w 33792 2 (n + 1)) where
+      pub edge-owned : first-edge G n ≤ j → j < last → (j < s .edges) × ((edge j) .from ≡ n) × (j < first-edge G (suc n))
+      edge-owned a b =
+          let h = subst (λ (i : ℕ). j < i) (last-is last t e) b in
+          (edge-in-file s g r ready (suc n) j h, owns n j a h .1, h)
+
+      pub edges-past : last ≤ j → first-edge G (suc n) ≤ j
+      edges-past b = subst (λ (i : ℕ). i ≤ j) (last-is last t e) b
 
   -- ---- the records from a place
 

@@ -11,7 +11,7 @@ use Rattle.judging.proofs.HeldLaws.{held-edge}
 use Rattle.judging.proofs.LevelLaws.{edge-read}
 use Rattle.runs.specs.Prepared.Files.{labels-small}
 use Rattle.runs.proofs.SummaryLaws.{node-in, member-edge, label-is}
-use Rattle.runs.proofs.SearchLaws.{node-small, owned, first-fits, last-fits, first-is, last-is, first-last, CalledTo, called-none, called-more, called-same, called-all}
+use Rattle.runs.proofs.SearchLaws.{node-small, edge-owned, first-fits, last-fits, first-is, last-is, first-last, CalledTo, called-none, called-more, called-same, called-all}
 use borrow.Author.Needs.{needs}
 use Rattle.runs.proofs.entered.called_set.Statement.{statement}
 use Rattle.runs.proofs.entered.called_set.Tie as tie
@@ -75,8 +75,7 @@ edge-at-requires c κs =
     let a = k .args in
     let l = c .before .loop in
     let hn = node-in (a .s) (a .graph .now) (a .rules .now) (k .pre .0) (a .g) (k .pre .1 .0) in
-    let e = last-is (a .s) (a .graph .now) (a .rules .now) (k .pre .0) (a .g) (a .work .now) hn _ (k .pre .1 .1 .1) (c .before .before .get162 .ensures) in
-    let d = owned (a .s) (a .graph .now) (a .rules .now) (k .pre .0) (a .g) (l .j) _ (l .inv .0) (c .loop-test .taken) e in
+    let d = edge-owned (a .s) (a .graph .now) (a .rules .now) (k .pre .0) (a .g) (a .work .now) hn _ (l .j) (k .pre .1 .1 .1) (c .before .before .get162 .ensures) (l .inv .0) (c .loop-test .taken) in
     (k .pre .0 .graph-file, k .pre .0 .nodes-are, omega (arith, d .0, k .pre .0 .edges-are, k .pre .0 .nodes-are))
 
 -- src/search.rt:93:24
@@ -102,9 +101,7 @@ one-state-requires c κs =
     let a = k .args in
     let l = c .before .before .before .before .before .before .before .before .loop in
     let hn = node-in (a .s) (a .graph .now) (a .rules .now) (k .pre .0) (a .g) (k .pre .1 .0) in
-    let e = last-is (a .s) (a .graph .now) (a .rules .now) (k .pre .0) (a .g) (a .work .now) hn _ (k .pre .1 .1 .1)
-    (c .before .before .before .before .before .before .before .before .before .get162 .ensures) in
-    let d = owned (a .s) (a .graph .now) (a .rules .now) (k .pre .0) (a .g) (l .j) _ (l .inv .0) (c .before .before .before .before .before .before .before .loop-test .taken) e in
+    let d = edge-owned (a .s) (a .graph .now) (a .rules .now) (k .pre .0) (a .g) (a .work .now) hn _ (l .j) (k .pre .1 .1 .1) (c .before .before .before .before .before .before .before .before .before .get162 .ensures) (l .inv .0) (c .before .before .before .before .before .before .before .loop-test .taken) in
     let h = held-edge (c .before .before .before .before .before .before .edge-at .result) _ (getD ((decode-graph (a .graph .now)) .edges) (l .j) no-edge)
     (c .before .before .before .before .e .given .1) (c .before .before .before .before .before .before .edge-at .ensures) in
     let lab = label-is (a .s) (a .graph .now) (a .rules .now) (k .pre .0) (l .j) (d .0) _ h in
@@ -130,9 +127,7 @@ loop-again c =
     let a = k .args in
     let l = c .before .before .before .before .before .before .before .loop in
     let hn = node-in (a .s) (a .graph .now) (a .rules .now) (k .pre .0) (a .g) (k .pre .1 .0) in
-    let e = last-is (a .s) (a .graph .now) (a .rules .now) (k .pre .0) (a .g) (a .work .now) hn _ (k .pre .1 .1 .1)
-    (c .before .before .before .before .before .before .before .before .get162 .ensures) in
-    let d = owned (a .s) (a .graph .now) (a .rules .now) (k .pre .0) (a .g) (l .j) _ (l .inv .0) (c .before .before .before .before .before .before .loop-test .taken) e in
+    let d = edge-owned (a .s) (a .graph .now) (a .rules .now) (k .pre .0) (a .g) (a .work .now) hn _ (l .j) (k .pre .1 .1 .1) (c .before .before .before .before .before .before .before .before .get162 .ensures) (l .inv .0) (c .before .before .before .before .before .before .loop-test .taken) in
     let h = held-edge (c .before .before .before .before .before .edge-at .result) _ (getD ((decode-graph (a .graph .now)) .edges) (l .j) no-edge) (c .before .before .before .e .given .1)
     (c .before .before .before .before .before .edge-at .ensures) in
     let lab = label-is (a .s) (a .graph .now) (a .rules .now) (k .pre .0) (l .j) (d .0) _ h in (

@@ -1,25 +1,18 @@
-use mathlib.Core.Path.{_≡_, refl, ap, _∙_}
-use Prim.Native.Nat.{ℕ, _+_, _-_}
+-- One entry after the other: what is left is that of the nodes from n on.
+use Prim.Native.Nat.{_-_}
 use native.Mathlib.Omega.{arith}
-use lib.ListN.{length}
-use Rattle.files.specs.Basics.Lists.{span}
 use Rattle.files.specs.Decode.{decode-graph, decode-rules}
-use Rattle.files.specs.Graph.{size}
 use Rattle.files.specs.Rules.{watch}
 use Rattle.runs.specs.Prepared.Files.{size-is}
-use Rattle.runs.specs.Searching.{place, entry-recs, LookedTo}
-use Rattle.runs.specs.Searching.Looks.{looked-start, looked-same, here-on}
+use Rattle.runs.specs.Searching.{place}
 use Rattle.runs.specs.Searching.Outgoing.{entries-out}
-use Rattle.runs.proofs.SearchLaws.{next-may, next-looked, entries-next}
+use Rattle.runs.proofs.SearchLaws.{Upto, series-start, series-here, series-end, one-may, one-looked, the-entries, entries-first, entries-next}
 use Rattle.runs.proofs.SummaryLaws.{node-in}
 use Rattle.runs.proofs.entered.look_entries.Statement.{statement}
 use Rattle.runs.proofs.entered.look_entries.Tie as tie
 
 abbrev Inv-loop : tie.InvT-loop
-Inv-loop graph rules s work₀ start tail head g q l p n₀ end₀ work n end =
-    (length work ≡ length work₀) × (LookedTo (decode-graph graph) (watch (decode-rules rules)) start head
-    (entry-recs (decode-graph graph) (watch (decode-rules rules)) (place g q) l (span 0 (size (decode-graph graph))))
-    (entry-recs (decode-graph graph) (watch (decode-rules rules)) (place g q) l (span n ((size (decode-graph graph)) - n))) tail end work₀ work)
+Inv-loop graph rules s work₀ start tail head g q l p n₀ end₀ work n end = Upto (decode-graph graph) (watch (decode-rules rules)) start head (the-entries (decode-graph graph) (watch (decode-rules rules)) start (place g q) l) n tail work₀ work end
 
 abbrev μ-loop : tie.MeasureT-loop
 μ-loop graph rules s work₀ start tail head g q l p n₀ end₀ work n end = s .nodes - n
@@ -27,15 +20,8 @@ abbrev μ-loop : tie.MeasureT-loop
 -- src/search.rt:125:5
 loop-holds : tie.Need-loop-holds Inv-loop μ-loop
 loop-holds c =
-    let k = c .before .before .before in
-    let a = k .args in
-    let z : (size (decode-graph (a .graph .now))) ≡ (size (decode-graph (a .graph .now))) - 0 = omega arith in (
-      refl,
-      looked-same (decode-graph (a .graph .now)) (watch (decode-rules (a .rules .now))) (a .start) (a .head) _ _ _ _ _ _ _
-          (ap (λ (i : ℕ). entry-recs (decode-graph (a .graph .now)) (watch (decode-rules (a .rules .now))) (place (a .g) (a .q)) (a .l) (span 0 i)) z)
-          (looked-start (decode-graph (a .graph .now)) (watch (decode-rules (a .rules .now))) (a .start) (a .head)
-          (entry-recs (decode-graph (a .graph .now)) (watch (decode-rules (a .rules .now))) (place (a .g) (a .q)) (a .l) (span 0 (size (decode-graph (a .graph .now))))) (a .tail) (a .work .now)),
-    )
+    let a = c .before .before .before .args in
+    series-start (decode-graph (a .graph .now)) (watch (decode-rules (a .rules .now))) (a .start) (a .head) (the-entries (decode-graph (a .graph .now)) (watch (decode-rules (a .rules .now))) (a .start) (place (a .g) (a .q)) (a .l)) (a .tail) (a .work .now) 0 (entries-first (decode-graph (a .graph .now)) (watch (decode-rules (a .rules .now))) (a .start) (place (a .g) (a .q)) (a .l))
 
 -- src/search.rt:126:9
 look-entry-requires : tie.Need-look-entry-requires Inv-loop μ-loop
@@ -43,31 +29,20 @@ look-entry-requires c κs =
     let k = c .before .before .before .before .before .before .before in
     let a = k .args in
     let l = c .before .before .before .loop in
-    let o = entries-next (decode-graph (a .graph .now)) (watch (decode-rules (a .rules .now))) (a .start) (place (a .g) (a .q)) (a .l) (l .n)
-    (node-in (a .s) (a .graph .now) (a .rules .now) (k .pre .0) (l .n) (c .before .if1 .taken)) in (
+    let o = entries-next (decode-graph (a .graph .now)) (watch (decode-rules (a .rules .now))) (a .start) (place (a .g) (a .q)) (a .l) (l .n) (node-in (a .s) (a .graph .now) (a .rules .now) (k .pre .0) (l .n) (c .before .if1 .taken)) in
+    let p = k .pre .1 in (
       k .pre .0,
       (
         c .before .if1 .taken,
         (
-          k .pre .1 .0,
+          p .0,
           (
-            k .pre .1 .1 .0,
+            p .1 .0,
             (
-              k .pre .1 .1 .1 .0,
+              p .1 .1 .0,
               (
-                k .pre .1 .1 .1 .1 .0,
-                (
-                  here-on (decode-graph (a .graph .now)) (watch (decode-rules (a .rules .now))) (a .start) (a .head)
-                      (entry-recs (decode-graph (a .graph .now)) (watch (decode-rules (a .rules .now))) (place (a .g) (a .q)) (a .l) (span 0 (size (decode-graph (a .graph .now)))))
-                      (entry-recs (decode-graph (a .graph .now)) (watch (decode-rules (a .rules .now))) (place (a .g) (a .q)) (a .l) (span (l .n) ((size (decode-graph (a .graph .now))) - l .n))) (a .tail) (l .end)
-                      (a .work .now) (l .work) (place (a .g) (a .q)) (k .pre .1 .1 .1 .1 .1 .0) (l .inv .1),
-                  next-may (decode-graph (a .graph .now)) (watch (decode-rules (a .rules .now))) (a .start) (a .head)
-                      (entry-recs (decode-graph (a .graph .now)) (watch (decode-rules (a .rules .now))) (place (a .g) (a .q)) (a .l) (span 0 (size (decode-graph (a .graph .now)))))
-                      (entry-recs (decode-graph (a .graph .now)) (watch (decode-rules (a .rules .now))) (place (a .g) (a .q)) (a .l) (span (l .n) ((size (decode-graph (a .graph .now))) - l .n)))
-                      (entry-recs (decode-graph (a .graph .now)) (watch (decode-rules (a .rules .now))) (place (a .g) (a .q)) (a .l) (span (l .n) 1))
-                      (entry-recs (decode-graph (a .graph .now)) (watch (decode-rules (a .rules .now))) (place (a .g) (a .q)) (a .l) (span (l .n + 1) ((size (decode-graph (a .graph .now))) - (l .n + 1))))
-                      (a .tail) (l .end) (a .work .now) (l .work) o (l .inv .1) (k .pre .1 .1 .1 .1 .1 .1),
-                ),
+                p .1 .1 .1 .0,
+                (series-here (decode-graph (a .graph .now)) (watch (decode-rules (a .rules .now))) (a .start) (a .head) (the-entries (decode-graph (a .graph .now)) (watch (decode-rules (a .rules .now))) (a .start) (place (a .g) (a .q)) (a .l)) (a .tail) (a .work .now) (l .n) (l .work) (l .end) (l .inv) (place (a .g) (a .q)) (p .1 .1 .1 .1 .0), one-may (decode-graph (a .graph .now)) (watch (decode-rules (a .rules .now))) (a .start) (a .head) (the-entries (decode-graph (a .graph .now)) (watch (decode-rules (a .rules .now))) (a .start) (place (a .g) (a .q)) (a .l)) (a .tail) (a .work .now) (l .n) (l .work) (l .end) (l .inv) o (p .1 .1 .1 .1 .1)),
               ),
             ),
           ),
@@ -90,22 +65,12 @@ loop-again c =
     let a = k .args in
     let l = c .before .before .before .before .before .before .loop in
     let x = c .before .before .look-entry in
-    let o = entries-next (decode-graph (a .graph .now)) (watch (decode-rules (a .rules .now))) (a .start) (place (a .g) (a .q)) (a .l) (l .n)
-    (node-in (a .s) (a .graph .now) (a .rules .now) (k .pre .0) (l .n) (c .before .before .before .before .if1 .taken)) in (
-      x .kept .1 .1 .1 .0 ∙ l .inv .0,
-      next-looked (decode-graph (a .graph .now)) (watch (decode-rules (a .rules .now))) (a .start) (a .head)
-          (entry-recs (decode-graph (a .graph .now)) (watch (decode-rules (a .rules .now))) (place (a .g) (a .q)) (a .l) (span 0 (size (decode-graph (a .graph .now)))))
-          (entry-recs (decode-graph (a .graph .now)) (watch (decode-rules (a .rules .now))) (place (a .g) (a .q)) (a .l) (span (l .n) ((size (decode-graph (a .graph .now))) - l .n)))
-          (entry-recs (decode-graph (a .graph .now)) (watch (decode-rules (a .rules .now))) (place (a .g) (a .q)) (a .l) (span (l .n) 1))
-          (entry-recs (decode-graph (a .graph .now)) (watch (decode-rules (a .rules .now))) (place (a .g) (a .q)) (a .l) (span (l .n + 1) ((size (decode-graph (a .graph .now))) - (l .n + 1))))
-          (a .tail) (l .end) (a .work .now) (l .work) o (l .inv .1) (x .result) (x .last .1 .1 .1 .0) (x .ensures),
-    )
+    let o = entries-next (decode-graph (a .graph .now)) (watch (decode-rules (a .rules .now))) (a .start) (place (a .g) (a .q)) (a .l) (l .n) (node-in (a .s) (a .graph .now) (a .rules .now) (k .pre .0) (l .n) (c .before .before .before .before .if1 .taken)) in
+    one-looked (decode-graph (a .graph .now)) (watch (decode-rules (a .rules .now))) (a .start) (a .head) (the-entries (decode-graph (a .graph .now)) (watch (decode-rules (a .rules .now))) (a .start) (place (a .g) (a .q)) (a .l)) (a .tail) (a .work .now) (l .n) (l .work) (l .end) (l .inv) o (x .result) (x .last .1 .1 .1 .0) (x .kept .1 .1 .1 .0) (x .ensures)
 
 -- src/search.rt:119:1
 same-length : tie.Need-same-length Inv-loop μ-loop
-same-length c =
-    let l = c .before .before .loop in
-    l .inv .0
+same-length c = c .before .before .loop .inv .0
 
 -- src/search.rt:119:1
 returns : tie.Need-returns Inv-loop μ-loop
@@ -113,9 +78,8 @@ returns c =
     let k = c .before .before .before .before .before .before in
     let a = k .args in
     let l = c .before .before .loop in
-    looked-same (decode-graph (a .graph .now)) (watch (decode-rules (a .rules .now))) (a .start) (a .head) _ _ _ _ _ _ _
-    (entries-out (decode-graph (a .graph .now)) (watch (decode-rules (a .rules .now))) (a .start) (place (a .g) (a .q)) (a .l) (l .n)
-    (omega (arith, c .if1 .left, size-is (a .s) (a .graph .now) (a .rules .now) (k .pre .0)))) (l .inv .1)
+    series-end (decode-graph (a .graph .now)) (watch (decode-rules (a .rules .now))) (a .start) (a .head) (the-entries (decode-graph (a .graph .now)) (watch (decode-rules (a .rules .now))) (a .start) (place (a .g) (a .q)) (a .l)) (a .tail) (a .work .now) (l .n) (l .work) (l .end) (l .inv)
+    (entries-out (decode-graph (a .graph .now)) (watch (decode-rules (a .rules .now))) (a .start) (place (a .g) (a .q)) (a .l) (l .n) (omega (arith, c .if1 .left, size-is (a .s) (a .graph .now) (a .rules .now) (k .pre .0))))
 
 pub look-entries-spec : {M : Type 1} → statement M
 look-entries-spec =
