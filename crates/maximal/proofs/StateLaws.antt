@@ -1,4 +1,4 @@
--- For the code that enters a state: the first place with a kind and a set, what storing a state and marking it in a row of bits changes, and the three ends of `enter`.
+-- For the code that enters a state: places looked at four in a turn, what storing a state and marking it in a row of bits changes, and the three ends of `enter`.
 use mathlib.Core.Path.{_≡_, refl, sym, ap, subst, _∙_}
 use mathlib.Core.Logic.{_⊎_, inl, inr}
 use mathlib.Core.Bool.{Bool, true, false, not, _&&_, _||_}
@@ -8,37 +8,41 @@ use native.Mathlib.Decide.{ℕ-discrete}
 use native.Mathlib.Omega.{arith}
 use lib.Dec.{T, T-not, not-T, eqb, eqb→eq, ltb, ltb→lt, lt→ltb}
 use lib.ListN.{length, getD}
-use Rattle.files.specs.Basics.Least.{least, least-before, least-hit, least-lt}
+use Rattle.files.specs.Basics.Least.{least-before, least-hit, least-lt}
 use Rattle.files.specs.Basics.Tests.{T-eq, eq-eqb, and-l, and-r, and-i, or-l, or-r}
-use Rattle.files.specs.Cells.{cell, put-cell, put-bit}
+use Rattle.files.specs.Cells.{put-cell, put-bit}
 use Rattle.files.specs.Cells.Laws.{length-put-cell, cell-agree, cell-same, cell-other, cell-apart, byte-outside, bit-byte, bit-same, bit-other, bit-outside}
 use Rattle.files.specs.Decode.{decode-property}
 use Rattle.files.specs.Interface.{Interface}
 use Rattle.files.specs.Property.{Row}
 use Rattle.judging.specs.Chains.{Outside}
-use Rattle.judging.specs.Sheets.Laws.{least-at, least-none}
+use Rattle.judging.specs.Sheets.Laws.{least-none}
 use Rattle.judging.proofs.CauseLaws.{none-on}
 use Rattle.maximal.specs.declared.places.Scope.{Scope}
-use Rattle.maximal.specs.Charting.{is-pair, Scoped, kind-at, set-at, same-state, found, target, Elsewhere, Known, Holds, Crowded, Admitted}
+use Rattle.maximal.specs.Charting.{Scoped, kind-at, set-at, same-state, found, target, Elsewhere, Known, Holds, Crowded, Admitted}
 use Rattle.maximal.specs.Charting.Files.{rows-named}
 use Rattle.maximal.specs.Charting.Kept.{off, known-same, holds-same}
 use Rattle.maximal.specs.Charting.States.{crowded}
 use Rattle.maximal.specs.Charting.Entering.{admitted-unmarked, admitted-both}
 
--- ---- the first place with a kind and a set, or with a method and what is asked for
+-- ---- four places looked at in a turn
 
-module _ (w : List ℕ) (a b kind set n i : ℕ) (none : (j : ℕ) → j < i → T (not (is-pair w a b kind set j))) where
-  pub pair-at : cell w a 1 i ≡ kind → cell w b 4 i ≡ set → i < n → i ≡ least (is-pair w a b kind set) n
-  pair-at e f h = sym (least-at (is-pair w a b kind set) n i h none (and-i (eqb (cell w a 1 i) kind) (eqb (cell w b 4 i) set) (eq-eqb (cell w a 1 i) kind e) (eq-eqb (cell w b 4 i) set f)))
+all-off : (a b c d : Bool) → (((a || b) || c) || d) ≡ false → (a ≡ false) × (b ≡ false) × (c ≡ false) × (d ≡ false)
+all-off true b c d e = absurd (subst T e tt)
+all-off false true c d e = absurd (subst T e tt)
+all-off false false true d e = absurd (subst T e tt)
+all-off false false false true e = absurd (subst T e tt)
+all-off false false false false e = (refl, refl, refl, refl)
 
-  pub pair-past : (cell w a 1 i ≡ kind → cell w b 4 i ≡ set → ⊥) → (j : ℕ) → j < i + 1 → T (not (is-pair w a b kind set j))
-  pair-past apart = none-on (is-pair w a b kind set) i none (off (is-pair w a b kind set i) (λ z.
-      apart (eqb→eq (cell w a 1 i) kind (and-l (eqb (cell w a 1 i) kind) (eqb (cell w b 4 i) set) z)) (eqb→eq (cell w b 4 i) set (and-r (eqb (cell w a 1 i) kind) (eqb (cell w b 4 i) set) z))))
-
-  pub pair-none : i ≤ n → (i < n → ⊥) → i ≡ least (is-pair w a b kind set) n
-  pair-none l g =
-      let e : i ≡ n = omega arith in
-      e ∙ sym (least-none (is-pair w a b kind set) n (λ j h. none j (omega arith)))
+-- where none of the first i passes, and none of four more, none of the first i + 4 does
+pub none-of-four : (f : ℕ → Bool) (i : ℕ) → ((j : ℕ) → j < i → T (not (f j))) → (a b c d : Bool) → a ≡ f i → b ≡ f (i + 1) → c ≡ f (i + 2) → d ≡ f (i + 3) → (((a || b) || c) || d) ≡ false → (j : ℕ) → j < i + 4 → T (not (f j))
+none-of-four f i none a b c d ia ib ic id e =
+    let off = all-off a b c d e in
+    let one = none-on f i none (sym ia ∙ off .0) in
+    let two = none-on f (i + 1) one (sym ib ∙ off .1) in
+    let three = none-on f (i + 2) (λ j h. two j (omega arith)) (sym ic ∙ off .2) in
+    let four = none-on f (i + 3) (λ j h. three j (omega arith)) (sym id ∙ off .3) in
+    λ j h. four j (omega arith)
 
 -- ---- a state stored, and marked in a row
 

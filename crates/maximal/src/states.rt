@@ -1,8 +1,10 @@
 // The states of a model, each once, numbered in the order in which they are found, and the rows of bits that say which states follow. `admit` states what is there
 // once the minimal supports of a set of rows are entered, or that the model has too many states.
 ghost use mathlib.Core.Path.{_≡_};
+ghost use mathlib.Core.Bool.{not};
 ghost use mathlib.Core.List.{List·Memᴰ, [], _∷_};
 ghost use Prim.Native.Nat.{ℕ, _+_, _*_, _/_, _%_, _^_, _≤_, _<_};
+ghost use lib.Dec.{T};
 ghost use lib.ListN.{length};
 ghost use Rattle.files.specs.Basics.Least.{least};
 ghost use Rattle.files.specs.Decode.{decode-interface, decode-property};
@@ -18,7 +20,38 @@ use files::cells::put_bit;
 use files::cells::put8;
 use files::cells::put32;
 
-// The first of n places that has this byte among those from `bytes` on and this set among those from `sets` on, or n.
+// Place i has this byte among those from `bytes` on and this set among those from `sets` on.
+fn is_pair(work: &[u8], bytes: usize, sets: usize, i: usize, byte: u8, set: u32) -> bool
+    requires { ⌜ (bytes + i + 1 ≤ length (now work)) × (sets + 4 * i + 4 ≤ length (now work)) ⌝ }
+    ensures { λ t. ⌜ t ≡ is-pair (now (work .entry)) bytes sets byte set i ⌝ }
+{
+    (get8(work, bytes, i) == byte) & (get32(work, sets, i) == set)
+}
+
+// The first of n places that is such a pair, or n, where none of the first `from` is.
+fn pair_from(
+    work: &[u8],
+    bytes: usize,
+    sets: usize,
+    from: usize,
+    n: usize,
+    byte: u8,
+    set: u32,
+) -> usize
+    requires { ⌜ (from ≤ n) × ((bytes + n ≤ length (now work)) × ((sets + 4 * n ≤ length (now work)) × ((j : ℕ) → j < from → T (not (is-pair (now work) bytes sets byte set j))))) ⌝ }
+    ensures { λ t. ⌜ t ≡ least (is-pair (now (work .entry)) bytes sets byte set) n ⌝ }
+{
+    let mut i = from;
+    while i < n {
+        if is_pair(work, bytes, sets, i, byte, set) {
+            return i;
+        }
+        i += 1;
+    }
+    i
+}
+
+// The first of n places that has this byte among those from `bytes` on and this set among those from `sets` on, or n. Four places are looked at in a turn.
 pub(crate) fn find_pair(
     work: &[u8],
     bytes: usize,
@@ -31,15 +64,17 @@ pub(crate) fn find_pair(
     ensures { λ t. ⌜ t ≡ least (is-pair (now (work .entry)) bytes sets byte set) n ⌝ }
 {
     let mut i = 0;
-    while i < n {
-        if get8(work, bytes, i) == byte {
-            if get32(work, sets, i) == set {
-                return i;
-            }
+    while n - i >= 4 {
+        if is_pair(work, bytes, sets, i, byte, set)
+            | is_pair(work, bytes, sets, i + 1, byte, set)
+            | is_pair(work, bytes, sets, i + 2, byte, set)
+            | is_pair(work, bytes, sets, i + 3, byte, set)
+        {
+            return pair_from(work, bytes, sets, i, n, byte, set);
         }
-        i += 1;
+        i += 4;
     }
-    i
+    pair_from(work, bytes, sets, i, n, byte, set)
 }
 
 // Enters a state, where it is new, and marks it in row q. How many states there are then; one more than there may be where there is no room.
