@@ -3,11 +3,11 @@ use borrow.Author.Needs.{needs}
 use Rattle.runs.proofs.sets.one_state.Statement.{statement}
 use Rattle.runs.proofs.sets.one_state.Tie as tie
 
--- src/summaries.rt:40:5
+-- src/sets.rt:29:5
 shl-result : tie.Need-shl-result
 shl-result c = search needs
 
--- src/summaries.rt:36:1
+-- src/sets.rt:25:1
 returns : tie.Need-returns
 returns c = weight (c .args .q) (c .pre)
 
