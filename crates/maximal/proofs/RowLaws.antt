@@ -20,7 +20,7 @@ use Rattle.judging.proofs.HeldLaws.{held-row}
 use Rattle.judging.specs.Ranking.{leaf-false}
 use Rattle.maximal.specs.Charting.Files.{file-rows, file-named}
 use Rattle.maximal.specs.Collected.{settlers}
-use Rattle.maximal.specs.Masks.{and-rows, untrue-at, obliged-rows}
+use Rattle.maximal.specs.Masks.{operands-or, and-rows, untrue-at, obliged-rows}
 
 -- ---- what a row's record says
 
@@ -37,28 +37,25 @@ operands-rows n (either a b) t l = ((λ h. ltb→lt a n (and-l (ltb a n) (ltb b 
 operands-rows n (box k b) t l = ((λ h. absurd (omega arith)), ltb→lt b n t)
 
 -- what the code makes of the operator and the operands
-abbrev pub and-rows-by : PropertyRow → ℕ
-and-rows-by u = cond (eqb (u .operator) 7) (bitOr (2 ^ u .a) (2 ^ u .b)) 0
-
 abbrev pub obliged-rows-by : PropertyRow → ℕ → ℕ
 obliged-rows-by u l = cond (eqb (u .operator) 9 && eqb (u .a) l) (2 ^ u .b) 0
 
-abbrev pub settlers-by : PropertyRow → ℕ → ℕ
-settlers-by u r = cond (eqb (u .operator) 8) (bitOr (2 ^ u .a) (2 ^ u .b)) (2 ^ r)
+abbrev pub operands-by : PropertyRow → ℕ → ℕ → ℕ
+operands-by u operator other = cond (eqb (u .operator) operator) (bitOr (2 ^ u .a) (2 ^ u .b)) other
 
 abbrev pub untrue-by : PropertyRow → ℕ → Bool → Bool
 untrue-by u m f = leaf-false (u .operator) (u .a) m f
 
-and-rows-by-row : (x : Row) → and-rows-by (row-held x) ≡ and-rows x
-and-rows-by-row always = refl
-and-rows-by-row never = refl
-and-rows-by-row returns = refl
-and-rows-by-row not-returns = refl
-and-rows-by-row (in-method a) = refl
-and-rows-by-row (not-in-method a) = refl
-and-rows-by-row (both a b) = refl
-and-rows-by-row (either a b) = refl
-and-rows-by-row (box l b) = refl
+pub and-rows-are : (x : Row) → operands-or x 7 0 ≡ and-rows x
+and-rows-are always = refl
+and-rows-are never = refl
+and-rows-are returns = refl
+and-rows-are not-returns = refl
+and-rows-are (in-method a) = refl
+and-rows-are (not-in-method a) = refl
+and-rows-are (both a b) = refl
+and-rows-are (either a b) = refl
+and-rows-are (box l b) = refl
 
 obliged-rows-by-row : (x : Row) (l : ℕ) → obliged-rows-by (row-held x) l ≡ obliged-rows (obliged x l)
 obliged-rows-by-row always l = refl
@@ -75,16 +72,16 @@ obliged-rows-by-row (box k b) l = go (eqb k l)
     go true = refl
     go false = refl
 
-settlers-by-row : (x : Row) (r : ℕ) → settlers-by (row-held x) r ≡ settlers x r
-settlers-by-row always r = refl
-settlers-by-row never r = refl
-settlers-by-row returns r = refl
-settlers-by-row not-returns r = refl
-settlers-by-row (in-method a) r = refl
-settlers-by-row (not-in-method a) r = refl
-settlers-by-row (both a b) r = refl
-settlers-by-row (either a b) r = refl
-settlers-by-row (box l b) r = refl
+pub settlers-are : (x : Row) (r : ℕ) → operands-or x 8 (2 ^ r) ≡ settlers x r
+settlers-are always r = refl
+settlers-are never r = refl
+settlers-are returns r = refl
+settlers-are not-returns r = refl
+settlers-are (in-method a) r = refl
+settlers-are (not-in-method a) r = refl
+settlers-are (both a b) r = refl
+settlers-are (either a b) r = refl
+settlers-are (box l b) r = refl
 
 untrue-by-row : (x : Row) (m : ℕ) (f : Bool) → untrue-by (row-held x) m f ≡ untrue-at x m f
 untrue-by-row always m f = refl
@@ -111,14 +108,11 @@ module _ (x : RowAt) (u : PropertyRow) (v : Row) (is : x ≡ RowIs u) (holds : x
   held : u ≡ row-held v
   held = held-row x u v is holds
 
-  pub and-rows-read : and-rows-by u ≡ and-rows v
-  and-rows-read = ap and-rows-by held ∙ and-rows-by-row v
+  pub operands-read : (operator other : ℕ) → operands-by u operator other ≡ operands-or v operator other
+  operands-read operator other = ap (λ (y : PropertyRow). operands-by y operator other) held
 
   pub obliged-rows-read : (l : ℕ) → obliged-rows-by u l ≡ obliged-rows (obliged v l)
   obliged-rows-read l = ap (λ (y : PropertyRow). obliged-rows-by y l) held ∙ obliged-rows-by-row v l
-
-  pub settlers-read : (r : ℕ) → settlers-by u r ≡ settlers v r
-  settlers-read r = ap (λ (y : PropertyRow). settlers-by y r) held ∙ settlers-by-row v r
 
   pub untrue-read : (m : ℕ) (f : Bool) → untrue-by u m f ≡ untrue-at v m f
   untrue-read m f = ap (λ (y : PropertyRow). untrue-by y m f) held ∙ untrue-by-row v m f

@@ -1,12 +1,13 @@
 -- Sets of rows as numbers: row r is in the set when digit r of the number is one. What a set asks for by its "and" rows, the rows that are untrue at a method and
 -- flag, and what a state asks of its successors, each as such a number.
-use mathlib.Core.Bool.{Bool, true, false, not, _||_}
+use mathlib.Core.Bool.{Bool, true, false, not, cond, _||_}
 use mathlib.Core.List.{List}
 use mathlib.Core.Option.{Option, none, some}
 use Prim.Native.Nat.{ℕ, _/_, _%_, _^_}
 use lib.Bits.{bitAnd, bitOr}
 use lib.Dec.{eqb}
 use lib.ListN.{length}
+use Rattle.files.specs.Access.{row-held}
 use Rattle.files.specs.Basics.Binary.{value}
 use Rattle.files.specs.Basics.Closure.{closed}
 use Rattle.files.specs.Basics.Lists.{span}
@@ -15,6 +16,10 @@ use Rattle.files.specs.Property.{Row, always, never, returns, not-returns, in-m
 use Rattle.maximal.specs.Model.{Rows, fulfilled, asked}
 use Rattle.maximal.specs.Model.Supports.{tab}
 pub mod Laws
+
+-- the operands of a row as a set where it has this operator, 7 for an "and" and 8 for an "or"; otherwise a given set
+abbrev pub operands-or : Row → ℕ → ℕ → ℕ
+operands-or x operator other = cond (eqb ((row-held x) .operator) operator) (bitOr (2 ^ (row-held x) .a) (2 ^ (row-held x) .b)) other
 
 -- row r is in set k
 abbrev pub member : ℕ → ℕ → Bool

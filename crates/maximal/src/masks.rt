@@ -6,7 +6,7 @@ ghost use Rattle.files.specs.Access.{PropertyFile};
 ghost use Rattle.files.specs.Decode.{decode-property};
 ghost use Rattle.files.specs.Property.{row, obliged};
 ghost use Rattle.files.specs.Record.{count};
-ghost use Rattle.maximal.specs.Masks.{member, and-rows, completion, untrue-at, untrue, obliged-rows, asked-of};
+ghost use Rattle.maximal.specs.Masks.{operands-or, member, and-rows, completion, untrue-at, untrue, obliged-rows, asked-of};
 use files::property::RowAt;
 use files::property::row_at;
 
@@ -38,18 +38,26 @@ fn highest(set: u32) -> usize
     r
 }
 
+// The operands of row r as a set where it has this operator, that of an "and" or of an "or"; otherwise the set given.
+pub(crate) fn operands_or(property: &[u8], n: usize, r: usize, operator: u8, other: u32) -> u32
+    requires { ⌜ (7 ≤ operator) × ((operator ≤ 8) × ((PropertyFile (now property)) × ((n ≡ count (now property)) × ((n ≤ 32) × (r < n))))) ⌝ }
+    ensures { λ t. ⌜ t ≡ operands-or (row (decode-property (now (property .entry))) r) operator other ⌝ }
+{
+    let RowAt::Is(x) = row_at(property, r, 2) else {
+        return 0;
+    };
+    if x.operator == operator {
+        return one_row(x.a as usize) | one_row(x.b as usize);
+    }
+    other
+}
+
 // What row r asks for as an "and".
 fn and_rows(property: &[u8], n: usize, r: usize) -> u32
     requires { ⌜ (PropertyFile (now property)) × ((n ≡ count (now property)) × ((n ≤ 32) × (r < n))) ⌝ }
     ensures { λ t. ⌜ t ≡ and-rows (row (decode-property (now (property .entry))) r) ⌝ }
 {
-    let RowAt::Is(x) = row_at(property, r, 2) else {
-        return 0;
-    };
-    if x.operator == 7 {
-        return one_row(x.a as usize) | one_row(x.b as usize);
-    }
-    0
+    operands_or(property, n, r, 7, 0)
 }
 
 // The set and what its "and" rows ask for, and theirs, and so on: the highest row not yet worked is taken next.

@@ -14,6 +14,7 @@ use crate::antichain::insert;
 use crate::masks::complete;
 use crate::masks::has_row;
 use crate::masks::one_row;
+use crate::masks::operands_or;
 use crate::masks::untrue;
 use crate::places::Places;
 use files::cells::get32;
@@ -26,13 +27,7 @@ fn settlers(property: &[u8], n: usize, r: usize) -> u32
     requires { ⌜ (PropertyFile (now property)) × ((n ≡ count (now property)) × ((n ≤ 32) × (r < n))) ⌝ }
     ensures { λ t. ⌜ t ≡ settlers (row (decode-property (now (property .entry))) r) r ⌝ }
 {
-    let RowAt::Is(x) = row_at(property, r, 2) else {
-        return 0;
-    };
-    if x.operator == 8 {
-        return one_row(x.a as usize) | one_row(x.b as usize);
-    }
-    one_row(r)
+    operands_or(property, n, r, 8, one_row(r))
 }
 
 // The tables of all rows.
