@@ -7,17 +7,17 @@ use Prim.Native.Nat.{ℕ, _+_, _*_, _-_, _/_, _%_, _≤_, _<_}
 use native.Mathlib.Decide.{ℕ-discrete}
 use native.Mathlib.Omega.{arith}
 use lib.Bits.{bitAnd}
-use lib.Dec.{T, T-not, eqb, eqb→eq, ltb}
+use lib.Dec.{T, eqb, eqb→eq}
 use lib.ListN.{length, getD, replicate}
-use Rattle.files.specs.Basics.Tests.{or-e, or-l, or-r, and-i, and-l, and-r, eq-eqb}
-use Rattle.files.specs.Cells.{cell, has-bit, drop-bit}
+use Rattle.files.specs.Basics.Tests.{or-e, or-l, or-r, and-i, and-l, eq-eqb}
+use Rattle.files.specs.Cells.{cell, has-bit}
 use Rattle.files.specs.Decode.{decode-graph}
 use Rattle.files.specs.Graph.{Graph, size}
 use Rattle.judging.specs.declared.sizes.Sizes.{Sizes}
 use Rattle.judging.specs.Chains.{Outside, last-where}
-use Rattle.judging.specs.Refinement.{Both, rel, held, load, edge, comes, labelled-into, Neighbours, In, Within, HeldInside, Handed, Meets, Sifted, Refining, Shrank, Contained, LabelMatched, NodeMatched, Candidates, Took, Matching, Settled}
+use Rattle.judging.specs.Refinement.{Both, rel, held, load, edge, comes, labelled-into, Neighbours, In, Within, HeldInside, Handed, Sifted, Refining, Shrank, Contained, LabelMatched, NodeMatched, Candidates, Took, Matching, Settled}
 use Rattle.judging.specs.Refinement.Files.{first-size, second-size, first-edges, second-edges, first-flow, second-flow, first-fits, second-fits, first-edges-fit, first-edge-in, second-edge-in}
-use Rattle.judging.specs.Refinement.Handing.{handed-over, handed-none, handed-one, row-dropped, shrank-none, shrank-on, unmet-apart, label-matched, label-none, label-kept, node-kept, order-beside, candidates-all, candidates-lost, sifted-absent, sifted-unmet, sifted-met}
+use Rattle.judging.specs.Refinement.Handing.{handed-over, handed-none, handed-one, row-dropped, shrank-on, unmet-apart, label-matched, label-none, label-kept, node-kept, order-beside, candidates-all, candidates-lost}
 use Rattle.judging.specs.Refinement.Rows.{lit, lit-and, lit-not, lit-zero, row-lit}
 use Rattle.judging.specs.Refinement.Taking.{took, matching-on, matching-none, load-le, load-lt, all-settled}
 use Rattle.judging.specs.Simulation.{related}

@@ -1,32 +1,31 @@
 -- For the code that prepares the search: the kind of a node and the slot of an edge as they are read, parts that are blank, and what stands in the buffer once all is put there.
 use mathlib.Core.Path.{_≡_, refl, sym, ap, ap₂, subst, _∙_}
-use mathlib.Core.Logic.{_⊎_, inl, inr}
+use mathlib.Core.Logic.{inl, inr}
 use mathlib.Core.Bool.{Bool, true, false, _&&_}
 use mathlib.Core.List.{List}
-use Prim.Native.Nat.{ℕ, _+_, _*_, _-_, _/_, _%_, _≤_, _<_}
-use native.Mathlib.Decide.{ℕ-discrete, decLt}
-use native.Mathlib.Numerals.{add-one}
+use Prim.Native.Nat.{ℕ, _+_, _*_, _-_, _/_, _≤_, _<_}
+use native.Mathlib.Decide.{ℕ-discrete}
 use native.Mathlib.Omega.{arith}
 use lib.Dec.{T, eqb, ltb, ltb→lt, lt→ltb}
 use lib.ListN.{length, getD}
 use Rattle.files.specs.Access.{GraphFile, node-held, edge-held}
 use Rattle.files.specs.Basics.Lists.{index-e}
 use Rattle.files.specs.Basics.Tests.{and-l, and-r, and-i, one}
-use Rattle.files.specs.Cells.{cell, has-bit, put-bit}
+use Rattle.files.specs.Cells.{has-bit, put-bit}
 use Rattle.files.specs.Cells.Laws.{bit-byte, cell-two, cell-agree}
 use Rattle.files.specs.Decode.{decode-graph}
 use Rattle.files.specs.Decode.Graphs.{decoded-size, decoded-filed}
-use Rattle.files.specs.Graph.{Graph, Node, size, node, no-node}
+use Rattle.files.specs.Graph.{Graph, Node, node, no-node}
 use Rattle.files.specs.Refusal.{nodes-of}
 use Rattle.files.specs.declared.graph.GraphEdge.{GraphEdge}
 use Rattle.files.specs.declared.graph.GraphNode.{GraphNode}
 use Rattle.judging.specs.declared.sizes.Sizes.{Sizes}
 use Rattle.judging.specs.Chains.{Chained, Outside, linked}
 use Rattle.judging.specs.Chains.Laws.{chained-same, chain-on}
-use Rattle.judging.specs.Refinement.{Both, rel, kind, of-kind, edge, labelled-into, follows, comes, KindRows, Neighbours, Refining}
-use Rattle.judging.specs.Refinement.Files.{first-size, second-size, first-edges, second-edges, first-flow, second-flow, first-fits, second-fits, first-edges-fit, first-edge-in, second-edge-in}
+use Rattle.judging.specs.Refinement.{Both, rel, kind, of-kind, edge, labelled-into, KindRows, Neighbours, Refining}
+use Rattle.judging.specs.Refinement.Files.{first-size, second-size, first-edges, second-edges, first-flow, second-flow, second-fits, first-edge-in, second-edge-in}
 use Rattle.judging.specs.Refinement.Preparing.{put-beside, kinds-none, kinds-more, kind-is, Putting, putting-none, putting-more, putting-end}
-use Rattle.judging.specs.Simulation.{alike, related}
+use Rattle.judging.specs.Simulation.{alike}
 use Rattle.judging.specs.Simulation.Laws.{alike-i, related-e, related-simulation}
 use Rattle.judging.proofs.ClearedLaws.{zero-bit}
 

@@ -8,7 +8,7 @@ use native.Mathlib.Numerals.{add-one}
 use native.Mathlib.Omega.{arith}
 use lib.Bits.{bitOr, bitAnd}
 use lib.Dec.{T, ltb, ltb→lt, lt→ltb, T-not}
-use lib.ListN.{length, getD}
+use lib.ListN.{getD}
 use Rattle.files.specs.Basics.Tests.{and-l, and-r, and-i, same-test}
 use Rattle.files.specs.Cells.{has-bit}
 use Rattle.judging.specs.Chains.{Outside}

@@ -1,6 +1,5 @@
 // The first graph's nodes in the order in which a walk in depth leaves them: a node comes after its successors wherever there is no cycle, so that what rows lose is handed on
 // in few and large parts. What is proved of it is that it touches its own part of the buffer only: the search is right in every order, and ends in every order.
-ghost use mathlib.Core.Path.{_≡_};
 ghost use Prim.Native.Nat.{_≤_, _<_};
 ghost use lib.ListN.{length};
 ghost use Rattle.judging.specs.Chains.{Outside};

@@ -1,6 +1,5 @@
 // The largest simulation: every row is handed on whole once, then, until no row has lost anything since it was last taken, only what it has lost. The order in which rows are
 // taken changes no result. `refine` states that at the end the relation is the largest simulation.
-ghost use mathlib.Core.Path.{_≡_};
 ghost use mathlib.Core.Bool.{not};
 ghost use Prim.Native.Nat.{ℕ, _≤_, _<_};
 ghost use lib.Dec.{T};

@@ -1,17 +1,17 @@
 // The relation at first, and what the search looks up beside it: the second graph's nodes by method and return flag, a row of bits each; the edges of the first graph by
 // where they lead to and their label, as chains; the neighbours of each node of the second graph by label, as rows of bits. `prepare` states that all of it stands in the buffer.
 ghost use mathlib.Core.Path.{_≡_};
-ghost use mathlib.Core.Bool.{false, _&&_};
+ghost use mathlib.Core.Bool.{_&&_};
 ghost use Prim.Native.Nat.{ℕ, _+_, _*_, _≤_, _<_};
 ghost use lib.Dec.{ltb};
 ghost use lib.ListN.{length, getD};
 ghost use Rattle.files.specs.Access.{GraphFile};
 ghost use Rattle.files.specs.Cells.{put-bit};
 ghost use Rattle.files.specs.Decode.{decode-graph};
-ghost use Rattle.files.specs.Graph.{size, node};
+ghost use Rattle.files.specs.Graph.{node};
 ghost use Rattle.files.specs.Refusal.{nodes-of};
 ghost use Rattle.judging.specs.Chains.{Chained, Outside};
-ghost use Rattle.judging.specs.Refinement.{Both, rel, edge, kind, KindRows, labelled-into, follows, comes, Neighbours, Refining};
+ghost use Rattle.judging.specs.Refinement.{Both, rel, edge, kind, KindRows, labelled-into, Neighbours, Refining};
 ghost use Rattle.judging.specs.Simulation.{alike};
 use crate::chains::link;
 use crate::rows::put_row;

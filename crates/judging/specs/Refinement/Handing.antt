@@ -10,14 +10,14 @@ use lib.Dec.{T, T-not, eqb, eqb→eq}
 use lib.ListN.{length, getD}
 use Rattle.files.specs.Basics.Lists.{index-i, index-e}
 use Rattle.files.specs.Basics.Tests.{and-l, and-r, or-e, or-l, or-r, eq-eqb}
-use Rattle.files.specs.Cells.{cell, has-bit, drop-bit}
+use Rattle.files.specs.Cells.{has-bit, drop-bit}
 use Rattle.files.specs.Cells.Laws.{bit-byte, cell-agree, drop-same, drop-other}
-use Rattle.files.specs.Graph.{Graph, Edge, size, node, no-edge, Flow}
+use Rattle.files.specs.Graph.{Graph, Edge, size, no-edge, Flow}
 use Rattle.judging.specs.Chains.{Outside}
 use Rattle.judging.specs.Chains.Laws.{chained-same}
-use Rattle.judging.specs.Refinement.{rel, held, edge, follows, comes, labelled-into, leads-into, Reaches, Neighbours, In, Within, HeldInside, Handed, Meets, Sifted, Refining, Shrank, Contained, LabelMatched, NodeMatched, Candidates}
+use Rattle.judging.specs.Refinement.{rel, held, edge, comes, labelled-into, Reaches, Neighbours, In, Within, HeldInside, Handed, Meets, Sifted, Refining, Shrank, Contained, LabelMatched, NodeMatched, Candidates}
 use Rattle.judging.specs.Refinement.Preparing.{leads-into-i, leads-into-e}
-use Rattle.judging.specs.Simulation.{alike, related}
+use Rattle.judging.specs.Simulation.{related}
 use Rattle.judging.specs.Simulation.Laws.{related-e, related-simulation}
 
 -- ---- predecessors of what was lost

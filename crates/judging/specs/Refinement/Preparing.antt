@@ -3,17 +3,17 @@ use mathlib.Core.Path.{_≡_, refl, sym, ap, ap₂, subst, _∙_}
 use mathlib.Core.Logic.{_⊎_, inl, inr}
 use mathlib.Core.Bool.{Bool, true, false, _&&_}
 use mathlib.Core.List.{List, List·Memᴰ}
-use Prim.Native.Nat.{ℕ, _+_, _*_, _/_, _%_, _≤_, _<_}
+use Prim.Native.Nat.{ℕ, _+_, _*_, _/_, _≤_, _<_}
 use native.Mathlib.Decide.{ℕ-discrete, decLt}
 use native.Mathlib.Omega.{arith}
-use lib.Dec.{T, eqb, eqb→eq, ltb, ltb→lt, lt→ltb}
+use lib.Dec.{T, eqb, eqb→eq, ltb}
 use lib.ListN.{length, getD}
 use borrow.Author.Tests.{eq-eqb, ne-eqb, lt-ltb, le-ltb}
 use Rattle.files.specs.Basics.Lists.{index-i, index-e}
-use Rattle.files.specs.Basics.Tests.{and-l, and-r, and-i, any-i, any-e, same-test, one, T-eq, eq-eqb as T-eqb}
+use Rattle.files.specs.Basics.Tests.{and-l, and-r, and-i, any-i, any-e, same-test, one, eq-eqb as T-eqb}
 use Rattle.files.specs.Cells.{has-bit, put-bit}
 use Rattle.files.specs.Cells.Laws.{bit-byte, bit-same, bit-other, bit-outside, length-put-bit}
-use Rattle.files.specs.Graph.{Graph, Node, Edge, size, node, no-edge}
+use Rattle.files.specs.Graph.{Graph, Node, Edge, node, no-edge}
 use Rattle.judging.specs.Chains.{Outside}
 use Rattle.judging.specs.Refinement.{kind, of-kind, edge, follows, comes, leads-into, Reaches, KindRows, Neighbours}
 use Rattle.judging.specs.Simulation.{alike}

@@ -8,7 +8,7 @@ use Prim.Native.Nat.{ℕ, _+_, _*_, _/_, _%_, _≤_, _<_}
 use native.Mathlib.Decide.{ℕ-discrete, decLt}
 use native.Mathlib.Omega.{arith}
 use lib.Dec.{T, T-not}
-use lib.ListN.{length, getD}
+use lib.ListN.{length}
 use Rattle.files.specs.Basics.Lists.{index-i, index-e}
 use Rattle.files.specs.Basics.Tables.{tally-up, tally-more}
 use Rattle.files.specs.Basics.Tests.{decide, T-eq}
@@ -16,7 +16,7 @@ use Rattle.files.specs.Cells.{has-bit}
 use Rattle.files.specs.Cells.Laws.{bit-byte}
 use Rattle.files.specs.Graph.{Graph, Edge, size, node, no-edge, Flow}
 use Rattle.judging.specs.Chains.{Outside}
-use Rattle.judging.specs.Refinement.{rel, held, load, edge, Reaches, In, HeldInside, Refining, Shrank, LabelMatched, NodeMatched, Took, Matching, Settled}
+use Rattle.judging.specs.Refinement.{rel, held, load, edge, Refining, Shrank, LabelMatched, NodeMatched, Took, Matching, Settled}
 use Rattle.judging.specs.Refinement.Handing.{looked-up-kept}
 use Rattle.judging.specs.Simulation.{Simulation, related}
 use Rattle.judging.specs.Simulation.Laws.{alike-e, related-e, largest}

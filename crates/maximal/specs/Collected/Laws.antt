@@ -14,7 +14,7 @@ use Rattle.files.specs.Basics.Binary.{value}
 use Rattle.files.specs.Basics.Least.{least, least-hit, least-before}
 use Rattle.files.specs.Basics.Lists.{keep, keep-i, keep-e}
 use Rattle.files.specs.Basics.Queue.{Once}
-use Rattle.files.specs.Basics.Tables.{tally}
+use Rattle.files.specs.Basics.Tables.{tally, tally-more}
 use Rattle.files.specs.Basics.Tests.{same-test, decide, eq-eqb, not-not, not-and, and-r, or-e, or-l, or-r, any, any-i, any-e}
 use Rattle.files.specs.Decode.{row-rec}
 use Rattle.files.specs.Decode.Properties.{tally-mono}
@@ -25,7 +25,7 @@ use Rattle.maximal.specs.Masks.{member, rows, within, apart, joins, comp
 use Rattle.maximal.specs.Masks.Laws.{member-or, member-one, member-lt, members-eq, within-e, within-i, apart-e, apart-i, value-lt, value-member, member-untrue, untrue-lt, has-rows, rows-member, rows-value, completion-lt, completion-contains, completion-joins, completion-least}
 use Rattle.maximal.specs.Collected.{unsettled, first-open, operand-a, operand-b, first-named, second-named, inserted, collected, or-count, supports-of}
 use Rattle.maximal.specs.Collected.Search.{open-at, collected-ind, collected-incomparable, collected-length, collected-once}
-use Rattle.maximal.specs.Collected.Rows.{tally-falls, unsettled-e, unsettled-less, unsettled-either, joined, fulfilled-true, fulfils, as-named, open-row, named-rows}
+use Rattle.maximal.specs.Collected.Rows.{unsettled-e, unsettled-less, unsettled-either, joined, fulfilled-true, fulfils, as-named, open-row, named-rows}
 
 -- ---- leaves are supports, and minimal supports are reached and kept
 
@@ -104,8 +104,8 @@ module _ (P : List Row) (wf : Property P) (m : ℕ) (f : Bool) (o : ℕ) (in-row
   left-falls : (s c : ℕ) → first-open P s < n → (c ≡ operand-a P (first-open P s)) ⊎ (c ≡ operand-b P (first-open P s)) → c < n → left-of (bitOr s (completion P (2 ^ c))) < left-of s
   unfolding first-open
   left-falls s c h which l =
-      tally-falls (λ r. unsettled (row P r) u) (λ r. unsettled (row P r) s) n (first-open P s) h
-      (and-r (member s (first-open P s)) _ (least-hit (open-at P s) n h)) (not-T (unsettled (row P (first-open P s)) u) gone)
+      tally-more (λ r. unsettled (row P r) u) (λ r. unsettled (row P r) s) (first-open P s) n h (not-T (unsettled (row P (first-open P s)) u) gone)
+      (and-r (member s (first-open P s)) _ (least-hit (open-at P s) n h))
       (λ j k t. unsettled-less (row P j) s u (λ r m. subst T (sym (member-or s (completion P (2 ^ c)) r)) (or-l (member s r) _ m)) t)
     where
       u : ℕ

@@ -3,16 +3,13 @@ use mathlib.Core.Path.{_≡_, refl, sym, ap, subst, _∙_}
 use mathlib.Core.Logic.{_⊎_, inl, inr}
 use mathlib.Core.Bool.{Bool, true, false, not, cond, _||_}
 use mathlib.Core.List.{List}
-use Prim.Native.Nat.{ℕ, zero, suc, _^_, _≤_, _<_}
-use native.Mathlib.Nat.{eq-or-lt-of-le}
+use Prim.Native.Nat.{ℕ, _^_, _≤_, _<_}
 use native.Mathlib.Omega.{arith}
 use lib.Dec.{T, T-not, not-T, eqb, eqb→eq, ltb, ltb→lt}
 use lib.ListN.{length}
 use Rattle.files.specs.Basics.Least.{least-hit}
-use Rattle.files.specs.Basics.Tables.{tally}
-use Rattle.files.specs.Basics.Tests.{one, one-le, one-true, one-false, eq-eqb, not-not, not-and, and-l, and-r, and-i, and-e, or-e, or-l, or-r}
+use Rattle.files.specs.Basics.Tests.{one, one-le, eq-eqb, not-not, not-and, and-l, and-r, and-i, and-e, or-e, or-l, or-r}
 use Rattle.files.specs.Decode.{row-rec}
-use Rattle.files.specs.Decode.Properties.{tally-mono}
 use Rattle.files.specs.Property.{Row, always, never, returns, not-returns, in-method, not-in-method, both, either, box, row, names, Property, is-either}
 use Rattle.maximal.specs.Model.{fulfilled}
 use Rattle.maximal.specs.Masks.{member, joins, completion}
@@ -20,20 +17,6 @@ use Rattle.maximal.specs.Collected.{unsettled, first-open, operand-a, op
 use Rattle.maximal.specs.Collected.Search.{open-at}
 
 -- ---- rows, case by case
-
-one-less : (a b : Bool) → (T a → T b) → one a ≤ one b
-one-less true b f = omega (arith, one-true b (f tt))
-one-less false b f = omega arith
-
-pub tally-falls : (p q : ℕ → Bool) (n i : ℕ) → i < n → T (q i) → T (not (p i)) → ((j : ℕ) → j < n → T (p j) → T (q j)) → tally p n < tally q n
-tally-falls p q zero i h a b f = absurd (omega arith)
-tally-falls p q (suc n) i h a b f = go (eq-or-lt-of-le h) (λ l. tally-falls p q n i l a b (λ j k. f j (omega arith)))
-  where
-    go : (suc i ≡ suc n) ⊎ (suc i < suc n) → (i < n → tally p n < tally q n) → tally p (suc n) < tally q (suc n)
-    go (inl e) g =
-        let d : i ≡ n = omega (arith, e) in
-        omega (arith, one-true (q n) (subst (λ (j : ℕ). T (q j)) d a), one-false (p n) (subst (λ (j : ℕ). T (not (p j))) d b), tally-mono p q n (λ j l. one-less (p j) (q j) (f j (omega arith))))
-    go (inr l) g = omega (arith, one-less (p n) (q n) (f n (omega arith)), g (omega arith))
 
 -- an unsettled row is an "or", with neither operand in the set
 pub unsettled-e : (x : Row) (s : ℕ) → T (unsettled x s) → (a b : ℕ) × (x ≡ either a b) × T (not (member s a)) × T (not (member s b))

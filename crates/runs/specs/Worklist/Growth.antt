@@ -12,8 +12,8 @@ use lib.Bits.{bitOr, or-lt}
 use lib.Dec.{T, T-not, eqb, eqb→eq}
 use lib.ListN.{length, getD}
 use Rattle.files.specs.Basics.Lists.{span, span-i, span-e}
-use Rattle.files.specs.Basics.Tables.{tally}
-use Rattle.files.specs.Basics.Tests.{one, one-true, one-false, any, any-i, any-e, and-i, and-e, or-l, or-r, or-e, decide, same-test, eq-eqb}
+use Rattle.files.specs.Basics.Tables.{tally, tally-more}
+use Rattle.files.specs.Basics.Tests.{any, any-i, any-e, and-i, and-e, or-l, or-r, or-e, decide, same-test, eq-eqb}
 use Rattle.files.specs.Cells.{cell, put-cell}
 use Rattle.files.specs.Cells.Laws.{length-put-cell, byte-outside, cell-same, cell-apart, cell-other, cell-agree}
 use Rattle.files.specs.Graph.{Graph, size}
@@ -54,27 +54,6 @@ new-state x y hx hy f = go (decide (any (λ (q : ℕ). member y q && not (member
             on : T (member x q) ⊎ T (member y q) → T (member x q)
             on (inl u) = u
             on (inr u) = old q h (decide (member x q)) u
-
--- what passes still passes, and one number more does
-pub tally-more : (f h : ℕ → Bool) (i n : ℕ) → i < n → T (not (f i)) → T (h i) → ((j : ℕ) → j < n → T (f j) → T (h j)) → tally f n < tally h n
-tally-more f h i zero l a b up = absurd (omega arith)
-tally-more f h i (suc n) l a b up = go (ℕ-discrete i n) (λ m. tally-more f h i n m a b (λ j x. up j (omega arith)))
-  where
-    one-up : (a b : Bool) → (T a → T b) → one a ≤ one b
-    one-up true true f = omega arith
-    one-up true false f = absurd (f tt)
-    one-up false b f = omega arith
-
-    le : (m : ℕ) → m ≤ suc n → tally f m ≤ tally h m
-    le zero k = omega arith
-    le (suc m) k = omega (arith, one-up (f m) (h m) (up m (omega arith)), le m (omega arith))
-
-    go : Dec (i ≡ n) → (i < n → tally f n < tally h n) → one (f n) + tally f n < one (h n) + tally h n
-    go (yes e) r =
-        let x : one (h n) ≡ 1 = ap (λ (m : ℕ). one (h m)) (sym e) ∙ one-true (h i) b in
-        let y : one (f n) ≡ 0 = ap (λ (m : ℕ). one (f m)) (sym e) ∙ one-false (f i) a in
-        omega (arith, x, y, le n (omega arith))
-    go (no e) r = omega (arith, one-up (f n) (h n) (up n (omega arith)), r (omega arith))
 
 -- (over plain numbers, since the tallies are long)
 lt-le : (a b c : ℕ) → a ≤ b → b < c → a < c

@@ -1,21 +1,16 @@
-use mathlib.Core.Path.{_≡_, refl, sym, ap, subst, _∙_}
-use mathlib.Core.Logic.{inl, inr}
-use mathlib.Core.Bool.{not}
-use Prim.Native.Nat.{ℕ, _+_, _*_, _-_, _≤_, _<_}
+use mathlib.Core.Path.{_≡_, refl, _∙_}
+use Prim.Native.Nat.{ℕ, _-_, _<_}
 use native.Mathlib.Omega.{arith}
 use lib.Dec.{T}
-use lib.ListN.{length, getD}
+use lib.ListN.{length}
 use borrow.Author.Needs.{needs}
 use Rattle.files.specs.Decode.{decode-graph}
-use Rattle.judging.specs.Refinement.{rel, held, load, edge, labelled-into, In, Within, Handed, Sifted, Shrank, LabelMatched, Matching}
-use Rattle.judging.specs.Refinement.Handing.{handed-none, handed-on, handed-over, sifted-none, sifted-on, sifted-over, sifted-absent, sifted-unmet, sifted-met, shrank-none, shrank-on}
+use Rattle.judging.specs.Refinement.{rel, edge, labelled-into, In, Shrank}
+use Rattle.judging.specs.Refinement.Handing.{shrank-none}
 use Rattle.judging.proofs.LevelLaws.{Walk}
-use Rattle.judging.proofs.MatchLaws.{byte-kept, byte-blank, slot-start, slot-item, slot-less, source-added, all-added, source-dropped, all-dropped, lost-added, not-lost, found-all, found-lost, may-drop, label-done, label-empty, labels-kept, contained, taken, matching-start, matching-more, matching-still, load-down, load-less, may-take, settled-all}
-use borrow.Author.Needs.{needs}
+use Rattle.judging.proofs.MatchLaws.{slot-start, slot-item, slot-less, source-dropped, all-dropped, taken}
 use Rattle.judging.proofs.matches.drop_from.Statement.{statement}
 use Rattle.judging.proofs.matches.drop_from.Tie as tie
-use Rattle.judging.proofs.matches.drop_from.Reads as reads
-use Rattle.judging.proofs.matches.drop_from.Lts as lts
 use Rattle.files.proofs.cells.get16.Reads as get16-reads
 use Rattle.judging.proofs.matches.source_of.Reads as source-of-reads
 use Rattle.judging.proofs.rows.drop_row.Reads as drop-row-reads

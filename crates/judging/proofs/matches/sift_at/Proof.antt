@@ -1,20 +1,12 @@
-use mathlib.Core.Path.{_≡_, refl, sym, ap, subst, _∙_}
-use mathlib.Core.Logic.{inl, inr}
+use mathlib.Core.Path.{refl, sym, subst, _∙_}
 use mathlib.Core.Bool.{not}
-use Prim.Native.Nat.{ℕ, _+_, _*_, _-_, _≤_, _<_}
+use Prim.Native.Nat.{_-_}
 use native.Mathlib.Omega.{arith}
 use lib.Dec.{T}
-use lib.ListN.{length, getD}
-use Rattle.files.specs.Decode.{decode-graph}
-use Rattle.judging.specs.Refinement.{rel, held, load, edge, labelled-into, In, Within, Handed, Sifted, Shrank, LabelMatched, Matching}
-use Rattle.judging.specs.Refinement.Handing.{handed-none, handed-on, handed-over, sifted-none, sifted-on, sifted-over, sifted-absent, sifted-unmet, sifted-met, shrank-none, shrank-on}
-use Rattle.judging.proofs.LevelLaws.{Walk}
-use Rattle.judging.proofs.MatchLaws.{byte-kept, byte-blank, slot-start, slot-item, slot-less, source-added, all-added, source-dropped, all-dropped, lost-added, not-lost, found-all, found-lost, may-drop, label-done, label-empty, labels-kept, contained, taken, matching-start, matching-more, matching-still, load-down, load-less, may-take, settled-all}
-use borrow.Author.Needs.{needs}
+use Rattle.judging.specs.Refinement.Handing.{sifted-absent, sifted-unmet, sifted-met}
+use Rattle.judging.proofs.MatchLaws.{taken}
 use Rattle.judging.proofs.matches.sift_at.Statement.{statement}
 use Rattle.judging.proofs.matches.sift_at.Tie as tie
-use Rattle.judging.proofs.matches.sift_at.Reads as reads
-use Rattle.judging.proofs.matches.sift_at.Lts as lts
 use Rattle.files.proofs.cells.drop_bit.Reads as drop-bit-reads
 use Rattle.files.proofs.cells.has_bit.Reads as has-bit-reads
 use Rattle.judging.proofs.rows.meets.Reads as meets-reads

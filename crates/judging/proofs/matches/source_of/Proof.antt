@@ -1,16 +1,12 @@
-use mathlib.Core.Path.{_≡_, refl, sym, ap, _∙_}
-use native.Mathlib.Omega.{arith}
+use mathlib.Core.Path.{ap}
 use Rattle.files.specs.Decode.{decode-graph}
-use Rattle.files.specs.Graph.{node, no-edge}
+use Rattle.files.specs.Graph.{no-edge}
 use lib.ListN.{getD}
 use Rattle.files.specs.declared.graph.GraphEdge.{GraphEdge}
-use Rattle.files.specs.declared.graph.GraphNode.{GraphNode}
-use Rattle.judging.proofs.HeldLaws.{held-edge, held-node}
+use Rattle.judging.proofs.HeldLaws.{held-edge}
 use borrow.Author.Needs.{needs}
 use Rattle.judging.proofs.matches.source_of.Statement.{statement}
 use Rattle.judging.proofs.matches.source_of.Tie as tie
-use Rattle.judging.proofs.matches.source_of.Reads as reads
-use Rattle.judging.proofs.matches.source_of.Lts as lts
 use Rattle.files.proofs.graph.edge_at.Reads as edge-at-reads
 
 -- src/matches.rt:32:25

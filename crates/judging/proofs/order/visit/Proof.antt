@@ -1,20 +1,9 @@
-use mathlib.Core.Path.{_≡_, refl, sym, ap, subst, _∙_}
-use Prim.Native.Nat.{ℕ, _+_, _*_, _-_, _≤_, _<_}
+use Prim.Native.Nat.{_-_}
 use native.Mathlib.Omega.{arith}
-use lib.ListN.{length, getD}
-use Rattle.files.specs.Decode.{decode-graph}
-use Rattle.files.specs.declared.graph.GraphEdge.{GraphEdge}
-use Rattle.judging.specs.Chains.{Outside}
-use Rattle.judging.specs.Refinement.{edge}
-use Rattle.judging.specs.Refinement.Files.{first-edge-in}
-use Rattle.judging.proofs.HeldLaws.{held-edge}
-use Rattle.judging.proofs.OrderLaws.{outside-on, byte-put, pair-put, bit-put, none-reaches}
-use Rattle.judging.proofs.RelationLaws.{slot-is}
+use Rattle.judging.proofs.OrderLaws.{outside-on, byte-put, bit-put}
 use borrow.Author.Needs.{needs}
 use Rattle.judging.proofs.order.visit.Statement.{statement}
 use Rattle.judging.proofs.order.visit.Tie as tie
-use Rattle.judging.proofs.order.visit.Reads as reads
-use Rattle.judging.proofs.order.visit.Lts as lts
 use Rattle.files.proofs.cells.has_bit.Reads as has-bit-reads
 use Rattle.files.proofs.cells.put8.Reads as put8-reads
 use Rattle.files.proofs.cells.put_bit.Reads as put-bit-reads

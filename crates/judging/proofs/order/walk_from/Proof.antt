@@ -1,20 +1,11 @@
-use mathlib.Core.Path.{_≡_, refl, sym, ap, subst, _∙_}
-use Prim.Native.Nat.{ℕ, _+_, _*_, _-_, _≤_, _<_}
+use mathlib.Core.Path.{_≡_, refl, _∙_}
+use Prim.Native.Nat.{_-_, _<_}
 use native.Mathlib.Omega.{arith}
-use lib.ListN.{length, getD}
-use borrow.Author.Needs.{needs}
-use Rattle.files.specs.Decode.{decode-graph}
-use Rattle.files.specs.declared.graph.GraphEdge.{GraphEdge}
+use lib.ListN.{length}
 use Rattle.judging.specs.Chains.{Outside}
-use Rattle.judging.specs.Refinement.{edge}
-use Rattle.judging.specs.Refinement.Files.{first-edge-in}
-use Rattle.judging.proofs.HeldLaws.{held-edge}
-use Rattle.judging.proofs.OrderLaws.{outside-on, byte-put, pair-put, bit-put}
-use Rattle.judging.proofs.RelationLaws.{slot-is}
+use Rattle.judging.proofs.OrderLaws.{outside-on}
 use Rattle.judging.proofs.order.walk_from.Statement.{statement}
 use Rattle.judging.proofs.order.walk_from.Tie as tie
-use Rattle.judging.proofs.order.walk_from.Reads as reads
-use Rattle.judging.proofs.order.walk_from.Lts as lts
 use Rattle.judging.proofs.order.step.Reads as step-reads
 
 abbrev Inv-loop : tie.InvT-loop

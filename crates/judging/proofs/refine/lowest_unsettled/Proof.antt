@@ -1,20 +1,13 @@
-use mathlib.Core.Path.{_≡_, refl, sym, ap, subst, _∙_}
-use mathlib.Core.Logic.{inl, inr}
+use mathlib.Core.Path.{sym, subst}
 use mathlib.Core.Bool.{not}
-use Prim.Native.Nat.{ℕ, _+_, _*_, _-_, _≤_, _<_}
+use Prim.Native.Nat.{ℕ, _-_, _≤_, _<_}
 use native.Mathlib.Omega.{arith}
 use lib.Dec.{T}
-use lib.ListN.{length, getD}
-use borrow.Author.Needs.{needs}
-use Rattle.files.specs.Decode.{decode-graph}
-use Rattle.judging.specs.Refinement.{rel, held, load, edge, labelled-into, In, Within, Handed, Sifted, Shrank, LabelMatched, Matching}
-use Rattle.judging.specs.Refinement.Handing.{handed-none, handed-on, handed-over, sifted-none, sifted-on, sifted-over, sifted-absent, sifted-unmet, sifted-met, shrank-none, shrank-on}
-use Rattle.judging.proofs.LevelLaws.{Walk, below-more}
-use Rattle.judging.proofs.MatchLaws.{byte-kept, byte-blank, slot-start, slot-item, slot-less, source-added, all-added, source-dropped, all-dropped, lost-added, not-lost, found-all, found-lost, may-drop, label-done, label-empty, labels-kept, contained, taken, matching-start, matching-more, matching-still, load-down, load-less, may-take, settled-all, held-still, none-within}
+use Rattle.judging.specs.Refinement.{rel, held}
+use Rattle.judging.proofs.LevelLaws.{below-more}
+use Rattle.judging.proofs.MatchLaws.{taken}
 use Rattle.judging.proofs.refine.lowest_unsettled.Statement.{statement}
 use Rattle.judging.proofs.refine.lowest_unsettled.Tie as tie
-use Rattle.judging.proofs.refine.lowest_unsettled.Reads as reads
-use Rattle.judging.proofs.refine.lowest_unsettled.Lts as lts
 use Rattle.judging.proofs.refine.has_lost.Reads as has-lost-reads
 
 abbrev Inv-loop : tie.InvT-loop

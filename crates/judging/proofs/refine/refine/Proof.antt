@@ -1,21 +1,8 @@
-use mathlib.Core.Path.{_≡_, refl, sym, ap, subst, _∙_}
-use mathlib.Core.Logic.{inl, inr}
-use mathlib.Core.Bool.{not}
-use Prim.Native.Nat.{ℕ, _+_, _*_, _-_, _≤_, _<_}
-use native.Mathlib.Omega.{arith}
-use lib.Dec.{T}
-use lib.ListN.{length, getD}
-use Rattle.files.specs.Decode.{decode-graph}
-use Rattle.judging.specs.Refinement.{rel, held, load, edge, labelled-into, In, Within, Handed, Sifted, Shrank, LabelMatched, Matching}
-use Rattle.judging.specs.Refinement.Handing.{handed-none, handed-on, handed-over, sifted-none, sifted-on, sifted-over, sifted-absent, sifted-unmet, sifted-met, shrank-none, shrank-on}
-use Rattle.judging.proofs.LevelLaws.{Walk}
-use Rattle.judging.proofs.MatchLaws.{byte-kept, byte-blank, slot-start, slot-item, slot-less, source-added, all-added, source-dropped, all-dropped, lost-added, not-lost, found-all, found-lost, may-drop, label-done, label-empty, labels-kept, contained, taken, matching-start, matching-more, matching-still, load-down, load-less, may-take, settled-all, held-still, none-within, ordered}
-use native.Mathlib.Nat.{le-refl, le-trans}
+use Prim.Native.Nat.{_-_}
+use Rattle.judging.proofs.MatchLaws.{ordered}
 use borrow.Author.Needs.{needs}
 use Rattle.judging.proofs.refine.refine.Statement.{statement}
 use Rattle.judging.proofs.refine.refine.Tie as tie
-use Rattle.judging.proofs.refine.refine.Reads as reads
-use Rattle.judging.proofs.refine.refine.Lts as lts
 use Rattle.judging.proofs.order.put_in_order.Reads as put-in-order-reads
 use Rattle.judging.proofs.refine.match_all.Reads as match-all-reads
 use Rattle.judging.proofs.refine.settle.Reads as settle-reads

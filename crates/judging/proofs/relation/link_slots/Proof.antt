@@ -1,22 +1,13 @@
-use mathlib.Core.Path.{_≡_, refl, sym, ap, subst, _∙_}
-use mathlib.Core.Bool.{_&&_}
-use Prim.Native.Nat.{ℕ, _+_, _*_, _-_, _≤_, _<_}
+use mathlib.Core.Path.{_≡_, refl, subst, _∙_}
+use Prim.Native.Nat.{_*_, _-_, _≤_}
 use native.Mathlib.Omega.{arith}
-use lib.Dec.{ltb}
-use lib.ListN.{length, getD}
-use borrow.Author.Needs.{needs}
+use lib.ListN.{length}
 use Rattle.files.specs.Decode.{decode-graph}
-use Rattle.files.specs.Graph.{node, no-edge}
 use Rattle.judging.specs.Chains.{Chained, Outside}
-use Rattle.judging.specs.Refinement.{rel, edge, KindRows, labelled-into}
-use Rattle.judging.specs.Refinement.Preparing.{Putting}
-use Rattle.judging.specs.Simulation.{alike}
-use Rattle.judging.proofs.HeldLaws.{held-edge, held-node}
-use Rattle.judging.proofs.RelationLaws.{kind-returns, kind-goes-on, kinds-start, kinds-turn, related-turn, slot-is, slots-start, may-slot, slots-turn, edge-fits, edge-put, putting-start, putting-turn, putting-all}
+use Rattle.judging.specs.Refinement.{labelled-into}
+use Rattle.judging.proofs.RelationLaws.{slots-start, may-slot, slots-turn}
 use Rattle.judging.proofs.relation.link_slots.Statement.{statement}
 use Rattle.judging.proofs.relation.link_slots.Tie as tie
-use Rattle.judging.proofs.relation.link_slots.Reads as reads
-use Rattle.judging.proofs.relation.link_slots.Lts as lts
 use Rattle.judging.proofs.chains.link.Reads as link-reads
 use Rattle.judging.proofs.relation.slot_of.Reads as slot-of-reads
 

@@ -1,16 +1,13 @@
-use mathlib.Core.Path.{_≡_, refl, sym, ap, subst, _∙_}
+use mathlib.Core.Path.{refl, _∙_}
 use mathlib.Core.Logic.{inr}
-use Prim.Native.Nat.{ℕ, _+_, _*_, _-_, _≤_, _<_}
+use Prim.Native.Nat.{_+_, _*_, _-_}
 use native.Mathlib.Omega.{arith}
-use lib.ListN.{length, getD}
 use borrow.Rule.Slice.PartMut.{putMid}
 use Rattle.judging.proofs.ClearedLaws.{cleared-length, cleared-inside}
 use Rattle.judging.proofs.RelationLaws.{kinds-stay, prepared}
 use borrow.Author.Needs.{needs}
 use Rattle.judging.proofs.relation.prepare.Statement.{statement}
 use Rattle.judging.proofs.relation.prepare.Tie as tie
-use Rattle.judging.proofs.relation.prepare.Reads as reads
-use Rattle.judging.proofs.relation.prepare.Lts as lts
 use Rattle.files.proofs.cells.clear.Reads as clear-reads
 use Rattle.judging.proofs.relation.link_slots.Reads as link-slots-reads
 use Rattle.judging.proofs.relation.put_edges.Reads as put-edges-reads

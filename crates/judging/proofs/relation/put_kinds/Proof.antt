@@ -1,22 +1,13 @@
-use mathlib.Core.Path.{_≡_, refl, sym, ap, subst, _∙_}
-use mathlib.Core.Bool.{_&&_}
-use Prim.Native.Nat.{ℕ, _+_, _*_, _-_, _≤_, _<_}
+use mathlib.Core.Path.{_≡_, refl, subst, _∙_}
+use Prim.Native.Nat.{ℕ, _-_, _≤_}
 use native.Mathlib.Omega.{arith}
-use lib.Dec.{ltb}
-use lib.ListN.{length, getD}
-use borrow.Author.Needs.{needs}
+use lib.ListN.{length}
 use Rattle.files.specs.Decode.{decode-graph}
-use Rattle.files.specs.Graph.{node, no-edge}
-use Rattle.judging.specs.Chains.{Chained, Outside}
-use Rattle.judging.specs.Refinement.{rel, edge, KindRows, labelled-into}
-use Rattle.judging.specs.Refinement.Preparing.{Putting}
-use Rattle.judging.specs.Simulation.{alike}
-use Rattle.judging.proofs.HeldLaws.{held-edge, held-node}
-use Rattle.judging.proofs.RelationLaws.{kind-returns, kind-goes-on, kinds-start, kinds-turn, related-turn, slot-is, slots-start, may-slot, slots-turn, edge-fits, edge-put, putting-start, putting-turn, putting-all}
+use Rattle.judging.specs.Chains.{Outside}
+use Rattle.judging.specs.Refinement.{KindRows}
+use Rattle.judging.proofs.RelationLaws.{kinds-start, kinds-turn}
 use Rattle.judging.proofs.relation.put_kinds.Statement.{statement}
 use Rattle.judging.proofs.relation.put_kinds.Tie as tie
-use Rattle.judging.proofs.relation.put_kinds.Reads as reads
-use Rattle.judging.proofs.relation.put_kinds.Lts as lts
 use Rattle.files.proofs.cells.put_bit.Reads as put-bit-reads
 use Rattle.judging.proofs.relation.kind_of.Reads as kind-of-reads
 

@@ -1,20 +1,15 @@
-use mathlib.Core.Path.{_≡_, refl, sym, ap, subst, _∙_}
+use mathlib.Core.Path.{_≡_, refl, sym, ap, _∙_}
 use mathlib.Core.Logic.{inr}
-use Prim.Native.Nat.{ℕ, _+_, _-_, _≤_, _<_}
+use Prim.Native.Nat.{ℕ, _+_, _-_, _≤_}
 use native.Mathlib.Omega.{arith}
 use native.Mathlib.Nat.{zero-add}
-use lib.Bits.{bitOr, bitAnd}
-use lib.Dec.{eqb→eq}
+use lib.Bits.{bitOr}
 use lib.ListN.{length, getD, set, length-set}
 use borrow.Author.Needs.{needs}
-use Rattle.judging.specs.Refinement.Rows.{Bytes, bytes-none, bytes-on, joined}
-use Rattle.judging.proofs.RowLaws.{added-bits, copied-bits, written-beside, stored-bits, dropped-bits, joined-more, meets-by, blank-bits, exceeds-by}
-use Rattle.judging.proofs.LevelLaws.{below-more}
-use borrow.Author.Needs.{needs}
+use Rattle.judging.specs.Refinement.Rows.{Bytes, bytes-none, bytes-on}
+use Rattle.judging.proofs.RowLaws.{added-bits}
 use Rattle.judging.proofs.rows.add_row.Statement.{statement}
 use Rattle.judging.proofs.rows.add_row.Tie as tie
-use Rattle.judging.proofs.rows.add_row.Reads as reads
-use Rattle.judging.proofs.rows.add_row.Lts as lts
 
 abbrev Inv-loop : tie.InvT-loop
 Inv-loop row₀ work at k₀ row k = (k ≤ 32) × (length row ≡ length row₀) × Bytes (λ j. bitOr (getD row₀ j 0) (getD work (at + j) 0)) row₀ 0 k row

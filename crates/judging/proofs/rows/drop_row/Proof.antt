@@ -1,20 +1,15 @@
-use mathlib.Core.Path.{_≡_, refl, sym, ap, subst, _∙_}
+use mathlib.Core.Path.{_≡_, refl, ap, _∙_}
 use mathlib.Core.Logic.{inr}
 use Prim.Native.Nat.{ℕ, _+_, _-_, _≤_, _<_}
 use native.Mathlib.Omega.{arith}
-use native.Mathlib.Nat.{zero-add}
-use lib.Bits.{bitOr, bitAnd}
-use lib.Dec.{eqb→eq}
-use lib.ListN.{length, getD, set, length-set}
+use lib.Bits.{bitAnd}
+use lib.ListN.{length, getD, length-set}
 use borrow.Author.Needs.{needs}
-use Rattle.judging.specs.Refinement.Rows.{Bytes, bytes-none, bytes-on, joined}
-use Rattle.judging.proofs.RowLaws.{added-bits, copied-bits, written-beside, stored-bits, dropped-bits, joined-more, meets-by, blank-bits, exceeds-by}
+use Rattle.judging.specs.Refinement.Rows.{Bytes, bytes-none, bytes-on}
+use Rattle.judging.proofs.RowLaws.{written-beside, dropped-bits}
 use Rattle.judging.proofs.LevelLaws.{below-more}
-use borrow.Author.Needs.{needs}
 use Rattle.judging.proofs.rows.drop_row.Statement.{statement}
 use Rattle.judging.proofs.rows.drop_row.Tie as tie
-use Rattle.judging.proofs.rows.drop_row.Reads as reads
-use Rattle.judging.proofs.rows.drop_row.Lts as lts
 use Rattle.judging.proofs.rows.without.Reads as without-reads
 
 abbrev Inv-loop : tie.InvT-loop

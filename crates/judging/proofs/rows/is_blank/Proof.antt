@@ -1,20 +1,13 @@
-use mathlib.Core.Path.{_≡_, refl, sym, ap, subst, _∙_}
-use mathlib.Core.Logic.{inr}
-use Prim.Native.Nat.{ℕ, _+_, _-_, _≤_, _<_}
+use mathlib.Core.Path.{_≡_, refl}
+use Prim.Native.Nat.{_-_, _≤_}
 use native.Mathlib.Omega.{arith}
-use native.Mathlib.Nat.{zero-add}
-use lib.Bits.{bitOr, bitAnd}
 use lib.Dec.{eqb→eq}
-use lib.ListN.{length, getD, set, length-set}
+use lib.ListN.{getD}
 use borrow.Author.Needs.{needs}
-use Rattle.judging.specs.Refinement.Rows.{Bytes, bytes-none, bytes-on, joined}
-use Rattle.judging.proofs.RowLaws.{added-bits, copied-bits, written-beside, stored-bits, dropped-bits, joined-more, meets-by, blank-bits, exceeds-by}
-use Rattle.judging.proofs.LevelLaws.{below-more}
-use borrow.Author.Needs.{needs}
+use Rattle.judging.specs.Refinement.Rows.{joined}
+use Rattle.judging.proofs.RowLaws.{joined-more, blank-bits}
 use Rattle.judging.proofs.rows.is_blank.Statement.{statement}
 use Rattle.judging.proofs.rows.is_blank.Tie as tie
-use Rattle.judging.proofs.rows.is_blank.Reads as reads
-use Rattle.judging.proofs.rows.is_blank.Lts as lts
 
 abbrev Inv-loop : tie.InvT-loop
 Inv-loop row any₀ k₀ any k = (k ≤ 32) × (any ≡ joined (λ j. getD row j 0) k)

@@ -1,20 +1,13 @@
-use mathlib.Core.Path.{_≡_, refl, sym, ap, subst, _∙_}
-use mathlib.Core.Logic.{inr}
-use Prim.Native.Nat.{ℕ, _+_, _-_, _≤_, _<_}
+use mathlib.Core.Path.{_≡_, refl}
+use Prim.Native.Nat.{_+_, _-_, _≤_}
 use native.Mathlib.Omega.{arith}
-use native.Mathlib.Nat.{zero-add}
-use lib.Bits.{bitOr, bitAnd}
-use lib.Dec.{eqb→eq}
-use lib.ListN.{length, getD, set, length-set}
+use lib.Bits.{bitAnd}
+use lib.ListN.{getD}
 use borrow.Author.Needs.{needs}
-use Rattle.judging.specs.Refinement.Rows.{Bytes, bytes-none, bytes-on, joined}
-use Rattle.judging.proofs.RowLaws.{added-bits, copied-bits, written-beside, stored-bits, dropped-bits, joined-more, meets-by, blank-bits, exceeds-by}
-use Rattle.judging.proofs.LevelLaws.{below-more}
-use borrow.Author.Needs.{needs}
+use Rattle.judging.specs.Refinement.Rows.{joined}
+use Rattle.judging.proofs.RowLaws.{joined-more, meets-by}
 use Rattle.judging.proofs.rows.meets.Statement.{statement}
 use Rattle.judging.proofs.rows.meets.Tie as tie
-use Rattle.judging.proofs.rows.meets.Reads as reads
-use Rattle.judging.proofs.rows.meets.Lts as lts
 use Rattle.files.proofs.cells.wide.Reads as wide-reads
 
 abbrev Inv-loop : tie.InvT-loop
