@@ -158,17 +158,8 @@ module _ (s : Sizes) (f g : List ℕ) (x : Both s f g) where
 
   -- ---- all together
 
-  -- w₁ is cleared from the kinds on, w₂ has kinds, w₃ slots, w₄ neighbours, and w₅ is related
-  module _ (w₁ w₂ w₃ w₄ w₅ : List ℕ) (zeros : (q : ℕ) → 16384 ≤ q → q < 30816 + 576 * s .nodes2 → getD w₁ q 0 ≡ 0) (o₂ : Outside 16384 16960 w₁ w₂) (o₃ : Outside 16960 29760 w₂ w₃) (o₄ : Outside 30816 178272 w₃ w₄) (o₅ : Outside 0 8192 w₄ w₅) where
-    pub blank-kinds : (q : ℕ) → 16384 ≤ q → q < 16960 → getD w₁ q 0 ≡ 0
-    blank-kinds q a b = zeros q a (omega arith)
-
-    pub blank-slots : (q : ℕ) → 16960 ≤ q → q < 21568 → getD w₂ q 0 ≡ 0
-    blank-slots q a b = o₂ q (inr a) ∙ zeros q (omega arith) (omega arith)
-
-    pub blank-neighbours : (q : ℕ) → 30816 ≤ q → q < 30816 + 576 * s .nodes2 → getD w₃ q 0 ≡ 0
-    blank-neighbours q a b = o₃ q (inr (omega arith)) ∙ o₂ q (inr (omega arith)) ∙ zeros q (omega arith) b
-
+  -- w₂ has kinds, w₃ slots, w₄ neighbours, and w₅ is related
+  module _ (w₂ w₃ w₄ w₅ : List ℕ) (o₃ : Outside 16960 29760 w₂ w₃) (o₄ : Outside 30816 178272 w₃ w₄) (o₅ : Outside 0 8192 w₄ w₅) where
     pub kinds-stay : KindRows H (s .nodes2) w₂ → KindRows H (s .nodes2) w₄
     kinds-stay rows k h a b = bit-byte w₄ w₂ (16384 + 32 * k) (16384 + 32 * k) h (o₄ (16384 + 32 * k + h / 8) (inl (omega arith)) ∙ o₃ (16384 + 32 * k + h / 8) (inl (omega arith))) ∙ rows k h a b
 

@@ -77,10 +77,6 @@ module _ (f : ℕ → ℕ) (any k x : ℕ) (is : any ≡ joined f k) (few : k �
           least : (y : ℕ) → (0 < y → ⊥) → y ≡ 0
           least y n = omega arith
 
--- where n is a byte and j a digit, the bit and back
-bit-of : (h : ℕ) → 8 * (h / 8) + h % 8 ≡ h
-bit-of h = omega arith
-
 -- two rows have a bit in common
 pub meets-by : (row w : List ℕ) (at any k x : ℕ) → any ≡ joined (λ j. bitAnd (getD row j 0) (getD w (at + j) 0)) k → k ≤ 32 → 32 ≤ k → x ≡ any → x < 256
     → (T (ltb 0 x) → (h : ℕ) × (h < 256) × T (has-bit row 0 h) × T (has-bit w at h)) × (T (not (ltb 0 x)) → (h : ℕ) → h < 256 → T (has-bit row 0 h) → T (has-bit w at h) → ⊥)

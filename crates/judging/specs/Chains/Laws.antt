@@ -67,14 +67,6 @@ chained-kept w w′ heads nexts p keys items a b h n o =
     (λ k l. cell-agree w′ w heads 2 k (λ q x y. o q (inl (omega arith))))
     (λ j l. cell-agree w′ w nexts 2 j (λ q x y. o q (inl (omega arith))))
 
--- and so does what is written before them
-pub chained-past : (w w′ : List ℕ) (heads nexts : ℕ) (p : ℕ → ℕ → Bool) (keys items a b : ℕ) → b ≤ heads → b ≤ nexts → Outside a b w w′
-    → Chained w heads nexts p keys items → Chained w′ heads nexts p keys items
-chained-past w w′ heads nexts p keys items a b h n o =
-    chained-same w w′ heads nexts p keys items
-    (λ k l. cell-agree w′ w heads 2 k (λ q x y. o q (inr (omega arith))))
-    (λ j l. cell-agree w′ w nexts 2 j (λ q x y. o q (inr (omega arith))))
-
 -- ---- one item, stored
 
 pub linked-is : (w : List ℕ) (heads nexts key item : ℕ) → linked w heads nexts key item ≡ put-cell (put-cell w nexts 2 item (cell w heads 2 key)) heads 2 key (suc item)

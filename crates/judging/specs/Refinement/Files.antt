@@ -45,9 +45,6 @@ module _ (s : Sizes) (f g : List ℕ) (x : Both s f g) where
   pub first-edges-fit : length (G .edges) ≤ 4096
   first-edges-fit = omega (arith, first-edges, x .few-first-edges)
 
-  pub second-edges-fit : length (H .edges) ≤ 4096
-  second-edges-fit = omega (arith, second-edges, x .few-second-edges)
-
   -- an edge of the first graph leads from node to node, and its label has a row of bits
   pub first-edge-in : (e : ℕ) → e < s .edges → ((edge G e) .from < s .nodes) × ((edge G e) .to < s .nodes) × ((edge G e) .label < 9)
   first-edge-in e h =

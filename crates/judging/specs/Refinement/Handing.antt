@@ -6,7 +6,7 @@ use mathlib.Core.List.{List}
 use Prim.Native.Nat.{ℕ, _+_, _*_, _/_, _≤_, _<_}
 use native.Mathlib.Decide.{ℕ-discrete, decLt}
 use native.Mathlib.Omega.{arith}
-use lib.Dec.{T, T-not, eqb, eqb→eq}
+use lib.Dec.{T, T-not}
 use lib.ListN.{length, getD}
 use Rattle.files.specs.Basics.Lists.{index-i, index-e}
 use Rattle.files.specs.Basics.Tests.{and-l, and-r, or-e, or-l, or-r, eq-eqb}
@@ -220,9 +220,6 @@ module _ (G H : Graph) (fl : Flow G) (fk : Flow H) (fg : size G ≤ 256) (fh : s
   -- ---- which nodes may be dropped, and what is matched then
 
   module _ (w : List ℕ) (x : Refining G H w) (v l : ℕ) (hl : l < 9) (r : List ℕ) (cont : Contained G H v r) where
-    slot-e : (e : ℕ) → e < length (G .edges) → T (labelled-into G (9 * v + l) e) → ((edge G e) .label ≤ 8) → ((edge G e) .to ≡ v) × ((edge G e) .label ≡ l)
-    slot-e e he t low = let d = eqb→eq (9 * (edge G e) .to + (edge G e) .label) (9 * v + l) t in (omega arith, omega arith)
-
     -- a node of which no edge leads into the row is not related to where an edge with the label comes from that leads to v
     pub unmet-apart : (e h : ℕ) → e < length (G .edges) → (edge G e) .to ≡ v → (edge G e) .label ≡ l → (Meets w l r h → ⊥) → T (related G H ((edge G e) .from) h) → ⊥
     unmet-apart e h he to-is label-is n t =

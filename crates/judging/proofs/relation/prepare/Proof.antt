@@ -1,10 +1,9 @@
 use mathlib.Core.Path.{refl, _∙_}
-use mathlib.Core.Logic.{inr}
 use Prim.Native.Nat.{_+_, _*_, _-_}
-use native.Mathlib.Omega.{arith}
-use borrow.Rule.Slice.PartMut.{putMid}
-use Rattle.judging.proofs.ClearedLaws.{cleared-length, cleared-inside}
 use Rattle.judging.proofs.RelationLaws.{kinds-stay, prepared}
+use mathlib.Core.Logic.{inr}
+use native.Mathlib.Omega.{arith}
+use Rattle.judging.proofs.ClearedLaws.{cleared-length, cleared-inside}
 use borrow.Author.Needs.{needs}
 use Rattle.judging.proofs.relation.prepare.Statement.{statement}
 use Rattle.judging.proofs.relation.prepare.Tie as tie
@@ -56,7 +55,7 @@ put-edges-requires c κs = (c .before .before .before .before .before .before .b
 
 -- src/relation.rt:127:5
 relate-requires : tie.Need-relate-requires
-relate-requires c κs = (c .before .before .before .before .before .before .before .before .before .before .before .before .before .before .before .before .before .before .before .before .before .pre .0, (omega (arith, c .before .before .before .put-edges .kept .1 .1 .1 .0, c .before .before .before .before .before .before .before .link-slots .kept .1 .1 .1 .0, c .before .before .before .before .before .before .before .before .before .before .before .put-kinds .kept .1 .1 .1 .0, (cleared-length 16384 (30816 + 9 * 64 * c .before .before .before .before .before .before .before .before .before .before .before .before .before .before .before .before .before .before .before .before .before .args .s .nodes2 - 16384) (c .before .before .before .before .before .before .before .before .before .before .before .before .before .before .before .before .before .before .before .before .before .args .work .now) (c .before .before .before .before .before .before .before .before .before .before .before .before .before .before .before .clear .last .0) (c .before .before .before .before .before .before .before .before .before .before .before .before .before .before .before .clear .ensures)), c .before .before .before .before .before .before .before .before .before .before .before .before .before .before .before .before .before .before .before .before .before .pre .1), kinds-stay (c .before .before .before .before .before .before .before .before .before .before .before .before .before .before .before .before .before .before .before .before .before .args .s) (c .before .before .before .before .before .before .before .before .before .before .before .before .before .before .before .before .before .before .before .before .before .args .first .now) (c .before .before .before .before .before .before .before .before .before .before .before .before .before .before .before .before .before .before .before .before .before .args .second .now) (c .before .before .before .before .before .before .before .before .before .before .before .before .before .before .before .before .before .before .before .before .before .pre .0) (putMid 16384 (30816 + 9 * 64 * c .before .before .before .before .before .before .before .before .before .before .before .before .before .before .before .before .before .before .before .before .before .args .s .nodes2 - 16384) (c .before .before .before .before .before .before .before .before .before .before .before .before .before .before .before .before .before .before .before .before .before .args .work .now) (c .before .before .before .before .before .before .before .before .before .before .before .before .before .before .before .clear .last .0)) (c .before .before .before .before .before .before .before .before .before .before .before .put-kinds .last .1 .1 .1 .0) (c .before .before .before .before .before .before .before .link-slots .last .1 .1 .1 .0) (c .before .before .before .put-edges .last .1 .1 .1 .0) (c .before .before .before .put-edges .last .1 .1 .1 .0) (λ q a b. cleared-inside 16384 (30816 + 9 * 64 * c .before .before .before .before .before .before .before .before .before .before .before .before .before .before .before .before .before .before .before .before .before .args .s .nodes2 - 16384) (c .before .before .before .before .before .before .before .before .before .before .before .before .before .before .before .before .before .before .before .before .before .args .work .now) (c .before .before .before .before .before .before .before .before .before .before .before .before .before .before .before .clear .last .0) (c .before .before .before .before .before .before .before .before .before .before .before .before .before .before .before .clear .ensures) (omega (arith, c .before .before .before .before .before .before .before .before .before .before .before .before .before .before .before .before .before .before .before .before .before .pre .1, c .before .before .before .before .before .before .before .before .before .before .before .before .before .before .before .before .before .before .before .before .before .pre .0 .few-second-nodes)) q a (omega (arith, b))) (c .before .before .before .before .before .before .before .before .before .before .before .put-kinds .ensures .1) (c .before .before .before .before .before .before .before .link-slots .ensures .1) (c .before .before .before .put-edges .ensures .1) (λ q d. refl) (c .before .before .before .before .before .before .before .before .before .before .before .put-kinds .ensures .0)))
+relate-requires c κs = (c .before .before .before .before .before .before .before .before .before .before .before .before .before .before .before .before .before .before .before .before .before .pre .0, (omega (arith, c .before .before .before .put-edges .kept .1 .1 .1 .0, c .before .before .before .before .before .before .before .link-slots .kept .1 .1 .1 .0, c .before .before .before .before .before .before .before .before .before .before .before .put-kinds .kept .1 .1 .1 .0, (cleared-length 16384 (30816 + 9 * 64 * c .before .before .before .before .before .before .before .before .before .before .before .before .before .before .before .before .before .before .before .before .before .args .s .nodes2 - 16384) (c .before .before .before .before .before .before .before .before .before .before .before .before .before .before .before .before .before .before .before .before .before .args .work .now) (c .before .before .before .before .before .before .before .before .before .before .before .before .before .before .before .clear .last .0) (c .before .before .before .before .before .before .before .before .before .before .before .before .before .before .before .clear .ensures)), c .before .before .before .before .before .before .before .before .before .before .before .before .before .before .before .before .before .before .before .before .before .pre .1), kinds-stay (c .before .before .before .before .before .before .before .before .before .before .before .before .before .before .before .before .before .before .before .before .before .args .s) (c .before .before .before .before .before .before .before .before .before .before .before .before .before .before .before .before .before .before .before .before .before .args .first .now) (c .before .before .before .before .before .before .before .before .before .before .before .before .before .before .before .before .before .before .before .before .before .args .second .now) (c .before .before .before .before .before .before .before .before .before .before .before .before .before .before .before .before .before .before .before .before .before .pre .0) (c .before .before .before .before .before .before .before .before .before .before .before .put-kinds .last .1 .1 .1 .0) (c .before .before .before .before .before .before .before .link-slots .last .1 .1 .1 .0) (c .before .before .before .put-edges .last .1 .1 .1 .0) (c .before .before .before .put-edges .last .1 .1 .1 .0) (c .before .before .before .before .before .before .before .link-slots .ensures .1) (c .before .before .before .put-edges .ensures .1) (λ q d. refl) (c .before .before .before .before .before .before .before .before .before .before .before .put-kinds .ensures .0)))
 
 -- src/relation.rt:119:1
 same-length : tie.Need-same-length
@@ -64,7 +63,7 @@ same-length c = c .before .before .relate .kept .1 .1 .1 .0 ∙ c .before .befor
 
 -- src/relation.rt:119:1
 returns : tie.Need-returns
-returns c = prepared (c .before .before .before .before .before .before .before .before .before .before .before .before .before .before .before .before .before .before .before .before .before .before .before .before .args .s) (c .before .before .before .before .before .before .before .before .before .before .before .before .before .before .before .before .before .before .before .before .before .before .before .before .args .first .now) (c .before .before .before .before .before .before .before .before .before .before .before .before .before .before .before .before .before .before .before .before .before .before .before .before .args .second .now) (c .before .before .before .before .before .before .before .before .before .before .before .before .before .before .before .before .before .before .before .before .before .before .before .before .pre .0) (putMid 16384 (30816 + 9 * 64 * c .before .before .before .before .before .before .before .before .before .before .before .before .before .before .before .before .before .before .before .before .before .before .before .before .args .s .nodes2 - 16384) (c .before .before .before .before .before .before .before .before .before .before .before .before .before .before .before .before .before .before .before .before .before .before .before .before .args .work .now) (c .before .before .before .before .before .before .before .before .before .before .before .before .before .before .before .before .before .before .clear .last .0)) (c .before .before .before .before .before .before .before .before .before .before .before .before .before .before .put-kinds .last .1 .1 .1 .0) (c .before .before .before .before .before .before .before .before .before .before .link-slots .last .1 .1 .1 .0) (c .before .before .before .before .before .before .put-edges .last .1 .1 .1 .0) (c .before .before .relate .last .1 .1 .1 .0) (λ q a b. cleared-inside 16384 (30816 + 9 * 64 * c .before .before .before .before .before .before .before .before .before .before .before .before .before .before .before .before .before .before .before .before .before .before .before .before .args .s .nodes2 - 16384) (c .before .before .before .before .before .before .before .before .before .before .before .before .before .before .before .before .before .before .before .before .before .before .before .before .args .work .now) (c .before .before .before .before .before .before .before .before .before .before .before .before .before .before .before .before .before .before .clear .last .0) (c .before .before .before .before .before .before .before .before .before .before .before .before .before .before .before .before .before .before .clear .ensures) (omega (arith, c .before .before .before .before .before .before .before .before .before .before .before .before .before .before .before .before .before .before .before .before .before .before .before .before .pre .1, c .before .before .before .before .before .before .before .before .before .before .before .before .before .before .before .before .before .before .before .before .before .before .before .before .pre .0 .few-second-nodes)) q a (omega (arith, b))) (c .before .before .before .before .before .before .before .before .before .before .before .before .before .before .put-kinds .ensures .1) (c .before .before .before .before .before .before .before .before .before .before .link-slots .ensures .1) (c .before .before .before .before .before .before .put-edges .ensures .1) (c .before .before .relate .ensures .1) (omega (arith, c .before .before .relate .kept .1 .1 .1 .0, c .before .before .before .before .before .before .put-edges .kept .1 .1 .1 .0, c .before .before .before .before .before .before .before .before .before .before .link-slots .kept .1 .1 .1 .0, c .before .before .before .before .before .before .before .before .before .before .before .before .before .before .put-kinds .kept .1 .1 .1 .0, (cleared-length 16384 (30816 + 9 * 64 * c .before .before .before .before .before .before .before .before .before .before .before .before .before .before .before .before .before .before .before .before .before .before .before .before .args .s .nodes2 - 16384) (c .before .before .before .before .before .before .before .before .before .before .before .before .before .before .before .before .before .before .before .before .before .before .before .before .args .work .now) (c .before .before .before .before .before .before .before .before .before .before .before .before .before .before .before .before .before .before .clear .last .0) (c .before .before .before .before .before .before .before .before .before .before .before .before .before .before .before .before .before .before .clear .ensures)), c .before .before .before .before .before .before .before .before .before .before .before .before .before .before .before .before .before .before .before .before .before .before .before .before .pre .1)) (c .before .before .before .before .before .before .before .before .before .before .link-slots .ensures .0) (c .before .before .before .before .before .before .put-edges .ensures .0) (c .before .before .relate .ensures .0)
+returns c = prepared (c .before .before .before .before .before .before .before .before .before .before .before .before .before .before .before .before .before .before .before .before .before .before .before .before .args .s) (c .before .before .before .before .before .before .before .before .before .before .before .before .before .before .before .before .before .before .before .before .before .before .before .before .args .first .now) (c .before .before .before .before .before .before .before .before .before .before .before .before .before .before .before .before .before .before .before .before .before .before .before .before .args .second .now) (c .before .before .before .before .before .before .before .before .before .before .before .before .before .before .before .before .before .before .before .before .before .before .before .before .pre .0) (c .before .before .before .before .before .before .before .before .before .before .before .before .before .before .put-kinds .last .1 .1 .1 .0) (c .before .before .before .before .before .before .before .before .before .before .link-slots .last .1 .1 .1 .0) (c .before .before .before .before .before .before .put-edges .last .1 .1 .1 .0) (c .before .before .relate .last .1 .1 .1 .0) (c .before .before .before .before .before .before .before .before .before .before .link-slots .ensures .1) (c .before .before .before .before .before .before .put-edges .ensures .1) (c .before .before .relate .ensures .1) (omega (arith, c .before .before .relate .kept .1 .1 .1 .0, c .before .before .before .before .before .before .put-edges .kept .1 .1 .1 .0, c .before .before .before .before .before .before .before .before .before .before .link-slots .kept .1 .1 .1 .0, c .before .before .before .before .before .before .before .before .before .before .before .before .before .before .put-kinds .kept .1 .1 .1 .0, (cleared-length 16384 (30816 + 9 * 64 * c .before .before .before .before .before .before .before .before .before .before .before .before .before .before .before .before .before .before .before .before .before .before .before .before .args .s .nodes2 - 16384) (c .before .before .before .before .before .before .before .before .before .before .before .before .before .before .before .before .before .before .before .before .before .before .before .before .args .work .now) (c .before .before .before .before .before .before .before .before .before .before .before .before .before .before .before .before .before .before .clear .last .0) (c .before .before .before .before .before .before .before .before .before .before .before .before .before .before .before .before .before .before .clear .ensures)), c .before .before .before .before .before .before .before .before .before .before .before .before .before .before .before .before .before .before .before .before .before .before .before .before .pre .1)) (c .before .before .before .before .before .before .before .before .before .before .link-slots .ensures .0) (c .before .before .before .before .before .before .put-edges .ensures .0) (c .before .before .relate .ensures .0)
 
 pub prepare-spec : {M : Type 1} → statement M
 prepare-spec =
