@@ -17,6 +17,7 @@ use Rattle.judging.specs.Chains.{Outside}
 use Rattle.judging.specs.Chains.Laws.{chained-same}
 use Rattle.judging.specs.Refinement.{rel, held, edge, comes, labelled-into, Reaches, Neighbours, In, Within, HeldInside, Handed, Meets, Sifted, Refining, Shrank, Contained, LabelMatched, NodeMatched, Candidates}
 use Rattle.judging.specs.Refinement.Preparing.{leads-into-i, leads-into-e}
+use Rattle.judging.specs.Refinement.Files.{from-in, to-in}
 use Rattle.judging.specs.Simulation.{related}
 use Rattle.judging.specs.Simulation.Laws.{related-e, related-simulation}
 
@@ -140,7 +141,7 @@ module _ (H : Graph) (fk : Flow H) (fh : size H ≤ 256) (w : List ℕ) (near : 
   pub reaches-meets : (h : ℕ) → h < size H → Reaches H (In r) h l → Meets w l r h
   reaches-meets h hh d =
       let y = (edge H (d .0)) .to in
-      let b : y < size H = fk .to-node (edge H (d .0)) (index-e no-edge (H .edges) (d .0) (d .1)) in
+      let b : y < size H = to-in H fk (d .0) (d .1) in
       (y, omega (arith, b), d .4, subst T (sym (near .successors h l y hh hl (omega (arith, b)))) (leads-into-i H y l h (d .0, d .1, d .2, d .3, refl)))
 
 -- ---- dropping
@@ -238,7 +239,7 @@ module _ (G H : Graph) (fl : Flow G) (fk : Flow H) (fg : size G ≤ 256) (fh : s
     pub label-matched : (c c′ w′ : List ℕ) → Candidates G H w v l r c → Sifted w l r c c′ 0 256 → Shrank G H w w′
         → ((e h : ℕ) → e < length (G .edges) → (edge G e) .to ≡ v → (edge G e) .label ≡ l → h < 256 → T (rel w′ ((edge G e) .from) h) → In c′ h → ⊥) → LabelMatched G H w′ v l r
     unfolding LabelMatched
-    label-matched c c′ w′ k s y none e h he to-is label-is b t = go (k .complete e h he to-is label-is b (y .rel-less ((edge G e) .from) h (fl .from-node (edge G e) (index-e no-edge (G .edges) e he)) b t))
+    label-matched c c′ w′ k s y none e h he to-is label-is b t = go (k .complete e h he to-is label-is b (y .rel-less ((edge G e) .from) h (from-in G fl e he) b t))
       where
         go : In c h ⊎ Reaches H (In r) h l → Reaches H (In r) h l
         go (inr d) = d
@@ -251,7 +252,7 @@ module _ (G H : Graph) (fl : Flow G) (fk : Flow H) (fg : size G ≤ 256) (fh : s
 
   pub label-kept : (w w′ : List ℕ) (v l : ℕ) (r : List ℕ) → Shrank G H w w′ → LabelMatched G H w v l r → LabelMatched G H w′ v l r
   unfolding LabelMatched
-  label-kept w w′ v l r y m e h he to-is label-is b t = m e h he to-is label-is b (y .rel-less ((edge G e) .from) h (fl .from-node (edge G e) (index-e no-edge (G .edges) e he)) b t)
+  label-kept w w′ v l r y m e h he to-is label-is b t = m e h he to-is label-is b (y .rel-less ((edge G e) .from) h (from-in G fl e he) b t)
 
   -- ---- candidates
 
@@ -274,19 +275,19 @@ module _ (G H : Graph) (fl : Flow G) (fk : Flow H) (fg : size G ≤ 256) (fh : s
           to : ℕ
           to = (edge H (d .0)) .to
 
-          to-in : to < size H
-          to-in = fk .to-node (edge H (d .0)) (index-e no-edge (H .edges) (d .0) (d .1))
+          low : to < size H
+          low = to-in H fk (d .0) (d .1)
 
           split : (p : Bool) → has-bit r 0 to ≡ p → In c′ h ⊎ Reaches H (In r) h l
           split true q = inr (d .0, d .1, d .2, d .3 ∙ label-is, subst T (sym q) tt)
           split false q =
-              inl (y .added to h (omega arith) (omega (arith, to-in)) b (d .4) (λ t. subst T q t)
-              (subst T (sym (x .neighbours .predecessors to l h to-in hl b)) (leads-into-i H to l h (d .0, d .1, d .2, d .3 ∙ label-is, refl))))
+              inl (y .added to h (omega arith) (omega (arith, low)) b (d .4) (λ t. subst T q t)
+              (subst T (sym (x .neighbours .predecessors to l h low hl b)) (leads-into-i H to l h (d .0, d .1, d .2, d .3 ∙ label-is, refl))))
 
   -- what v holds, and the matches by it, stay
   pub node-kept : (w w′ : List ℕ) (v : ℕ) → v < size G → Shrank G H w w′ → NodeMatched G H w v → NodeMatched G H w′ v
   unfolding NodeMatched
   node-kept w w′ v hv y m e h he to-is b t =
-      let d = m e h he to-is b (y .rel-less ((edge G e) .from) h (fl .from-node (edge G e) (index-e no-edge (G .edges) e he)) b t) in
-      let z = fk .to-node (edge H (d .0)) (index-e no-edge (H .edges) (d .0) (d .1)) in
+      let d = m e h he to-is b (y .rel-less ((edge G e) .from) h (from-in G fl e he) b t) in
+      let z = to-in H fk (d .0) (d .1) in
       (d .0, d .1, d .2, d .3, subst T (sym (y .held-kept v ((edge H (d .0)) .to) hv (omega (arith, z)))) (d .4))

@@ -18,6 +18,7 @@ use Rattle.files.specs.Graph.{Graph, Edge, size, node, no-edge, Flow}
 use Rattle.judging.specs.Chains.{Outside}
 use Rattle.judging.specs.Refinement.{rel, held, load, edge, Refining, Shrank, LabelMatched, NodeMatched, Took, Matching, Settled}
 use Rattle.judging.specs.Refinement.Handing.{looked-up-kept}
+use Rattle.judging.specs.Refinement.Files.{from-in, to-in}
 use Rattle.judging.specs.Simulation.{Simulation, related}
 use Rattle.judging.specs.Simulation.Laws.{alike-e, related-e, largest}
 
@@ -40,9 +41,9 @@ module _ (G H : Graph) (fl : Flow G) (fk : Flow H) (fg : size G ≤ 256) (fh : s
     matched : NodeMatched G H w₂ v
     unfolding NodeMatched LabelMatched
     matched e h he to-is b t =
-        let f = fl .from-node (edge G e) (index-e no-edge (G .edges) e he) in
+        let f = from-in G fl e he in
         let d = all ((edge G e) .label) (labels e he) e h he to-is refl b (subst T (rel-same ((edge G e) .from) h f b) t) in
-        let z = fk .to-node (edge H (d .0)) (index-e no-edge (H .edges) (d .0) (d .1)) in
+        let z = to-in H fk (d .0) (d .1) in
         (d .0, d .1, d .2, d .3, subst T (sym (now ((edge H (d .0)) .to) (omega (arith, z)))) (d .4))
 
     pub took : Took G H v w w₂
@@ -87,9 +88,9 @@ module _ (G H : Graph) (fl : Flow G) (fk : Flow H) (fg : size G ≤ 256) (fh : s
         where
           still : NodeMatched G H w u → NodeMatched G H w′ u
           still m e h he to-is b t =
-              let s = fl .from-node (edge G e) (index-e no-edge (G .edges) e he) in
+              let s = from-in G fl e he in
               let d = m e h he to-is b (y .rel-less ((edge G e) .from) h s b t) in
-              let z = fk .to-node (edge H (d .0)) (index-e no-edge (H .edges) (d .0) (d .1)) in
+              let z = to-in H fk (d .0) (d .1) in
               (d .0, d .1, d .2, d .3, subst T (sym (y .held-kept u ((edge H (d .0)) .to) hu (omega (arith, z)) f)) (d .4))
 
   pub matching-none : (w : List ℕ) → Refining G H w → Matching G H 0 w
@@ -148,7 +149,7 @@ module _ (G H : Graph) (fl : Flow G) (fk : Flow H) (fg : size G ≤ 256) (fh : s
               → (d : Edge) × List·Memᴰ d (H .edges) × (d .from ≡ v) × (d .label ≡ e .label) × Near (e .to) (d .to)
           answer u v y e p i =
               let f : (edge G (i .0)) .from ≡ u = ap (λ (y : Edge). y .from) (i .2) ∙ p in
-              let t = fl .to-node (edge G (i .0)) (index-e no-edge (G .edges) (i .0) (i .1)) in
+              let t = to-in G fl (i .0) (i .1) in
               let d = x .node-matched ((edge G (i .0)) .to) t (i .0) v (i .1) refl (y .1) (subst (λ (n : ℕ). T (rel w n v)) (sym f) (y .2)) in
               let k = index-e no-edge (H .edges) (d .0) (d .1) in
               let z : (edge H (d .0)) .to < 256 = omega (arith, fk .to-node (edge H (d .0)) k) in

@@ -19,7 +19,7 @@ use Rattle.files.specs.Refusal.{nodes-of}
 use Rattle.files.specs.declared.graph.GraphEdge.{GraphEdge}
 use Rattle.judging.specs.Refinement.{Both}
 use Rattle.judging.specs.Refinement.Files.{first-size, second-size, first-edges, second-edges}
-use Rattle.judging.specs.Refinement.Lost.{from-in, to-in}
+use Rattle.judging.specs.Refinement.Files.{from-in, to-in}
 use Rattle.judging.specs.Sheets.Walk.{put-next}
 use Rattle.judging.specs.declared.sizes.Sizes.{Sizes}
 use Rattle.runs.specs.Join.{join, moved}
