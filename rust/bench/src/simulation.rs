@@ -6,16 +6,27 @@ use generator::generate::Random;
 use generator::relations::{backward, band, circulant, forward, hubs, loops, shuffled};
 use std::io;
 
+const ENTRY: [u8; 6] = [1, 1, 0, 1, 0, 0];
+const BACK: [u8; 6] = [2, 1, 0, 0, 0, 0];
+
+/// An entry with an internal step to itself.
+fn self_loop() -> Vec<u8> {
+    [ENTRY, [2, 0, 0, 0, 0, 0]].concat()
+}
+
 pub fn inputs() -> io::Result<Vec<Timed>> {
     let mut random = Random::new(1);
     let largest = largest_graph(&mut random);
     let mut inputs = vec![
+        pair("P8", [ENTRY, ENTRY, [2, 0, 0, 1, 0, 0], BACK].concat(), self_loop()),
+        pair("P9", self_loop(), ENTRY.to_vec()),
         pair("40 nodes, 80 edges", typical_graph(&mut random), typical_graph(&mut random)),
         pair("256 nodes, 4,096 edges", largest.clone(), largest_graph(&mut random)),
         pair("the same graph twice", largest.clone(), largest),
         pair("all related: loops, circulant", loops(), circulant(forward)),
         pair("circulant, band", circulant(forward), band(forward)),
         pair("circulant, band, backward", circulant(backward), band(backward)),
+        pair("circulant, band, shuffled", circulant(shuffled), band(shuffled)),
         pair("band, band, backward", band(backward), band(backward)),
         pair("loops, band, backward", loops(), band(backward)),
         pair("loops, hubs, backward", loops(), hubs(backward)),
