@@ -3,6 +3,7 @@ use mathlib.Core.Path.{_≡_, refl, sym, ap, subst, _∙_}
 use mathlib.Core.Logic.{inl, inr}
 use mathlib.Core.Bool.{Bool, true, false, not}
 use mathlib.Core.List.{List, [], _∷_, _++_}
+use mathlib.Core.Option.{none}
 use Prim.Native.Nat.{ℕ, _+_, _*_, _-_, _/_, _≤_, _<_}
 use native.Mathlib.Omega.{arith}
 use lib.Dec.{T, T-not, not-T}
@@ -13,19 +14,15 @@ use Rattle.files.specs.Basics.Lists.{each}
 use Rattle.files.specs.Basics.Tests.{and-l, and-r, T-eq}
 use Rattle.files.specs.Cells.{cell, has-bit}
 use Rattle.files.specs.Cells.Laws.{cell-agree}
-use Rattle.files.specs.Checking.{checked}
-use Rattle.files.specs.Checking.Laws.{accepted-counts}
 use Rattle.files.specs.Decode.{decode-graph, decode-property}
-use Rattle.files.specs.Decode.Graphs.{few, decoded-size, decoded-edges, decoded-filed}
+use Rattle.files.specs.Decode.Graphs.{decoded-size, decoded-edges, decoded-filed}
 use Rattle.files.specs.Decode.Properties.{decoded-rows, decoded-property}
 use Rattle.files.specs.Graph.{Graph, size, node}
 use Rattle.files.specs.Limits.{desk}
 use Rattle.files.specs.Outcome.{Answers, refused-answer, verdict-answer, refusal-at}
 use Rattle.files.specs.Property.{Row}
 use Rattle.files.specs.Record.{count}
-use Rattle.files.specs.Refusal.{property, nodes-of}
-use Rattle.files.specs.declared.check.Checked.{Checked}
-use Rattle.files.specs.declared.check.Checked.the-variants.{Accepted}
+use Rattle.files.specs.Refusal.{property, nodes-of, refusal}
 use Rattle.files.specs.declared.record.Limits.{Limits}
 use Rattle.files.specs.declared.refusal.Refusal.{Refusal}
 use Rattle.judging.specs.declared.shape.Shape.{Shape}
@@ -124,25 +121,21 @@ module _ (s : Shape) (g p : List ℕ) (ready : Ready s g p) where
 
 -- ---- the files, accepted
 
-module _ (L : Limits) (g p : List ℕ) (within : GraphWithin L g) (n r : ℕ) (nodes-are : n ≡ nodes-of g) (records-are : r ≡ count g) where
-  pub nodes-first : n ≤ r
-  nodes-first = omega (arith, nodes-are, records-are, few L g within)
-
-  -- two accepted files, in limits that the buffer's strides allow
-  pub both-ready : Strides L → (x : Checked) (apart rows : ℕ) → x ≡ checked L property p 2 → x ≡ Accepted apart rows → Ready (record { nodes = n; edges = r - n; rows = rows }) g p
-  both-ready strides x apart rows e d =
-      let a = accepted-counts L property p 2 apart rows (sym e ∙ d) in
-      let filed = decoded-filed L g within in
-      record {
-        graph-file = record { limits = L; accepted = within };
-        property-file = record { limits = L; accepted = a .0 };
-        nodes-are = nodes-are;
-        edges-are = omega (arith, nodes-are, records-are);
-        rows-are = a .2;
-        few-nodes = omega (arith, nodes-are, decoded-size L g within, filed .few-nodes, strides .nodes-fit);
-        few-edges = omega (arith, nodes-are, records-are, decoded-edges L g within, filed .few-edges, strides .edges-fit);
-        few-rows = omega (arith, a .2, decoded-rows L p (a .0), (decoded-property L p (a .0)) .few-rows, strides .rows-fit);
-      }
+-- two accepted files, in limits that the buffer's strides allow
+pub both-ready : (L : Limits) → Strides L → (g p : List ℕ) → GraphWithin L g → refusal L property p ≡ none → (n r rows : ℕ) → n ≡ nodes-of g → r ≡ count g → rows ≡ count p
+    → Ready (record { nodes = n; edges = r - n; rows = rows }) g p
+both-ready L strides g p a b n r rows nodes-are records-are rows-are =
+    let filed = decoded-filed L g a in
+    record {
+      graph-file = record { limits = L; accepted = a };
+      property-file = record { limits = L; accepted = b };
+      nodes-are = nodes-are;
+      edges-are = omega (arith, nodes-are, records-are);
+      rows-are = rows-are;
+      few-nodes = omega (arith, nodes-are, decoded-size L g a, filed .few-nodes, strides .nodes-fit);
+      few-edges = omega (arith, nodes-are, records-are, decoded-edges L g a, filed .few-edges, strides .edges-fit);
+      few-rows = omega (arith, rows-are, decoded-rows L p b, (decoded-property L p b) .few-rows, strides .rows-fit);
+    }
 
 -- ---- the limits of the desk
 

@@ -4,16 +4,12 @@ use mathlib.Core.List.{List, [], _∷_, _++_}
 use Prim.Native.Nat.{ℕ, _*_, _-_, _≤_, _<_}
 use native.Mathlib.Omega.{arith}
 use lib.ListN.{length, drop}
-use Rattle.files.specs.Checking.{checked}
-use Rattle.files.specs.Checking.Laws.{accepted-counts}
 use Rattle.files.specs.Decode.{decode-graph}
-use Rattle.files.specs.Decode.Graphs.{few, decoded-size, decoded-edges, decoded-filed}
+use Rattle.files.specs.Decode.Graphs.{decoded-size, decoded-edges, decoded-filed}
 use Rattle.files.specs.Graph.{Graph}
 use Rattle.files.specs.Outcome.{Answers, refused-answer, verdict-answer, refusal-at}
 use Rattle.files.specs.Record.{count}
-use Rattle.files.specs.Refusal.{graph, nodes-of}
-use Rattle.files.specs.declared.check.Checked.{Checked}
-use Rattle.files.specs.declared.check.Checked.the-variants.{Accepted}
+use Rattle.files.specs.Refusal.{nodes-of}
 use Rattle.files.specs.declared.record.Limits.{Limits}
 use Rattle.files.specs.declared.refusal.Refusal.{Refusal}
 use Rattle.judging.specs.declared.sizes.Sizes.{Sizes}
@@ -49,12 +45,6 @@ module _ (s : Sizes) (f g : List ℕ) (both : Both s f g) where
     answers-covered h = answers-yes f g out out′ (omega (arith, bytes, fits)) stands (yes-past G H (omega (arith, lowest, h, first-size s f g both)))
 
 -- ---- the files, accepted
-
--- an accepted graph's counts, of which its nodes are the fewer
-pub file-counts : (L : Limits) (l : List ℕ) (at : ℕ) (x : Checked) (n c : ℕ) → x ≡ checked L graph l at → x ≡ Accepted n c → GraphWithin L l × (n ≡ nodes-of l) × (c ≡ count l) × (n ≤ c)
-file-counts L l at x n c e d =
-    let a = accepted-counts L graph l at n c (sym e ∙ d) in
-    (a .0, a .1, a .2, omega (arith, a .1, a .2, few L l (a .0)))
 
 -- two accepted graphs, in limits that the buffer's strides allow
 pub both-sizes : (L : Limits) → Strides L → (f g : List ℕ) → GraphWithin L f → GraphWithin L g → (n r n₂ r₂ : ℕ) → n ≡ nodes-of f → r ≡ count f → n₂ ≡ nodes-of g → r₂ ≡ count g

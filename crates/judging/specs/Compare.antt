@@ -49,12 +49,9 @@ module _ (L : Limits) (first second : List ℕ) (out work : ℕ) where
   pub compared : Outcome
   compared = answered compare-checks compare-verdict
 
--- the outcome from the first graph's numbers on, from the second's on, and from 12 on, as the code comes to them
+-- the outcome from the first graph's numbers on, and from 12 on, as the code comes to them
 abbrev pub from-first : Limits → List ℕ → List ℕ → ℕ → Outcome
 from-first L f g out = let s = compare-said (decode-graph f) (decode-graph g) in answered (file-checks L 1 graph f (file-checks L 2 graph g (out-check out s))) s
-
-abbrev pub from-second : Limits → List ℕ → List ℕ → ℕ → Outcome
-from-second L f g out = let s = compare-said (decode-graph f) (decode-graph g) in answered (file-checks L 2 graph g (out-check out s)) s
 
 abbrev pub from-relation : List ℕ → List ℕ → ℕ → Outcome
 from-relation f g out = let s = compare-said (decode-graph f) (decode-graph g) in answered (out-check out s) s

@@ -51,13 +51,10 @@ module _ (L : Limits) (g p : List ℕ) (out work : ℕ) where
   pub judged : Outcome
   judged = answered judge-checks judge-verdict
 
--- the outcome from the graph's numbers on, from the property's on, and from 12 on, as the code comes to them
+-- the outcome from the graph's numbers on, and from 12 on, as the code comes to them
 abbrev pub from-graph : Limits → List ℕ → List ℕ → ℕ → Outcome
 from-graph L g p out =
     let s = judge-said (decode-graph g) (decode-property p) in answered (file-checks L 1 graph g (file-checks L 2 property p (out-check out s))) s
-
-abbrev pub from-property : Limits → List ℕ → List ℕ → ℕ → Outcome
-from-property L g p out = let s = judge-said (decode-graph g) (decode-property p) in answered (file-checks L 2 property p (out-check out s)) s
 
 abbrev pub from-verdict : List ℕ → List ℕ → ℕ → Outcome
 from-verdict g p out = let s = judge-said (decode-graph g) (decode-property p) in answered (out-check out s) s

@@ -1,4 +1,5 @@
 pub mod Chains
+pub mod Checks
 pub mod Levels
 pub mod Ranking
 pub mod Sheets

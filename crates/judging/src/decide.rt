@@ -3,23 +3,22 @@ ghost use mathlib.Core.Path.{_≡_};
 ghost use Prim.Native.Nat.{_≤_, _<_};
 ghost use lib.ListN.{length, replicate};
 ghost use Rattle.files.specs.Outcome.{Answers, Does};
-ghost use Rattle.files.specs.Record.{count};
-ghost use Rattle.files.specs.Refusal.{nodes-of};
 ghost use Rattle.files.specs.Decode.{decode-graph, decode-property};
-ghost use Rattle.judging.specs.Judge.{judged, judged-answer, from-graph, from-property, from-verdict, GraphWithin, Strides};
+ghost use Rattle.judging.specs.Judge.{judged, judged-answer, from-graph, from-verdict, Strides};
 ghost use Rattle.judging.specs.Levels.Sheet.{failing};
 ghost use Rattle.judging.specs.Ranking.{Ready, Ranked};
 use crate::answers::Judged;
 use crate::causes::first_edges;
 use crate::causes::first_failing;
 use crate::chains::index;
+use crate::checks::BothChecked;
+use crate::checks::check_both;
 use crate::levels::levels;
 use crate::levels::start;
 use crate::shape::Shape;
 use crate::sheet::walk;
 use crate::sheet::write_sheet;
 use files::cells::clear;
-use files::check::Checked;
 use files::check::check_graph;
 use files::check::check_property;
 use files::record::Limits;
@@ -71,32 +70,6 @@ fn decide(graph: &[u8], property: &[u8], s: Shape, out: &mut [u8], work: &mut [u
     Judged::Holds
 }
 
-// The property's refusals, then the verdict.
-fn judge_property(
-    graph: &[u8],
-    property: &[u8],
-    out: &mut [u8],
-    work: &mut [u8],
-    limits: Limits,
-    nodes: usize,
-    records: usize,
-) -> Judged
-    requires { ⌜ (GraphWithin limits (now graph)) × ((nodes ≡ nodes-of (now graph)) × ((records ≡ count (now graph)) × ((Strides limits) × ((now work ≡ replicate (length (now work)) 0) × (41664 ≤ length (now work)))))) ⌝ }
-    ensures { λ r. ⌜ Answers (from-property limits (now (graph .entry)) (now (property .entry)) (length (now (out .entry)))) (now (out .entry)) (now (out .exit)) (judged-answer r) ⌝ }
-{
-    match check_property(property, 2, limits) {
-        Checked::Refused(refusal) => Judged::Refused(refusal),
-        Checked::Accepted { records: rows, .. } => {
-            let s = Shape {
-                nodes: nodes,
-                edges: records - nodes,
-                rows: rows,
-            };
-            decide(graph, property, s, out, work)
-        }
-    }
-}
-
 // Both files' refusals, in argument order, then the verdict.
 fn judge_files(
     graph: &[u8],
@@ -108,10 +81,21 @@ fn judge_files(
     requires { ⌜ (Strides limits) × ((now work ≡ replicate (length (now work)) 0) × (41664 ≤ length (now work))) ⌝ }
     ensures { λ r. ⌜ Answers (from-graph limits (now (graph .entry)) (now (property .entry)) (length (now (out .entry)))) (now (out .entry)) (now (out .exit)) (judged-answer r) ⌝ }
 {
-    match check_graph(graph, 1, limits) {
-        Checked::Refused(refusal) => Judged::Refused(refusal),
-        Checked::Accepted { nodes, records } => {
-            judge_property(graph, property, out, work, limits, nodes, records)
+    let second = check_property(property, 2, limits);
+    match check_both(check_graph(graph, 1, limits), second) {
+        BothChecked::Refused(refusal) => Judged::Refused(refusal),
+        BothChecked::Accepted {
+            nodes,
+            records,
+            records2: rows,
+            ..
+        } => {
+            let s = Shape {
+                nodes: nodes,
+                edges: records - nodes,
+                rows: rows,
+            };
+            decide(graph, property, s, out, work)
         }
     }
 }

@@ -1,20 +1,18 @@
 // The call "compare": refusals in the published order, then the largest simulation, its bytes and the verdict.
-ghost use mathlib.Core.Path.{_≡_};
-ghost use Prim.Native.Nat.{_≤_, _<_};
+ghost use Prim.Native.Nat.{_≤_};
 ghost use lib.ListN.{length};
 ghost use Rattle.files.specs.Outcome.{Answers, Does};
-ghost use Rattle.files.specs.Record.{count};
-ghost use Rattle.files.specs.Refusal.{nodes-of};
-ghost use Rattle.judging.specs.Judge.{GraphWithin, Strides};
-ghost use Rattle.judging.specs.Compare.{compared, compared-answer, from-first, from-second, from-relation};
+ghost use Rattle.judging.specs.Judge.{Strides};
+ghost use Rattle.judging.specs.Compare.{compared, compared-answer, from-first, from-relation};
 ghost use Rattle.judging.specs.Refinement.{Both};
 use crate::answers::Compared;
+use crate::checks::BothChecked;
+use crate::checks::check_both;
 use crate::cover::first_uncovered;
 use crate::cover::write_relation;
 use crate::refine::refine;
 use crate::sizes::Sizes;
 use files::cells::clear;
-use files::check::Checked;
 use files::check::check_graph;
 use files::encode::LINE;
 use files::record::Limits;
@@ -37,36 +35,6 @@ fn contrast(first: &[u8], second: &[u8], s: Sizes, out: &mut [u8], work: &mut [u
     Compared::Yes
 }
 
-// The second graph's refusals, then the verdict.
-fn compare_second(
-    first: &[u8],
-    second: &[u8],
-    out: &mut [u8],
-    work: &mut [u8],
-    limits: Limits,
-    nodes: usize,
-    records: usize,
-) -> Compared
-    requires { ⌜ (GraphWithin limits (now first)) × ((nodes ≡ nodes-of (now first)) × ((records ≡ count (now first)) × ((Strides limits) × (178272 ≤ length (now work))))) ⌝ }
-    ensures { λ t. ⌜ Answers (from-second limits (now (first .entry)) (now (second .entry)) (length (now (out .entry)))) (now (out .entry)) (now (out .exit)) (compared-answer t) ⌝ }
-{
-    match check_graph(second, 2, limits) {
-        Checked::Refused(refusal) => Compared::Refused(refusal),
-        Checked::Accepted {
-            nodes: nodes2,
-            records: records2,
-        } => {
-            let s = Sizes {
-                nodes: nodes,
-                edges: records - nodes,
-                nodes2: nodes2,
-                edges2: records2 - nodes2,
-            };
-            contrast(first, second, s, out, work)
-        }
-    }
-}
-
 // Both graphs' refusals, in argument order, then the verdict.
 fn compare_files(
     first: &[u8],
@@ -78,10 +46,22 @@ fn compare_files(
     requires { ⌜ (Strides limits) × (178272 ≤ length (now work)) ⌝ }
     ensures { λ t. ⌜ Answers (from-first limits (now (first .entry)) (now (second .entry)) (length (now (out .entry)))) (now (out .entry)) (now (out .exit)) (compared-answer t) ⌝ }
 {
-    match check_graph(first, 1, limits) {
-        Checked::Refused(refusal) => Compared::Refused(refusal),
-        Checked::Accepted { nodes, records } => {
-            compare_second(first, second, out, work, limits, nodes, records)
+    let counted = check_graph(second, 2, limits);
+    match check_both(check_graph(first, 1, limits), counted) {
+        BothChecked::Refused(refusal) => Compared::Refused(refusal),
+        BothChecked::Accepted {
+            nodes,
+            records,
+            nodes2,
+            records2,
+        } => {
+            let s = Sizes {
+                nodes: nodes,
+                edges: records - nodes,
+                nodes2: nodes2,
+                edges2: records2 - nodes2,
+            };
+            contrast(first, second, s, out, work)
         }
     }
 }

@@ -1,17 +1,15 @@
--- Comparing as the code comes to it: the work buffer's length, then the files; a relation that does not fit, and one that is written under either verdict.
+-- Comparing as the code comes to it: the whole call; a relation that does not fit, and one that is written under either verdict.
 use mathlib.Core.Path.{_≡_, refl, sym, ap, subst, _∙_}
 use mathlib.Core.Bool.{Bool, true, false, cond}
 use mathlib.Core.List.{List, [], _∷_, _++_}
 use Prim.Native.Nat.{ℕ, _≤_, _<_}
 use lib.ListN.{length, drop}
-use borrow.Author.Tests.{lt-ltb, le-ltb}
 use Rattle.files.specs.Decode.{decode-graph}
 use Rattle.files.specs.declared.record.Limits.{Limits}
-use Rattle.files.specs.Outcome.{Said, Outcome, says, refuses, Check, Answers, answer, out-after, verdict-answer, refused-answer, out-check, file-checks, short, answered, refusal-at}
-use Rattle.files.specs.Outcome.Steps.{whole-refuses, whole-passes, answers-refused, out-passes, out-refuses}
+use Rattle.files.specs.Outcome.{Said, Outcome, says, Answers, answer, out-after, verdict-answer, refused-answer, out-check, answered, refusal-at}
+use Rattle.files.specs.Outcome.Steps.{answers-refused, out-passes, out-refuses}
 use Rattle.files.specs.Graph.{Graph}
-use Rattle.files.specs.Refusal.{graph}
-use Rattle.judging.specs.Compare.{compare-room, compare-said, compare-verdict, compared, from-first, from-relation}
+use Rattle.judging.specs.Compare.{compare-said, compare-verdict, compare-checks, compared, from-relation}
 use Rattle.judging.specs.Simulation.{simulates, uncovered, relation-bytes}
 
 module _ (G H : Graph) where
@@ -55,17 +53,7 @@ module _ (f g out : List ℕ) where
         let o : from-relation f g (length out) ≡ says (no-said G H) = ap (λ (x : Said). answered (out-check (length out) x) x) (said-is G H false e) ∙ out-passes (length out) (no-said G H) fits in
         record { answer-is = ap (λ (k : ℕ). verdict-answer 2 (k ∷ [])) d ∙ sym (ap answer o); out-is = stands ∙ sym (ap (λ (x : Outcome). out-after x out) o) }
 
--- ---- the whole call
-
-module _ (L : Limits) (f g : List ℕ) (out work : ℕ) where
-  abbrev after-room : List Check
-  after-room = file-checks L 1 graph f (file-checks L 2 graph g (out-check out (compare-verdict L f g out work)))
-
-  -- 13 comes before all else
-  pub compared-short : work < compare-room → compared L f g out work ≡ refuses (refusal-at 13 0 0)
-  unfolding compared
-  compared-short h = whole-refuses 13 (short compare-room work) after-room (compare-verdict L f g out work) (lt-ltb work compare-room h)
-
-  pub compared-on : compare-room ≤ work → compared L f g out work ≡ from-first L f g out
-  unfolding compared
-  compared-on h = whole-passes 13 (short compare-room work) after-room (compare-verdict L f g out work) (le-ltb work compare-room h)
+-- the whole call
+pub compared-is : (L : Limits) (f g : List ℕ) (out work : ℕ) → compared L f g out work ≡ answered (compare-checks L f g out work) (compare-verdict L f g out work)
+unfolding compared
+compared-is L f g out work = refl

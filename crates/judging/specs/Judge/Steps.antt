@@ -1,19 +1,17 @@
--- Judging as the code comes to it: the work buffer's length, then the files; a property that holds, a sheet that does not fit, a sheet that is written.
-use mathlib.Core.Path.{_≡_, sym, ap, _∙_}
+-- Judging as the code comes to it: the whole call; a property that holds, a sheet that does not fit, a sheet that is written.
+use mathlib.Core.Path.{_≡_, refl, sym, ap, _∙_}
 use mathlib.Core.Bool.{true, false}
 use mathlib.Core.List.{List, [], _∷_, _++_}
 use Prim.Native.Nat.{ℕ, _≤_, _<_}
 use native.Mathlib.Omega.{arith}
 use lib.ListN.{length, drop}
-use borrow.Author.Tests.{lt-ltb, le-ltb}
 use Rattle.files.specs.Decode.{decode-graph, decode-property}
 use Rattle.files.specs.declared.record.Limits.{Limits}
-use Rattle.files.specs.Outcome.{Said, Outcome, says, refuses, Check, Answers, answer, out-after, verdict-answer, refused-answer, out-check, file-checks, short, answered, refusal-at}
-use Rattle.files.specs.Outcome.Steps.{whole-refuses, whole-passes, answers-refused, out-passes, out-refuses}
+use Rattle.files.specs.Outcome.{Said, Outcome, says, Answers, answer, out-after, verdict-answer, refused-answer, out-check, answered, refusal-at}
+use Rattle.files.specs.Outcome.Steps.{answers-refused, out-passes, out-refuses}
 use Rattle.files.specs.Graph.{Graph}
-use Rattle.files.specs.Refusal.{graph, property}
 use Rattle.files.specs.Property.{Row}
-use Rattle.judging.specs.Judge.{judge-room, judge-said, judge-verdict, judged, from-graph, from-verdict}
+use Rattle.judging.specs.Judge.{judge-said, judge-verdict, judge-checks, judged, from-verdict}
 use Rattle.judging.specs.Levels.{satisfies}
 use Rattle.judging.specs.Levels.Sheet.{sheet, sheet-bytes}
 
@@ -51,17 +49,7 @@ module _ (g p out : List ℕ) where
         let o : from-verdict g p (length out) ≡ says failed = is-failed ∙ out-passes (length out) failed h in
         record { answer-is = ap (λ (k : ℕ). verdict-answer 2 (k ∷ [])) e ∙ sym (ap answer o); out-is = d ∙ sym (ap (λ (x : Outcome). out-after x out) o) }
 
--- ---- the whole call
-
-module _ (L : Limits) (g p : List ℕ) (out work : ℕ) where
-  abbrev after-room : List Check
-  after-room = file-checks L 1 graph g (file-checks L 2 property p (out-check out (judge-verdict L g p out work)))
-
-  -- 13 comes before all else
-  pub judged-short : work < judge-room → judged L g p out work ≡ refuses (refusal-at 13 0 0)
-  unfolding judged
-  judged-short h = whole-refuses 13 (short judge-room work) after-room (judge-verdict L g p out work) (lt-ltb work judge-room h)
-
-  pub judged-on : judge-room ≤ work → judged L g p out work ≡ from-graph L g p out
-  unfolding judged
-  judged-on h = whole-passes 13 (short judge-room work) after-room (judge-verdict L g p out work) (le-ltb work judge-room h)
+-- the whole call
+pub judged-is : (L : Limits) (g p : List ℕ) (out work : ℕ) → judged L g p out work ≡ answered (judge-checks L g p out work) (judge-verdict L g p out work)
+unfolding judged
+judged-is L g p out work = refl

@@ -1,56 +1,68 @@
-use Rattle.files.specs.Outcome.Steps.{answers-file-refused, answers-file-passed}
-use Rattle.files.specs.Refusal.{graph}
-use Rattle.judging.proofs.SimulateLaws.{file-counts}
-use Rattle.judging.specs.Judge.{judged-answer}
+-- The checks of both files give the refusals in order; where they accept, their counts are the files' shape, and what is left is the verdict.
+use Rattle.judging.proofs.CallLaws.{nodes-first, files-counts, files-refused, files-passed}
+use Rattle.judging.proofs.DecideLaws.{both-ready}
 use borrow.Author.Needs.{needs}
 use Rattle.judging.proofs.decide.judge_files.Statement.{statement}
 use Rattle.judging.proofs.decide.judge_files.Tie as tie
 
--- src/decide.rt:104:11
+-- src/decide.rt:84:9
+check-property-requires : tie.Need-check-property-requires
+check-property-requires c κs = search needs
+
+-- src/decide.rt:85:22
 check-graph-requires : tie.Need-check-graph-requires
 check-graph-requires c κs = search needs
 
--- src/decide.rt:105:26
+-- src/decide.rt:85:11
+check-both-requires : tie.Need-check-both-requires
+check-both-requires c κs = search needs
+
+-- src/decide.rt:86:30
 enum-known-refusal : tie.Need-enum-known-refusal
 enum-known-refusal c = search needs
 
--- src/decide.rt:106:29
+-- src/decide.rt:88:13
 enum-known-nodes : tie.Need-enum-known-nodes
 enum-known-nodes c = search needs
 
--- src/decide.rt:107:13
-judge-property-requires : tie.Need-judge-property-requires
-judge-property-requires c κs = let k = c .before .before .before .before .before .before .before .before .before .before in
-    let x = c .before .before .before .nodes .given in
-    let n = file-counts (k .args .limits) (k .args .graph .now) 1 (c .before .before .before .before .before .check-graph .result) (x .0 .0) (x .0 .1 .0) (c .before .before .before .before .before .check-graph .ensures) (x .1) in
-    (n .0, (n .1, (n .2, (k .pre .0, k .pre .1))))
+-- src/decide.rt:95:24
+sub-t15 : tie.Need-sub-t15
+sub-t15 c = let b = c .before .before .before in let n = files-counts _ _ _ _ (b .before .check-graph .ensures) (b .before .before .check-property .ensures) (b .check-both .ensures) (c .before .nodes .given .1) in nodes-first _ _ (n .first-within) (n .nodes-are) (n .records-are)
 
--- src/decide.rt:94:1
+-- src/decide.rt:98:13
+decide-requires : tie.Need-decide-requires
+decide-requires c κs = let b = c .before .before .before .before .before in
+    let n = files-counts _ _ _ _ (b .before .check-graph .ensures) (b .before .before .check-property .ensures) (b .check-both .ensures) (c .before .before .before .nodes .given .1) in
+    let k = b .before .before .before .before .before .before .before in
+    (both-ready _ (k .pre .0) _ _ (n .first-within) (n .second-within) _ _ _ (n .nodes-are) (n .records-are) (n .records2-are), k .pre .1)
+
+-- src/decide.rt:74:1
 returns : tie.Need-returns
-returns c = let k = c .before .before .before .before .before .before .before .before in answers-file-refused (k .args .limits) 1 graph (k .args .graph .now) _ _ (k .args .out .now) (c .before .before .before .check-graph .result) (c .before .before .before .check-graph .ensures) (c .before .refusal .given .0 .0) (c .before .refusal .given .1)
+returns c = let b = c .before .before .before in files-refused _ _ _ _ (b .before .check-graph .ensures) (b .before .before .check-property .ensures) (b .check-both .ensures) _ _ (c .before .refusal .given .1)
 
--- src/decide.rt:94:1
+-- src/decide.rt:74:1
 same-length : tie.Need-same-length
 same-length c = search needs
 
--- src/decide.rt:94:1
+-- src/decide.rt:74:1
 same-length-2 : tie.Need-same-length-2
 same-length-2 c = search needs
 
--- src/decide.rt:94:1
+-- src/decide.rt:74:1
 returns-2 : tie.Need-returns-2
-returns-2 c = let k = c .before .before .before .before .before .before .before .before .before .before .before .before .before .before .before in
-    let x = c .before .before .before .before .before .before .before .before .nodes .given in
-    answers-file-passed (k .args .limits) 1 graph (k .args .graph .now) _ _ (k .args .out .now) (c .before .before .before .before .before .before .before .before .before .before .check-graph .result) (c .before .before .before .before .before .before .before .before .before .before .check-graph .ensures) (x .0 .0) (x .0 .1 .0) (c .before .before .before .before .judge-property .last .1 .1 .0) (judged-answer (c .before .before .before .before .judge-property .result)) (x .1) (c .before .before .before .before .judge-property .ensures)
+returns-2 c = let b = c .before .before .before .before .before .before .before .before .before .before in files-passed _ _ _ _ (b .before .check-graph .ensures) (b .before .before .check-property .ensures) (b .check-both .ensures) _ _ (c .before .before .before .before .before .before .before .before .nodes .given .1) (c .before .before .before .before .decide .ensures)
 
 pub judge-files-spec : {M : Type 1} → statement M
 judge-files-spec =
     tie.close
     (tie.spec
+    check-property-requires
     check-graph-requires
+    check-both-requires
     enum-known-refusal
     enum-known-nodes
-    judge-property-requires
+    sub-t15
+    decide-requires
     returns
     same-length
     same-length-2

@@ -1,56 +1,73 @@
-use Rattle.files.specs.Outcome.Steps.{answers-file-refused, answers-file-passed}
-use Rattle.files.specs.Refusal.{graph}
-use Rattle.judging.proofs.SimulateLaws.{file-counts}
-use Rattle.judging.specs.Compare.{compared-answer}
+-- The checks of both graphs give the refusals in order; where they accept, their counts are the sizes, and what is left is the verdict.
+use Rattle.judging.proofs.CallLaws.{nodes-first, files-counts, files-refused, files-passed}
+use Rattle.judging.proofs.SimulateLaws.{both-sizes}
 use borrow.Author.Needs.{needs}
 use Rattle.judging.proofs.simulate.compare_files.Statement.{statement}
 use Rattle.judging.proofs.simulate.compare_files.Tie as tie
 
--- src/simulate.rt:105:11
+-- src/simulate.rt:49:9
 check-graph-requires : tie.Need-check-graph-requires
 check-graph-requires c κs = search needs
 
--- src/simulate.rt:106:26
+-- src/simulate.rt:50:22
+check-graph-requires-2 : tie.Need-check-graph-requires-2
+check-graph-requires-2 c κs = search needs
+
+-- src/simulate.rt:50:11
+check-both-requires : tie.Need-check-both-requires
+check-both-requires c κs = search needs
+
+-- src/simulate.rt:51:30
 enum-known-refusal : tie.Need-enum-known-refusal
 enum-known-refusal c = search needs
 
--- src/simulate.rt:107:29
+-- src/simulate.rt:53:13
 enum-known-nodes : tie.Need-enum-known-nodes
 enum-known-nodes c = search needs
 
--- src/simulate.rt:108:13
-compare-second-requires : tie.Need-compare-second-requires
-compare-second-requires c κs = let k = c .before .before .before .before .before .before .before .before .before .before in
-    let x = c .before .before .before .nodes .given in
-    let n = file-counts (k .args .limits) (k .args .first .now) 1 (c .before .before .before .before .before .check-graph .result) (x .0 .0) (x .0 .1 .0) (c .before .before .before .before .before .check-graph .ensures) (x .1) in
-    (n .0, (n .1, (n .2, (k .pre .0, k .pre .1))))
+-- src/simulate.rt:60:24
+sub-t16 : tie.Need-sub-t16
+sub-t16 c = let b = c .before .before .before in let n = files-counts _ _ _ _ (b .before .check-graph2 .ensures) (b .before .before .check-graph .ensures) (b .check-both .ensures) (c .before .nodes .given .1) in nodes-first _ _ (n .first-within) (n .nodes-are) (n .records-are)
 
--- src/simulate.rt:101:1
+-- src/simulate.rt:62:25
+sub-t17 : tie.Need-sub-t17
+sub-t17 c = let b = c .before .before .before in let n = files-counts _ _ _ _ (b .before .check-graph2 .ensures) (b .before .before .check-graph .ensures) (b .check-both .ensures) (c .before .nodes .given .1) in nodes-first _ _ (n .second-within) (n .nodes2-are) (n .records2-are)
+
+-- src/simulate.rt:64:13
+contrast-requires : tie.Need-contrast-requires
+contrast-requires c κs = let b = c .before .before .before .before .before in
+    let n = files-counts _ _ _ _ (b .before .check-graph2 .ensures) (b .before .before .check-graph .ensures) (b .check-both .ensures) (c .before .before .before .nodes .given .1) in
+    let k = b .before .before .before .before .before .before .before in
+    (both-sizes _ (k .pre .0) _ _ (n .first-within) (n .second-within) _ _ _ _ (n .nodes-are) (n .records-are) (n .nodes2-are) (n .records2-are), k .pre .1)
+
+-- src/simulate.rt:39:1
 returns : tie.Need-returns
-returns c = let k = c .before .before .before .before .before .before .before .before in answers-file-refused (k .args .limits) 1 graph (k .args .first .now) _ _ (k .args .out .now) (c .before .before .before .check-graph .result) (c .before .before .before .check-graph .ensures) (c .before .refusal .given .0 .0) (c .before .refusal .given .1)
+returns c = let b = c .before .before .before in files-refused _ _ _ _ (b .before .check-graph2 .ensures) (b .before .before .check-graph .ensures) (b .check-both .ensures) _ _ (c .before .refusal .given .1)
 
--- src/simulate.rt:101:1
+-- src/simulate.rt:39:1
 same-length : tie.Need-same-length
 same-length c = search needs
 
--- src/simulate.rt:101:1
+-- src/simulate.rt:39:1
 same-length-2 : tie.Need-same-length-2
 same-length-2 c = search needs
 
--- src/simulate.rt:101:1
+-- src/simulate.rt:39:1
 returns-2 : tie.Need-returns-2
-returns-2 c = let k = c .before .before .before .before .before .before .before .before .before .before .before .before .before .before .before in
-    let x = c .before .before .before .before .before .before .before .before .nodes .given in
-    answers-file-passed (k .args .limits) 1 graph (k .args .first .now) _ _ (k .args .out .now) (c .before .before .before .before .before .before .before .before .before .before .check-graph .result) (c .before .before .before .before .before .before .before .before .before .before .check-graph .ensures) (x .0 .0) (x .0 .1 .0) (c .before .before .before .before .compare-second .last .1 .1 .0) (compared-answer (c .before .before .before .before .compare-second .result)) (x .1) (c .before .before .before .before .compare-second .ensures)
+returns-2 c = let b = c .before .before .before .before .before .before .before .before .before .before in files-passed _ _ _ _ (b .before .check-graph2 .ensures) (b .before .before .check-graph .ensures) (b .check-both .ensures) _ _ (c .before .before .before .before .before .before .before .before .nodes .given .1) (c .before .before .before .before .contrast .ensures)
 
 pub compare-files-spec : {M : Type 1} → statement M
 compare-files-spec =
     tie.close
     (tie.spec
     check-graph-requires
+    check-graph-requires-2
+    check-both-requires
     enum-known-refusal
     enum-known-nodes
-    compare-second-requires
+    sub-t16
+    sub-t17
+    contrast-requires
     returns
     same-length
     same-length-2
