@@ -17,58 +17,58 @@ Inv-loop first second s work v label row gone₀ k₀ gone k = (k ≤ 32) × (le
 abbrev μ-loop : tie.MeasureT-loop
 μ-loop first second s work v label row gone₀ k₀ gone k = 32 - k
 
--- src/matches.rt:117:5
+-- src/matches.rt:114:5
 loop-holds : tie.Need-loop-holds Inv-loop μ-loop
 loop-holds c = let k = c .before .before .before .before .before in (omega arith, refl, handed-none (k .args .s .nodes2) (k .args .work .now) (k .args .v) (k .args .label) (k .args .row .now) (k .args .gone .now) 0 (k .pre .1 .1 .1 .1 .1 .1))
 
--- src/matches.rt:119:9
+-- src/matches.rt:116:9
 add-k : tie.Need-add-k Inv-loop μ-loop
 add-k c = omega (arith, c .loop-test .taken)
 
--- src/matches.rt:120:39
+-- src/matches.rt:117:39
 mul-without : tie.Need-mul-without Inv-loop μ-loop
 mul-without c = omega (arith, c .before .before .before .before .before .before .before .pre .1 .1 .0, c .before .before .before .before .before .before .before .pre .1 .0 .few-first-nodes)
 
--- src/matches.rt:120:25
+-- src/matches.rt:117:25
 add-without : tie.Need-add-without Inv-loop μ-loop
 add-without c = omega (arith, c .before .before .before .before .before .before .before .pre .1 .1 .0, c .before .before .before .before .before .before .before .pre .1 .0 .few-first-nodes)
 
--- src/matches.rt:120:25
+-- src/matches.rt:117:25
 add-without-2 : tie.Need-add-without-2 Inv-loop μ-loop
 add-without-2 c = omega (arith, c .before .before .before .before .before .before .before .pre .1 .1 .0, c .before .before .before .before .before .before .before .pre .1 .0 .few-first-nodes, c .loop-test .taken)
 
--- src/matches.rt:120:20
+-- src/matches.rt:117:20
 shared-slice-read-without : tie.Need-shared-slice-read-without Inv-loop μ-loop
 shared-slice-read-without c = let k = c .before .before .before .before .before .before .before .before in omega (arith, k .pre .1 .1 .0, k .pre .1 .0 .few-first-nodes, c .before .loop-test .taken, k .pre .1 .1 .1 .1 .0 .room)
 
--- src/matches.rt:120:55
+-- src/matches.rt:117:55
 shared-slice-read-without-2 : tie.Need-shared-slice-read-without-2 Inv-loop μ-loop
 shared-slice-read-without-2 c = omega (arith, c .before .before .loop-test .taken, c .before .before .before .before .before .before .before .before .before .pre .0 .0)
 
--- src/matches.rt:120:12
+-- src/matches.rt:117:12
 without-requires : tie.Need-without-requires Inv-loop μ-loop
 without-requires c κs = search needs
 
--- src/matches.rt:117:5
+-- src/matches.rt:114:5
 loop-less : tie.Need-loop-less Inv-loop μ-loop
 loop-less c = omega (arith, c .before .before .before .before .loop-test .taken)
 
--- src/matches.rt:117:5
+-- src/matches.rt:114:5
 loop-again : tie.Need-loop-again Inv-loop μ-loop
 loop-again c = let k = c .before .before .before .before .before .before .before .before .before .before .before in
     let l = c .before .before .before .before .before .loop in
     let e : 8 * l .k + 8 ≡ 8 * (l .k + 1) = omega arith in
     (omega (arith, c .before .before .before .before .loop-test .taken), l .inv .1, subst (Handed (k .args .s .nodes2) (k .args .work .now) (k .args .v) (k .args .label) (k .args .row .now) (k .args .gone .now) (l .gone) 0) e (handed-over (k .args .s .nodes2) (k .args .work .now) (k .args .v) (k .args .label) (k .args .row .now) (k .args .gone .now) (l .gone) 0 (8 * l .k) (8 * l .k + 8) (byte-kept (k .args .work .now) (k .args .row .now) (k .args .v) (l .k) (c .before .without .result) (c .before .without .ensures .0) (c .before .without .ensures .1) (c .if1 .taken)) (l .inv .2)))
 
--- src/matches.rt:123:9
+-- src/matches.rt:120:9
 add-lost-byte-requires : tie.Need-add-lost-byte-requires Inv-loop μ-loop
 add-lost-byte-requires c κs = let k = c .before .before .before .before .before .before .before .before .before .before .before .before in ((k .pre .0 .0, omega (arith, c .before .before .before .before .before .before .loop .inv .1, k .pre .0 .1)), (k .pre .1 .0, (k .pre .1 .1 .0, (k .pre .1 .1 .1 .0, (c .before .before .before .before .before .loop-test .taken, (k .pre .1 .1 .1 .1 .0, (k .pre .1 .1 .1 .1 .1 .0, c .before .before .before .before .before .before .loop .inv .2 .within)))))))
 
--- src/matches.rt:117:5
+-- src/matches.rt:114:5
 loop-less-2 : tie.Need-loop-less-2 Inv-loop μ-loop
 loop-less-2 c = omega (arith, c .before .before .before .before .before .before .before .before .loop-test .taken)
 
--- src/matches.rt:117:5
+-- src/matches.rt:114:5
 loop-again-2 : tie.Need-loop-again-2 Inv-loop μ-loop
 loop-again-2 c = let k = c .before .before .before .before .before .before .before .before .before .before .before .before .before .before .before in
     let l = c .before .before .before .before .before .before .before .before .before .loop in
@@ -76,11 +76,11 @@ loop-again-2 c = let k = c .before .before .before .before .before .before .befo
     let e : 8 * l .k + 8 ≡ 8 * (l .k + 1) = omega arith in
     (omega (arith, c .before .before .before .before .before .before .before .before .loop-test .taken), p .kept .1 .1 .1 .1 .1 .1 .1 .0 ∙ l .inv .1, subst (Handed (k .args .s .nodes2) (k .args .work .now) (k .args .v) (k .args .label) (k .args .row .now) (k .args .gone .now) (p .last .1 .1 .1 .1 .1 .1 .1 .0) 0) e (handed-on (k .args .s .nodes2) (k .args .work .now) (k .args .v) (k .args .label) (k .args .row .now) (k .args .gone .now) (l .gone) (p .last .1 .1 .1 .1 .1 .1 .1 .0) 0 (8 * l .k) (8 * l .k + 8) (l .inv .2) (p .ensures)))
 
--- src/matches.rt:103:1
+-- src/matches.rt:100:1
 same-length : tie.Need-same-length Inv-loop μ-loop
 same-length c = c .before .loop .inv .1
 
--- src/matches.rt:103:1
+-- src/matches.rt:100:1
 returns : tie.Need-returns Inv-loop μ-loop
 returns c = let k = c .before .before .before .before .before .before .before in
     let l = c .before .loop in

@@ -15,33 +15,33 @@ Inv-loop first second s work v label row gone₀ k i₀ gone i = (i ≤ 8) × (l
 abbrev μ-loop : tie.MeasureT-loop
 μ-loop first second s work v label row gone₀ k i₀ gone i = 8 - i
 
--- src/matches.rt:96:5
+-- src/matches.rt:93:5
 loop-holds : tie.Need-loop-holds Inv-loop μ-loop
 loop-holds c = let k = c .before .before .before .before .before in
     let e : 8 * k .args .k + 0 ≡ 8 * k .args .k = omega arith in
     (omega arith, refl, subst (Handed (k .args .s .nodes2) (k .args .work .now) (k .args .v) (k .args .label) (k .args .row .now) (k .args .gone .now) (k .args .gone .now) (8 * k .args .k)) (sym e) (handed-none (k .args .s .nodes2) (k .args .work .now) (k .args .v) (k .args .label) (k .args .row .now) (k .args .gone .now) (8 * k .args .k) (k .pre .1 .1 .1 .1 .1 .1 .1)))
 
--- src/matches.rt:97:66
+-- src/matches.rt:94:66
 mul-add-lost-at : tie.Need-mul-add-lost-at Inv-loop μ-loop
 mul-add-lost-at c = omega (arith, c .before .before .before .before .before .before .before .before .pre .1 .1 .1 .1 .0)
 
--- src/matches.rt:97:66
+-- src/matches.rt:94:66
 add-add-lost-at : tie.Need-add-add-lost-at Inv-loop μ-loop
 add-add-lost-at c = omega (arith, c .before .before .before .before .before .before .before .before .pre .1 .1 .1 .1 .0, c .before .loop-test .taken)
 
--- src/matches.rt:97:9
+-- src/matches.rt:94:9
 add-lost-at-requires : tie.Need-add-lost-at-requires Inv-loop μ-loop
 add-lost-at-requires c κs = let k = c .before .before .before .before .before .before .before .before in ((k .pre .0 .0, omega (arith, c .before .before .loop .inv .1, k .pre .0 .1)), (k .pre .1 .0, (k .pre .1 .1 .0, (k .pre .1 .1 .1 .0, (omega (arith, k .pre .1 .1 .1 .1 .0, c .before .loop-test .taken), (k .pre .1 .1 .1 .1 .1 .0, (k .pre .1 .1 .1 .1 .1 .1 .0, c .before .before .loop .inv .2 .within)))))))
 
--- src/matches.rt:98:9
+-- src/matches.rt:95:9
 add-i : tie.Need-add-i Inv-loop μ-loop
 add-i c = omega (arith, c .before .before .before .before .loop-test .taken)
 
--- src/matches.rt:96:5
+-- src/matches.rt:93:5
 loop-less : tie.Need-loop-less Inv-loop μ-loop
 loop-less c = omega (arith, c .before .before .before .before .loop-test .taken)
 
--- src/matches.rt:96:5
+-- src/matches.rt:93:5
 loop-again : tie.Need-loop-again Inv-loop μ-loop
 loop-again c = let k = c .before .before .before .before .before .before .before .before .before .before .before in
     let l = c .before .before .before .before .before .loop in
@@ -49,11 +49,11 @@ loop-again c = let k = c .before .before .before .before .before .before .before
     let e : 8 * k .args .k + l .i + 1 ≡ 8 * k .args .k + (l .i + 1) = omega arith in
     (omega (arith, c .before .before .before .before .loop-test .taken), p .kept .1 .1 .1 .1 .1 .1 .1 .0 ∙ l .inv .1, handed-on (k .args .s .nodes2) (k .args .work .now) (k .args .v) (k .args .label) (k .args .row .now) (k .args .gone .now) (l .gone) (p .last .1 .1 .1 .1 .1 .1 .1 .0) (8 * k .args .k) (8 * k .args .k + l .i) (8 * k .args .k + (l .i + 1)) (l .inv .2) (subst (Handed (k .args .s .nodes2) (k .args .work .now) (k .args .v) (k .args .label) (k .args .row .now) (l .gone) (p .last .1 .1 .1 .1 .1 .1 .1 .0) (8 * k .args .k + l .i)) e (p .ensures)))
 
--- src/matches.rt:81:1
+-- src/matches.rt:78:1
 same-length : tie.Need-same-length Inv-loop μ-loop
 same-length c = c .before .loop .inv .1
 
--- src/matches.rt:81:1
+-- src/matches.rt:78:1
 returns : tie.Need-returns Inv-loop μ-loop
 returns c = let k = c .before .before .before .before .before .before .before in
     let l = c .before .loop in

@@ -16,34 +16,34 @@ Inv-loop first second s work₀ v row all label₀ work label = (label ≤ 9) ×
 abbrev μ-loop : tie.MeasureT-loop
 μ-loop first second s work₀ v row all label₀ work label = 9 - label
 
--- src/matches.rt:251:5
+-- src/matches.rt:241:5
 loop-holds : tie.Need-loop-holds Inv-loop μ-loop
 loop-holds c = (omega arith, refl, shrank-none (decode-graph (c .before .before .before .before .args .first .now)) (decode-graph (c .before .before .before .before .args .second .now)) (c .before .before .before .before .args .work .now) (c .before .before .before .before .pre .1 .1 .1 .0), λ l h. absurd (omega (arith, h)))
 
--- src/matches.rt:252:9
+-- src/matches.rt:242:9
 hand-on-by-requires : tie.Need-hand-on-by-requires Inv-loop μ-loop
 hand-on-by-requires c κs = let k = c .before .before .before .before .before .before .before in let l = c .before .before .loop in (k .pre .0, (k .pre .1 .0, (k .pre .1 .1 .0, (c .before .loop-test .taken, (l .inv .2 .refining, (λ n. held-still (c .before .before .before .before .before .before .before .args .s) (c .before .before .before .before .before .before .before .args .first .now) (c .before .before .before .before .before .before .before .args .second .now) (c .before .before .before .before .before .before .before .pre .1 .0) (k .args .work .now) (l .work) (k .args .v) (k .pre .1 .1 .0) (l .inv .2) (k .pre .1 .1 .1 .1 .0 n), k .pre .1 .1 .1 .1 .1))))))
 
--- src/matches.rt:253:9
+-- src/matches.rt:243:9
 add-label : tie.Need-add-label Inv-loop μ-loop
 add-label c = omega (arith, c .before .before .before .before .loop-test .taken)
 
--- src/matches.rt:251:5
+-- src/matches.rt:241:5
 loop-less : tie.Need-loop-less Inv-loop μ-loop
 loop-less c = omega (arith, c .before .before .before .before .loop-test .taken)
 
--- src/matches.rt:251:5
+-- src/matches.rt:241:5
 loop-again : tie.Need-loop-again Inv-loop μ-loop
 loop-again c = let k = c .before .before .before .before .before .before .before .before .before .before in
     let l = c .before .before .before .before .before .loop in
     let p = c .before .before .hand-on-by in
     (omega (arith, c .before .before .before .before .loop-test .taken), p .kept .1 .1 .1 .0 ∙ l .inv .1, shrank-on (decode-graph (c .before .before .before .before .before .before .before .before .before .before .args .first .now)) (decode-graph (c .before .before .before .before .before .before .before .before .before .before .args .second .now)) (k .args .work .now) (l .work) (p .last .1 .1 .1 .0) (l .inv .2) (p .ensures .0), labels-kept (c .before .before .before .before .before .before .before .before .before .before .args .s) (c .before .before .before .before .before .before .before .before .before .before .args .first .now) (c .before .before .before .before .before .before .before .before .before .before .args .second .now) (c .before .before .before .before .before .before .before .before .before .before .pre .1 .0) (l .work) (p .last .1 .1 .1 .0) (k .args .v) (k .args .row .now) (l .label) (p .ensures .0) (l .inv .3) (p .ensures .1))
 
--- src/matches.rt:238:1
+-- src/matches.rt:228:1
 same-length : tie.Need-same-length Inv-loop μ-loop
 same-length c = c .before .loop .inv .1
 
--- src/matches.rt:238:1
+-- src/matches.rt:228:1
 returns : tie.Need-returns Inv-loop μ-loop
 returns c = let l = c .before .loop in (l .inv .2, λ n h. l .inv .3 n (omega (arith, c .loop-test .left, h)))
 

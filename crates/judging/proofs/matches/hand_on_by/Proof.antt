@@ -14,72 +14,72 @@ use Rattle.judging.proofs.matches.drop_from.Reads as drop-from-reads
 use Rattle.judging.proofs.matches.sift.Reads as sift-reads
 use Rattle.judging.proofs.rows.is_blank.Reads as is-blank-reads
 
--- src/matches.rt:224:16
+-- src/matches.rt:214:16
 mul-slot : tie.Need-mul-slot
 mul-slot c = search needs
 
--- src/matches.rt:224:16
+-- src/matches.rt:214:16
 add-slot : tie.Need-add-slot
 add-slot c = search needs
 
--- src/matches.rt:225:8
+-- src/matches.rt:215:8
 get16-requires : tie.Need-get16-requires
 get16-requires c κs = search needs
 
--- src/matches.rt:226:9
+-- src/matches.rt:216:9
 same-length : tie.Need-same-length
 same-length c = search needs
 
--- src/matches.rt:226:9
+-- src/matches.rt:216:9
 returns : tie.Need-returns
 returns c = (shrank-none (decode-graph (c .before .before .before .before .before .before .before .args .first .now)) (decode-graph (c .before .before .before .before .before .before .before .args .second .now)) (c .before .before .before .before .before .before .before .args .work .now) (c .before .before .before .before .before .before .before .pre .1 .1 .1 .1 .0), label-empty (c .before .before .before .before .before .before .before .args .s) (c .before .before .before .before .before .before .before .args .first .now) (c .before .before .before .before .before .before .before .args .second .now) (c .before .before .before .before .before .before .before .pre .1 .0) (c .before .before .before .before .before .before .before .args .work .now) (c .before .before .before .before .before .before .before .pre .1 .1 .1 .1 .0) (c .before .before .before .before .before .before .before .args .v) (c .before .before .before .before .before .before .before .args .label) (c .before .before .before .before .before .before .before .pre .1 .1 .0) (c .before .before .before .before .before .before .before .pre .1 .1 .1 .0) (c .before .before .before .before .before .before .before .args .row .now) (c .before .get16 .result) (c .before .get16 .ensures) (c .if1 .taken))
 
--- src/matches.rt:229:55
+-- src/matches.rt:219:55
 slice-aggregate-candidates : tie.Need-slice-aggregate-candidates
 slice-aggregate-candidates c = search needs
 
--- src/matches.rt:229:5
+-- src/matches.rt:219:5
 candidates-requires : tie.Need-candidates-requires
 candidates-requires c κs = let k = c .before .before .before .before .before .before .before .before .before in ((k .pre .0, omega arith), (k .pre .1 .0, (k .pre .1 .1 .0, (k .pre .1 .1 .1 .0, (k .pre .1 .1 .1 .1 .0, (k .pre .1 .1 .1 .1 .1 .0, none-within (k .args .s .nodes2)))))))
 
--- src/matches.rt:230:28
+-- src/matches.rt:220:28
 slice-aggregate-sift : tie.Need-slice-aggregate-sift
 slice-aggregate-sift c = search needs
 
--- src/matches.rt:230:5
+-- src/matches.rt:220:5
 sift-requires : tie.Need-sift-requires
 sift-requires c κs = search needs
 
--- src/matches.rt:231:17
+-- src/matches.rt:221:17
 slice-aggregate-is-blank : tie.Need-slice-aggregate-is-blank
 slice-aggregate-is-blank c = search needs
 
--- src/matches.rt:231:8
+-- src/matches.rt:221:8
 is-blank-requires : tie.Need-is-blank-requires
 is-blank-requires c κs = search needs
 
--- src/matches.rt:232:9
+-- src/matches.rt:222:9
 same-length-2 : tie.Need-same-length-2
 same-length-2 c = search needs
 
--- src/matches.rt:232:9
+-- src/matches.rt:222:9
 returns-2 : tie.Need-returns-2
 returns-2 c = let z = shrank-none (decode-graph (c .before .before .before .before .before .before .before .before .before .before .before .before .before .before .before .before .before .before .args .first .now)) (decode-graph (c .before .before .before .before .before .before .before .before .before .before .before .before .before .before .before .before .before .before .args .second .now)) (c .before .before .before .before .before .before .before .before .before .before .before .before .before .before .before .before .before .before .args .work .now) (c .before .before .before .before .before .before .before .before .before .before .before .before .before .before .before .before .before .before .pre .1 .1 .1 .1 .0) in
     (z, label-done (c .before .before .before .before .before .before .before .before .before .before .before .before .before .before .before .before .before .before .args .s) (c .before .before .before .before .before .before .before .before .before .before .before .before .before .before .before .before .before .before .args .first .now) (c .before .before .before .before .before .before .before .before .before .before .before .before .before .before .before .before .before .before .args .second .now) (c .before .before .before .before .before .before .before .before .before .before .before .before .before .before .before .before .before .before .pre .1 .0) (c .before .before .before .before .before .before .before .before .before .before .before .before .before .before .before .before .before .before .args .work .now) (c .before .before .before .before .before .before .before .before .before .before .before .before .before .before .before .before .before .before .pre .1 .1 .1 .1 .0) (c .before .before .before .before .before .before .before .before .before .before .before .before .before .before .before .before .before .before .args .v) (c .before .before .before .before .before .before .before .before .before .before .before .before .before .before .before .before .before .before .args .label) (c .before .before .before .before .before .before .before .before .before .before .before .before .before .before .before .before .before .before .pre .1 .1 .0) (c .before .before .before .before .before .before .before .before .before .before .before .before .before .before .before .before .before .before .pre .1 .1 .1 .0) (c .before .before .before .before .before .before .before .before .before .before .before .before .before .before .before .before .before .before .args .row .now) (c .before .before .before .before .before .before .before .before .candidates .last .1 .1 .1 .1 .1 .1 .1 .0) (c .before .before .before .before .sift .last .1 .1 .1 .0) (c .before .before .before .before .before .before .before .before .before .before .before .before .before .before .before .before .before .before .args .work .now) (c .before .before .before .before .before .before .before .before .before .before .before .before .before .before .before .before .before .before .pre .1 .1 .1 .1 .1 .1) (c .before .before .before .before .before .before .before .before .candidates .ensures) (c .before .before .before .before .sift .ensures) z (λ e h he t b u i. subst T (c .before .is-blank .ensures (subst T (sym (c .if2 .taken)) tt) h b) i))
 
--- src/matches.rt:234:45
+-- src/matches.rt:224:45
 slice-aggregate-drop-from : tie.Need-slice-aggregate-drop-from
 slice-aggregate-drop-from c = search needs
 
--- src/matches.rt:234:5
+-- src/matches.rt:224:5
 drop-from-requires : tie.Need-drop-from-requires
 drop-from-requires c κs = let k = c .before .before .before .before .before .before .before .before .before .before .before .before .before .before .before .before .before .before .before .before in (omega (arith, c .before .before .before .before .before .before .sift .kept .1 .1 .1 .0, c .before .before .before .before .before .before .before .before .before .before .candidates .kept .1 .1 .1 .1 .1 .1 .1 .0), (k .pre .1 .0, (omega (arith, k .pre .1 .1 .0, k .pre .1 .1 .1 .0), (k .pre .1 .1 .1 .1 .0, may-drop (c .before .before .before .before .before .before .before .before .before .before .before .before .before .before .before .before .before .before .before .before .args .s) (c .before .before .before .before .before .before .before .before .before .before .before .before .before .before .before .before .before .before .before .before .args .first .now) (c .before .before .before .before .before .before .before .before .before .before .before .before .before .before .before .before .before .before .before .before .args .second .now) (c .before .before .before .before .before .before .before .before .before .before .before .before .before .before .before .before .before .before .before .before .pre .1 .0) (c .before .before .before .before .before .before .before .before .before .before .before .before .before .before .before .before .before .before .before .before .args .work .now) (c .before .before .before .before .before .before .before .before .before .before .before .before .before .before .before .before .before .before .before .before .pre .1 .1 .1 .1 .0) (c .before .before .before .before .before .before .before .before .before .before .before .before .before .before .before .before .before .before .before .before .args .v) (c .before .before .before .before .before .before .before .before .before .before .before .before .before .before .before .before .before .before .before .before .args .label) (c .before .before .before .before .before .before .before .before .before .before .before .before .before .before .before .before .before .before .before .before .pre .1 .1 .0) (c .before .before .before .before .before .before .before .before .before .before .before .before .before .before .before .before .before .before .before .before .pre .1 .1 .1 .0) (c .before .before .before .before .before .before .before .before .before .before .before .before .before .before .before .before .before .before .before .before .args .row .now) (c .before .before .before .before .before .before .before .before .before .before .candidates .last .1 .1 .1 .1 .1 .1 .1 .0) (c .before .before .before .before .before .before .sift .last .1 .1 .1 .0) (k .pre .1 .1 .1 .1 .1 .1) (c .before .before .before .before .before .before .sift .ensures)))))
 
--- src/matches.rt:211:1
+-- src/matches.rt:201:1
 same-length-3 : tie.Need-same-length-3
 same-length-3 c = search needs
 
--- src/matches.rt:211:1
+-- src/matches.rt:201:1
 returns-3 : tie.Need-returns-3
 returns-3 c = let d = c .before .before .drop-from in
     (d .ensures .0, label-done (c .before .before .before .before .before .before .before .before .before .before .before .before .before .before .before .before .before .before .before .before .before .before .before .args .s) (c .before .before .before .before .before .before .before .before .before .before .before .before .before .before .before .before .before .before .before .before .before .before .before .args .first .now) (c .before .before .before .before .before .before .before .before .before .before .before .before .before .before .before .before .before .before .before .before .before .before .before .args .second .now) (c .before .before .before .before .before .before .before .before .before .before .before .before .before .before .before .before .before .before .before .before .before .before .before .pre .1 .0) (c .before .before .before .before .before .before .before .before .before .before .before .before .before .before .before .before .before .before .before .before .before .before .before .args .work .now) (c .before .before .before .before .before .before .before .before .before .before .before .before .before .before .before .before .before .before .before .before .before .before .before .pre .1 .1 .1 .1 .0) (c .before .before .before .before .before .before .before .before .before .before .before .before .before .before .before .before .before .before .before .before .before .before .before .args .v) (c .before .before .before .before .before .before .before .before .before .before .before .before .before .before .before .before .before .before .before .before .before .before .before .args .label) (c .before .before .before .before .before .before .before .before .before .before .before .before .before .before .before .before .before .before .before .before .before .before .before .pre .1 .1 .0) (c .before .before .before .before .before .before .before .before .before .before .before .before .before .before .before .before .before .before .before .before .before .before .before .pre .1 .1 .1 .0) (c .before .before .before .before .before .before .before .before .before .before .before .before .before .before .before .before .before .before .before .before .before .before .before .args .row .now) (c .before .before .before .before .before .before .before .before .before .before .before .before .before .candidates .last .1 .1 .1 .1 .1 .1 .1 .0) (c .before .before .before .before .before .before .before .before .before .sift .last .1 .1 .1 .0) (d .last .1 .1 .1 .0) (c .before .before .before .before .before .before .before .before .before .before .before .before .before .before .before .before .before .before .before .before .before .before .before .pre .1 .1 .1 .1 .1 .1) (c .before .before .before .before .before .before .before .before .before .before .before .before .before .candidates .ensures) (c .before .before .before .before .before .before .before .before .before .sift .ensures) (d .ensures .0) (d .ensures .1))

@@ -8,27 +8,27 @@ use Rattle.judging.proofs.refine.match_all.Reads as match-all-reads
 use Rattle.judging.proofs.refine.settle.Reads as settle-reads
 use Rattle.judging.proofs.relation.prepare.Reads as prepare-reads
 
--- src/refine.rt:110:5
+-- src/refine.rt:109:5
 prepare-requires : tie.Need-prepare-requires
 prepare-requires c κs = search needs
 
--- src/refine.rt:111:5
+-- src/refine.rt:110:5
 put-in-order-requires : tie.Need-put-in-order-requires
 put-in-order-requires c κs = search needs
 
--- src/refine.rt:112:5
+-- src/refine.rt:111:5
 match-all-requires : tie.Need-match-all-requires
 match-all-requires c κs = let k = c .before .before .before .before .before .before .before .before .before .before .before .before in (k .pre .0, ordered (c .before .before .before .before .before .before .before .before .before .before .before .before .args .s) (c .before .before .before .before .before .before .before .before .before .before .before .before .args .first .now) (c .before .before .before .before .before .before .before .before .before .before .before .before .args .second .now) (c .before .before .before .before .before .before .before .before .before .before .before .before .pre .0) (c .before .before .before .before .before .before .before .prepare .last .1 .1 .1 .0) (c .before .before .before .put-in-order .last .1 .1 .1 .0) (c .before .before .before .put-in-order .ensures) (c .before .before .before .put-in-order .kept .1 .1 .1 .0) (c .before .before .before .before .before .before .before .prepare .ensures))
 
--- src/refine.rt:113:5
+-- src/refine.rt:112:5
 settle-requires : tie.Need-settle-requires
 settle-requires c κs = search needs
 
--- src/refine.rt:106:1
+-- src/refine.rt:105:1
 same-length : tie.Need-same-length
 same-length c = search needs
 
--- src/refine.rt:106:1
+-- src/refine.rt:105:1
 returns : tie.Need-returns
 returns c = search needs
 
