@@ -44,11 +44,9 @@ pub same-rule : (x : Parsed) (s k m n t : ℕ) (u : Rule) → x ≡ RuleRead s k
     → RuleIs (record { state = s; event = k; m1 = m; m2 = n; next = t }) ≡ RuleIs (rule-held u)
 same-rule x s k m n t u p q = cc
 
-pub same-provided : (x : Parsed) (a b : ℕ) (I : Interface) → x ≡ InterfaceRead a b → x ≡ InterfaceRead (I .provided) (I .required) → a ≡ I .provided
-same-provided x a b I p q = cc
-
-pub same-required : (x : Parsed) (a b : ℕ) (I : Interface) → x ≡ InterfaceRead a b → x ≡ InterfaceRead (I .provided) (I .required) → b ≡ I .required
-same-required x a b I p q = cc
+pub same-interface : (x : Parsed) (a b : ℕ) (I : Interface) → x ≡ InterfaceRead a b → x ≡ InterfaceRead (I .provided) (I .required)
+    → (a ≡ I .provided) × (b ≡ I .required)
+same-interface x a b I p q = (cc, cc)
 
 pub held-edge : (x : EdgeAt) (u : GraphEdge) (e : Edge) → x ≡ EdgeIs u → x ≡ EdgeIs (edge-held e) → u ≡ edge-held e
 held-edge x u e p q = cc

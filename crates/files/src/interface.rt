@@ -20,26 +20,26 @@ pub(crate) fn in_set(x: u8, m: u8) -> bool
     (x >> (m - 1)) % 2 == 1
 }
 
-// Method m is provided.
-pub fn provides(interface: &[u8], m: u8) -> bool
-    requires { ⌜ InterfaceFile (now interface) ⌝ }
-    ensures { λ r. ⌜ r ≡ provides (decode-interface (now (interface .entry))) m ⌝ }
-{
-    let Parsed::Interface { provided, .. } = parse_interface(interface, 0) else {
-        return false;
-    };
-    in_set(provided, m)
+// The sets of the one record of the file, each a byte.
+struct MethodSets {
+    provided: u8,
+    required: u8,
 }
 
-// Method m is required.
-pub fn requires_method(interface: &[u8], m: u8) -> bool
+fn method_sets(interface: &[u8]) -> MethodSets
     requires { ⌜ InterfaceFile (now interface) ⌝ }
-    ensures { λ r. ⌜ r ≡ requires-method (decode-interface (now (interface .entry))) m ⌝ }
+    ensures { λ r. ⌜ (r .provided ≡ (decode-interface (now (interface .entry))) .provided) × (r .required ≡ (decode-interface (now (interface .entry))) .required) ⌝ }
 {
-    let Parsed::Interface { required, .. } = parse_interface(interface, 0) else {
-        return false;
+    let Parsed::Interface { provided, required } = parse_interface(interface, 0) else {
+        return MethodSets {
+            provided: 0,
+            required: 0,
+        };
     };
-    in_set(required, m)
+    MethodSets {
+        provided: provided,
+        required: required,
+    }
 }
 
 // The byte of the provided methods.
@@ -47,10 +47,7 @@ pub fn provided_methods(interface: &[u8]) -> u8
     requires { ⌜ InterfaceFile (now interface) ⌝ }
     ensures { λ r. ⌜ r ≡ (decode-interface (now (interface .entry))) .provided ⌝ }
 {
-    let Parsed::Interface { provided, .. } = parse_interface(interface, 0) else {
-        return 0;
-    };
-    provided
+    method_sets(interface).provided
 }
 
 // The byte of the required methods.
@@ -58,8 +55,21 @@ pub fn required_methods(interface: &[u8]) -> u8
     requires { ⌜ InterfaceFile (now interface) ⌝ }
     ensures { λ r. ⌜ r ≡ (decode-interface (now (interface .entry))) .required ⌝ }
 {
-    let Parsed::Interface { required, .. } = parse_interface(interface, 0) else {
-        return 0;
-    };
-    required
+    method_sets(interface).required
+}
+
+// Method m is provided.
+pub fn provides(interface: &[u8], m: u8) -> bool
+    requires { ⌜ InterfaceFile (now interface) ⌝ }
+    ensures { λ r. ⌜ r ≡ provides (decode-interface (now (interface .entry))) m ⌝ }
+{
+    in_set(provided_methods(interface), m)
+}
+
+// Method m is required.
+pub fn requires_method(interface: &[u8], m: u8) -> bool
+    requires { ⌜ InterfaceFile (now interface) ⌝ }
+    ensures { λ r. ⌜ r ≡ requires-method (decode-interface (now (interface .entry))) m ⌝ }
+{
+    in_set(required_methods(interface), m)
 }

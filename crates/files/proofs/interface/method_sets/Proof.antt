@@ -3,27 +3,32 @@ use native.Mathlib.Omega.{arith}
 use Rattle.files.specs.Decode.{decode-interface}
 use Rattle.files.specs.Access.Laws.{interface-count, interface-parsed}
 use Rattle.files.proofs.Tags.{never-interface}
-use Rattle.files.proofs.AccessLaws.{same-provided}
+use Rattle.files.proofs.AccessLaws.{same-interface}
 use borrow.Author.Needs.{needs}
-use Rattle.files.proofs.interface.provided_methods.Statement.{statement}
-use Rattle.files.proofs.interface.provided_methods.Tie as tie
+use Rattle.files.proofs.interface.method_sets.Statement.{statement}
+use Rattle.files.proofs.interface.method_sets.Tie as tie
 
+-- src/interface.rt:33:52
 parse-interface-requires : tie.Need-parse-interface-requires
 parse-interface-requires c κs = omega (arith, interface-count (c .before .args .interface .now) (c .before .pre))
 
+-- src/interface.rt:33:29
 enum-known-provided : tie.Need-enum-known-provided
 enum-known-provided c = search needs
 
+-- src/interface.rt:34:9
 returns : tie.Need-returns
 returns c =
     let s = c .before .before .before in
     absurd (never-interface _ _ _ (c .before .parse-interface .ensures ∙ interface-parsed (s .args .interface .now) (s .pre)) (c .match .keys2))
 
+-- src/interface.rt:29:1
 returns-2 : tie.Need-returns-2
 returns-2 c =
     let s = c .before .before .before .before .before in
-    same-provided (c .before .before .before .parse-interface .result) _ _ (decode-interface (s .args .interface .now)) (c .before .provided .given .1)
+    same-interface (c .before .before .before .parse-interface .result) _ _ (decode-interface (s .args .interface .now)) (c .before .provided .given .1)
     (c .before .before .before .parse-interface .ensures ∙ interface-parsed (s .args .interface .now) (s .pre))
 
-pub provided-methods-spec : {M : Type 1} → statement M
-provided-methods-spec = tie.close (tie.spec parse-interface-requires enum-known-provided returns returns-2)
+pub method-sets-spec : {M : Type 1} → statement M
+method-sets-spec =
+    tie.close (tie.spec parse-interface-requires enum-known-provided returns returns-2)
