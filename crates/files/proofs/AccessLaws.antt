@@ -48,6 +48,10 @@ pub same-interface : (x : Parsed) (a b : ℕ) (I : Interface) → x ≡ Interfac
     → (a ≡ I .provided) × (b ≡ I .required)
 same-interface x a b I p q = (cc, cc)
 
+-- an interface is its two sets
+pub of-sets : (a b : ℕ) (I : Interface) → a ≡ I .provided → b ≡ I .required → record { provided = a; required = b } ≡ I
+of-sets a b I p q = λ t. record { provided = p t; required = q t }
+
 pub held-edge : (x : EdgeAt) (u : GraphEdge) (e : Edge) → x ≡ EdgeIs u → x ≡ EdgeIs (edge-held e) → u ≡ edge-held e
 held-edge x u e p q = cc
 

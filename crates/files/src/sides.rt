@@ -8,43 +8,42 @@ ghost use Rattle.files.specs.Decode.{decode-interface};
 ghost use Rattle.files.specs.Sides.{foreign-node, foreign-call, foreign-of, first-foreign-record, shares, lacks, unprovided};
 ghost use Rattle.files.specs.Access.{GraphFile, InterfaceFile};
 use crate::interface::in_set;
+use crate::interface::provided_methods;
 use crate::interface::provides;
-use crate::interface::requires_method;
+use crate::interface::required_methods;
 use crate::parse::parse_edge;
 use crate::parse::parse_node;
 use crate::record::Parsed;
 use crate::record::Record;
 
 // A node whose method is not provided.
-fn foreign_node(p: Parsed, interface: &[u8]) -> bool
-    requires { ⌜ InterfaceFile (now interface) ⌝ }
-    ensures { λ r. ⌜ r ≡ foreign-node (decode-interface (now (interface .entry))) p ⌝ }
+fn foreign_node(p: Parsed, provided: u8, required: u8) -> bool
+    ensures { λ r. ⌜ r ≡ foreign-node (record { provided = provided; required = required }) p ⌝ }
 {
     let Parsed::Node { method, .. } = p else {
         return false;
     };
-    !provides(interface, method)
+    !in_set(provided, method)
 }
 
 // An edge that calls a method that is not required.
-fn foreign_call(p: Parsed, interface: &[u8]) -> bool
-    requires { ⌜ InterfaceFile (now interface) ⌝ }
-    ensures { λ r. ⌜ r ≡ foreign-call (decode-interface (now (interface .entry))) p ⌝ }
+fn foreign_call(p: Parsed, provided: u8, required: u8) -> bool
+    ensures { λ r. ⌜ r ≡ foreign-call (record { provided = provided; required = required }) p ⌝ }
 {
     let Parsed::Edge { label, .. } = p else {
         return false;
     };
-    (0 < label) & !requires_method(interface, label)
+    (0 < label) & !in_set(required, label)
 }
 
-// Record i is not of the interface.
-fn foreign(graph: &[u8], i: usize, interface: &[u8]) -> bool
-    requires { ⌜ (InterfaceFile (now interface)) × (6 * i + 6 ≤ length (now graph)) ⌝ }
-    ensures { λ r. ⌜ r ≡ foreign-of (decode-interface (now (interface .entry))) (parsed-at (now (graph .entry)) i) ⌝ }
+// Record i is not of the interface with these sets.
+fn foreign(graph: &[u8], i: usize, provided: u8, required: u8) -> bool
+    requires { ⌜ 6 * i + 6 ≤ length (now graph) ⌝ }
+    ensures { λ r. ⌜ r ≡ foreign-of (record { provided = provided; required = required }) (parsed-at (now (graph .entry)) i) ⌝ }
 {
     let node = parse_node(graph, i);
     let edge = parse_edge(graph, i);
-    foreign_node(node, interface) | foreign_call(edge, interface)
+    foreign_node(node, provided, required) | foreign_call(edge, provided, required)
 }
 
 // The first record of the graph that is not of the interface, or the count of records.
@@ -52,10 +51,12 @@ pub fn first_foreign(graph: &[u8], interface: &[u8]) -> usize
     requires { ⌜ (GraphFile (now graph)) × (InterfaceFile (now interface)) ⌝ }
     ensures { λ r. ⌜ r ≡ first-foreign-record (decode-interface (now (interface .entry))) (now (graph .entry)) ⌝ }
 {
+    let provided = provided_methods(interface);
+    let required = required_methods(interface);
     let n = graph.len() / Record::LEN;
     let mut i = 0;
     while i < n {
-        if foreign(graph, i, interface) {
+        if foreign(graph, i, provided, required) {
             return i;
         }
         i += 1;

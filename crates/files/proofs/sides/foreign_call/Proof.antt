@@ -9,15 +9,15 @@ enum-known-p c = search needs
 
 -- src/sides.rt:32:9
 returns : tie.Need-returns
-returns c = no-foreign-call _ (c .before .before .args .p) (c .match .keys2)
+returns c = no-foreign-call _ (c .before .args .p) (c .match .keys2)
 
 -- src/sides.rt:34:20
-requires-method-requires : tie.Need-requires-method-requires
-requires-method-requires c κs = search needs
+in-set-requires : tie.Need-in-set-requires
+in-set-requires c κs = search needs
 
 -- src/sides.rt:27:1
 returns-2 : tie.Need-returns-2
-returns-2 c = rw (c .before .before .p .given .1, c .requires-method .ensures)
+returns-2 c = rw (c .before .before .p .given .1, c .in-set .ensures)
 
 pub foreign-call-spec : {M : Type 1} → statement M
-foreign-call-spec = tie.close (tie.spec enum-known-p returns requires-method-requires returns-2)
+foreign-call-spec = tie.close (tie.spec enum-known-p returns in-set-requires returns-2)

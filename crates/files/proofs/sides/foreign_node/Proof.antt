@@ -9,15 +9,15 @@ enum-known-p c = search needs
 
 -- src/sides.rt:21:9
 returns : tie.Need-returns
-returns c = no-foreign-node _ (c .before .before .args .p) (c .match .keys2)
+returns c = no-foreign-node _ (c .before .args .p) (c .match .keys2)
 
 -- src/sides.rt:23:6
-provides-requires : tie.Need-provides-requires
-provides-requires c κs = search needs
+in-set-requires : tie.Need-in-set-requires
+in-set-requires c κs = search needs
 
 -- src/sides.rt:16:1
 returns-2 : tie.Need-returns-2
-returns-2 c = rw (c .before .before .p .given .1, c .provides .ensures)
+returns-2 c = rw (c .before .before .p .given .1, c .in-set .ensures)
 
 pub foreign-node-spec : {M : Type 1} → statement M
-foreign-node-spec = tie.close (tie.spec enum-known-p returns provides-requires returns-2)
+foreign-node-spec = tie.close (tie.spec enum-known-p returns in-set-requires returns-2)
