@@ -1,11 +1,13 @@
--- A record that does not read as an edge, a rule, a node or a wrong one: what each test then says. The tags are those of the enum's variants, in order.
-use mathlib.Core.Path.{_≡_, refl, subst, _∙_}
-use mathlib.Core.Bool.{Bool, false}
+-- A record that does not read as the kind looked for: a test that asks for that kind only says of it what it says of Other. The tags are those of the enum's variants, in order.
+use mathlib.Core.Path.{_≡_, refl, sym, ap, subst, _∙_}
+use mathlib.Core.Bool.{Bool, false, cond}
 use mathlib.Core.List.{List, [], _∷_}
-use Prim.Native.Nat.{ℕ}
+use Prim.Native.Nat.{ℕ, _≤_}
 use native.Mathlib.Omega.{arith}
-use types.Run.{OneOf, hit, miss}
+use lib.Dec.{eqb}
+use types.Run.{OneOf, miss}
 use denote.Enum.Declared.{tagOf}
+use borrow.Author.Tests.{ne-eqb}
 use Rattle.files.specs.declared.record.Record.{Record}
 use Rattle.files.specs.declared.record.Parsed.{Parsed}
 use Rattle.files.specs.declared.record.Parsed.the-variants.{Node, Edge, Row, Rule, Interface, Wrong, Other}
@@ -16,20 +18,76 @@ use Rattle.files.specs.Sides.{foreign-node, foreign-call}
 use Rattle.files.specs.Checking.{is-wrong, edge-out, edges-out, rule-out, rules-out, edge-past, row-past, method-of, crossing-of, is-or-of}
 use Rattle.files.proofs.record.Parsed
 
-abbrev pub but-node : List ℕ
-but-node = 1 ∷ 2 ∷ 3 ∷ 4 ∷ 5 ∷ 6 ∷ []
+-- ---- the tags of the records that do not read as kind k
 
-abbrev pub but-edge : List ℕ
-but-edge = 0 ∷ 2 ∷ 3 ∷ 4 ∷ 5 ∷ 6 ∷ []
+abbrev but-tag : Bool → ℕ → List ℕ → List ℕ
+but-tag b t l = cond b l (t ∷ l)
 
-abbrev pub but-row : List ℕ
-but-row = 0 ∷ 1 ∷ 3 ∷ 4 ∷ 5 ∷ 6 ∷ []
+abbrev pub but : ℕ → List ℕ
+but k = but-tag (eqb k 1) 0 (but-tag (eqb k 2) 1 (but-tag (eqb k 3) 2 (but-tag (eqb k 4) 3 (but-tag (eqb k 5) 4 (but-tag (eqb k 0) 5 (but-tag (eqb k 0) 6 []))))))
 
-abbrev pub but-rule : List ℕ
-but-rule = 0 ∷ 1 ∷ 2 ∷ 4 ∷ 5 ∷ 6 ∷ []
+missed : (k t : ℕ) (n : ℕ) → (OneOf (but n) t → ⊥) → OneOf (but k) t → n ≡ k → ⊥
+missed k t n h o e = h (subst (λ (i : ℕ). OneOf (but i) t) (sym e) o)
 
-abbrev pub but-interface : List ℕ
-but-interface = 0 ∷ 1 ∷ 2 ∷ 3 ∷ 5 ∷ 6 ∷ []
+not-kind : (k : ℕ) (x : Parsed) → OneOf (but k) (tagOf Parsed.the-type x) → kind-read x ≡ k → ⊥
+not-kind k (Node m r e) o = missed k 0 1 (miss (but 1) 0 tt) o
+not-kind k (Edge f l t) o = missed k 1 2 (miss (but 2) 1 tt) o
+not-kind k (Row x a b) o = missed k 2 3 (miss (but 3) 2 tt) o
+not-kind k (Rule q v m n s) o = missed k 3 4 (miss (but 4) 3 tt) o
+not-kind k (Interface p q) o = missed k 4 5 (miss (but 5) 4 tt) o
+not-kind k Wrong o = missed k 5 0 (miss (but 0) 5 tt) o
+not-kind k Other o = missed k 6 0 (miss (but 0) 6 tt) o
+
+-- a record that is known to read as one kind does not read as another
+pub never : (k : ℕ) (x y : Parsed) → x ≡ y → kind-read y ≡ k → OneOf (but k) (tagOf Parsed.the-type x) → ⊥
+never k x y p e o = not-kind k x o (ap kind-read p ∙ e)
+
+-- ---- a test that asks for kind k only
+
+-- what a test says of each record; of kind k, what it says of Other
+pub record Said (A : Type 0) : Type 0 where
+  pub node : ℕ → Bool → Bool → A
+  pub edge : ℕ → ℕ → ℕ → A
+  pub row : ℕ → ℕ → ℕ → A
+  pub rule : ℕ → ℕ → ℕ → ℕ → ℕ → A
+  pub interface : ℕ → ℕ → A
+  pub wrong : A
+
+abbrev pub said : {A : Type 0} → ℕ → (Parsed → A) → Said A
+said k f = record {
+  node = λ m r e. cond (eqb k 1) (f Other) (f (Node m r e));
+  edge = λ g l h. cond (eqb k 2) (f Other) (f (Edge g l h));
+  row = λ o a b. cond (eqb k 3) (f Other) (f (Row o a b));
+  rule = λ q v m n s. cond (eqb k 4) (f Other) (f (Rule q v m n s));
+  interface = λ p q. cond (eqb k 5) (f Other) (f (Interface p q));
+  wrong = f Wrong;
+}
+
+-- a test that says one thing of all records but those of kind k
+abbrev pub Asks : {A : Type 0} → ℕ → (Parsed → A) → Type 0
+Asks k f = said k f ≡ said k (λ x. f Other)
+
+kept : {A : Type 0} (k n : ℕ) (v w : A) → (n ≡ k → ⊥) → cond (eqb k n) v w ≡ cond (eqb k n) v v → v ≡ w
+kept k n v w h p = sym (subst (λ (b : Bool). cond b v w ≡ cond b v v) (ne-eqb k n (λ q. h (sym q))) p)
+
+pub elsewhere : {A : Type 0} (k : ℕ) (f : Parsed → A) → Asks k f → (x : Parsed) → (kind-read x ≡ k → ⊥) → f Other ≡ f x
+elsewhere {A} k f a (Node m r e) h = kept k 1 _ _ h (ap (λ (s : Said A). s .node m r e) a)
+elsewhere {A} k f a (Edge g l t) h = kept k 2 _ _ h (ap (λ (s : Said A). s .edge g l t) a)
+elsewhere {A} k f a (Row o c b) h = kept k 3 _ _ h (ap (λ (s : Said A). s .row o c b) a)
+elsewhere {A} k f a (Rule q v m n t) h = kept k 4 _ _ h (ap (λ (s : Said A). s .rule q v m n t) a)
+elsewhere {A} k f a (Interface p q) h = kept k 5 _ _ h (ap (λ (s : Said A). s .interface p q) a)
+elsewhere {A} k f a Wrong h = sym (ap (λ (s : Said A). s .wrong) a)
+elsewhere {A} k f a Other h = refl
+
+-- the same by the record's tag
+pub not-read : {A : Type 0} (k : ℕ) (f : Parsed → A) → Asks k f → (x : Parsed) → OneOf (but k) (tagOf Parsed.the-type x) → f Other ≡ f x
+not-read k f a x o = elsewhere k f a x (not-kind k x o)
+
+-- the same of a record that is parsed as kind k only
+pub asked-as : {A : Type 0} (k : ℕ) (f : Parsed → A) → Asks k f → 1 ≤ k → (r : Record) → f (parsed-as k r) ≡ f (parsed r)
+asked-as k f a h r = as-same k r f h (elsewhere k f a)
+
+-- ---- the tests
 
 abbrev pub but-wrong : List ℕ
 but-wrong = 0 ∷ 1 ∷ 2 ∷ 3 ∷ 4 ∷ 6 ∷ []
@@ -43,207 +101,51 @@ not-wrong (Interface p q) k = refl
 not-wrong Wrong k = absurd (miss but-wrong 5 tt k)
 not-wrong Other k = refl
 
-pub no-first-edge : (x y : Parsed) → OneOf but-edge (tagOf Parsed.the-type x) → false ≡ edges-out x y
-no-first-edge (Node m r e) y k = refl
-no-first-edge (Edge f l t) y k = absurd (miss but-edge 1 tt k)
-no-first-edge (Row o a b) y k = refl
-no-first-edge (Rule q v m n p) y k = refl
-no-first-edge (Interface p q) y k = refl
-no-first-edge Wrong y k = refl
-no-first-edge Other y k = refl
-
-pub no-next-edge : (g k u : ℕ) (x : Parsed) → OneOf but-edge (tagOf Parsed.the-type x) → false ≡ edge-out g k u x
-no-next-edge g c u (Node m r e) k = refl
-no-next-edge g c u (Edge f l t) k = absurd (miss but-edge 1 tt k)
-no-next-edge g c u (Row o a b) k = refl
-no-next-edge g c u (Rule q v m n p) k = refl
-no-next-edge g c u (Interface p q) k = refl
-no-next-edge g c u Wrong k = refl
-no-next-edge g c u Other k = refl
-
-pub no-first-rule : (x y : Parsed) → OneOf but-rule (tagOf Parsed.the-type x) → false ≡ rules-out x y
-no-first-rule (Node m r e) y k = refl
-no-first-rule (Edge f l t) y k = refl
-no-first-rule (Row o a b) y k = refl
-no-first-rule (Rule q v m n p) y k = absurd (miss but-rule 3 tt k)
-no-first-rule (Interface p q) y k = refl
-no-first-rule Wrong y k = refl
-no-first-rule Other y k = refl
-
-pub no-next-rule : (s w c d : ℕ) (x : Parsed) → OneOf but-rule (tagOf Parsed.the-type x) → false ≡ rule-out s w c d x
-no-next-rule s w c d (Node m r e) k = refl
-no-next-rule s w c d (Edge f l t) k = refl
-no-next-rule s w c d (Row o a b) k = refl
-no-next-rule s w c d (Rule q v m n p) k = absurd (miss but-rule 3 tt k)
-no-next-rule s w c d (Interface p q) k = refl
-no-next-rule s w c d Wrong k = refl
-no-next-rule s w c d Other k = refl
-
-pub no-edge-past : (n : ℕ) (x : Parsed) → OneOf but-edge (tagOf Parsed.the-type x) → false ≡ edge-past n x
-no-edge-past i (Node m r e) k = refl
-no-edge-past i (Edge f l t) k = absurd (miss but-edge 1 tt k)
-no-edge-past i (Row o a b) k = refl
-no-edge-past i (Rule q v m n p) k = refl
-no-edge-past i (Interface p q) k = refl
-no-edge-past i Wrong k = refl
-no-edge-past i Other k = refl
-
-pub no-row-past : (n : ℕ) (x : Parsed) → OneOf but-row (tagOf Parsed.the-type x) → false ≡ row-past n x
-no-row-past i (Node m r e) k = refl
-no-row-past i (Edge f l t) k = refl
-no-row-past i (Row o a b) k = absurd (miss but-row 2 tt k)
-no-row-past i (Rule q v m n p) k = refl
-no-row-past i (Interface p q) k = refl
-no-row-past i Wrong k = refl
-no-row-past i Other k = refl
-
-pub no-crossing : (l : List ℕ) (n : ℕ) (x : Parsed) → OneOf but-edge (tagOf Parsed.the-type x) → false ≡ crossing-of l n x
-no-crossing h i (Node m r e) k = refl
-no-crossing h i (Edge f l t) k = absurd (miss but-edge 1 tt k)
-no-crossing h i (Row o a b) k = refl
-no-crossing h i (Rule q v m n p) k = refl
-no-crossing h i (Interface p q) k = refl
-no-crossing h i Wrong k = refl
-no-crossing h i Other k = refl
-
-pub no-method : (x : Parsed) → OneOf but-node (tagOf Parsed.the-type x) → 0 ≡ method-of x
-no-method (Node m r e) k = absurd (miss but-node 0 tt k)
-no-method (Edge f l t) k = refl
-no-method (Row o a b) k = refl
-no-method (Rule q v m n p) k = refl
-no-method (Interface p q) k = refl
-no-method Wrong k = refl
-no-method Other k = refl
-
-pub no-or : (x : Parsed) → OneOf but-row (tagOf Parsed.the-type x) → false ≡ is-or-of x
-no-or (Node m r e) k = refl
-no-or (Edge f l t) k = refl
-no-or (Row o a b) k = absurd (miss but-row 2 tt k)
-no-or (Rule q v m n p) k = refl
-no-or (Interface p q) k = refl
-no-or Wrong k = refl
-no-or Other k = refl
-
-pub no-foreign-node : (I : Sets) (x : Parsed) → OneOf but-node (tagOf Parsed.the-type x) → false ≡ foreign-node I x
-no-foreign-node I (Node m r e) k = absurd (miss but-node 0 tt k)
-no-foreign-node I (Edge f l t) k = refl
-no-foreign-node I (Row o a b) k = refl
-no-foreign-node I (Rule q v m n s) k = refl
-no-foreign-node I (Interface p q) k = refl
-no-foreign-node I Wrong k = refl
-no-foreign-node I Other k = refl
-
-pub no-foreign-call : (I : Sets) (x : Parsed) → OneOf but-edge (tagOf Parsed.the-type x) → false ≡ foreign-call I x
-no-foreign-call I (Node m r e) k = refl
-no-foreign-call I (Edge f l t) k = absurd (miss but-edge 1 tt k)
-no-foreign-call I (Row o a b) k = refl
-no-foreign-call I (Rule q v m n s) k = refl
-no-foreign-call I (Interface p q) k = refl
-no-foreign-call I Wrong k = refl
-no-foreign-call I Other k = refl
-
--- ---- a record that does not read as the kind looked for
-
-not-node : (x : Parsed) → (kind-read x ≡ 1 → ⊥) → OneOf but-node (tagOf Parsed.the-type x)
-not-node (Node m r e) h = absurd (h refl)
-not-node (Edge f l t) h = hit but-node 1 tt
-not-node (Row o a b) h = hit but-node 2 tt
-not-node (Rule q v m n s) h = hit but-node 3 tt
-not-node (Interface p q) h = hit but-node 4 tt
-not-node Wrong h = hit but-node 5 tt
-not-node Other h = hit but-node 6 tt
-
-not-edge : (x : Parsed) → (kind-read x ≡ 2 → ⊥) → OneOf but-edge (tagOf Parsed.the-type x)
-not-edge (Node m r e) h = hit but-edge 0 tt
-not-edge (Edge f l t) h = absurd (h refl)
-not-edge (Row o a b) h = hit but-edge 2 tt
-not-edge (Rule q v m n s) h = hit but-edge 3 tt
-not-edge (Interface p q) h = hit but-edge 4 tt
-not-edge Wrong h = hit but-edge 5 tt
-not-edge Other h = hit but-edge 6 tt
-
-not-row : (x : Parsed) → (kind-read x ≡ 3 → ⊥) → OneOf but-row (tagOf Parsed.the-type x)
-not-row (Node m r e) h = hit but-row 0 tt
-not-row (Edge f l t) h = hit but-row 1 tt
-not-row (Row o a b) h = absurd (h refl)
-not-row (Rule q v m n s) h = hit but-row 3 tt
-not-row (Interface p q) h = hit but-row 4 tt
-not-row Wrong h = hit but-row 5 tt
-not-row Other h = hit but-row 6 tt
-
-not-rule : (x : Parsed) → (kind-read x ≡ 4 → ⊥) → OneOf but-rule (tagOf Parsed.the-type x)
-not-rule (Node m r e) h = hit but-rule 0 tt
-not-rule (Edge f l t) h = hit but-rule 1 tt
-not-rule (Row o a b) h = hit but-rule 2 tt
-not-rule (Rule q v m n s) h = absurd (h refl)
-not-rule (Interface p q) h = hit but-rule 4 tt
-not-rule Wrong h = hit but-rule 5 tt
-not-rule Other h = hit but-rule 6 tt
-
--- ---- tests on a record parsed as the one kind that they ask for
-
-no-second-edge : (x y : Parsed) → OneOf but-edge (tagOf Parsed.the-type y) → edges-out x Other ≡ edges-out x y
+no-second-edge : (x y : Parsed) → (kind-read y ≡ 2 → ⊥) → edges-out x Other ≡ edges-out x y
 no-second-edge (Node m r e) y k = refl
-no-second-edge (Edge f l t) y k = no-next-edge f l t y k
+no-second-edge (Edge f l t) y k = elsewhere 2 (edge-out f l t) refl y k
 no-second-edge (Row o a b) y k = refl
 no-second-edge (Rule q v m n s) y k = refl
 no-second-edge (Interface p q) y k = refl
 no-second-edge Wrong y k = refl
 no-second-edge Other y k = refl
 
-no-second-rule : (x y : Parsed) → OneOf but-rule (tagOf Parsed.the-type y) → rules-out x Other ≡ rules-out x y
+no-second-rule : (x y : Parsed) → (kind-read y ≡ 4 → ⊥) → rules-out x Other ≡ rules-out x y
 no-second-rule (Node m r e) y k = refl
 no-second-rule (Edge f l t) y k = refl
 no-second-rule (Row o a b) y k = refl
-no-second-rule (Rule q v m n s) y k = no-next-rule q v m n y k
+no-second-rule (Rule q v m n s) y k = elsewhere 4 (rule-out q v m n) refl y k
 no-second-rule (Interface p q) y k = refl
 no-second-rule Wrong y k = refl
 no-second-rule Other y k = refl
 
 pub edges-as : (r s : Record) → edges-out (parsed-as 2 r) (parsed-as 2 s) ≡ edges-out (parsed r) (parsed s)
 edges-as r s =
-    as-same 2 r (λ (x : Parsed). edges-out x (parsed-as 2 s)) (omega arith) (λ x h. no-first-edge x (parsed-as 2 s) (not-edge x h))
-    ∙ as-same 2 s (edges-out (parsed r)) (omega arith) (λ y h. no-second-edge (parsed r) y (not-edge y h))
+    asked-as 2 (λ (x : Parsed). edges-out x (parsed-as 2 s)) refl (omega arith) r
+    ∙ as-same 2 s (edges-out (parsed r)) (omega arith) (no-second-edge (parsed r))
 
 pub rules-as : (r s : Record) → rules-out (parsed-as 4 r) (parsed-as 4 s) ≡ rules-out (parsed r) (parsed s)
 rules-as r s =
-    as-same 4 r (λ (x : Parsed). rules-out x (parsed-as 4 s)) (omega arith) (λ x h. no-first-rule x (parsed-as 4 s) (not-rule x h))
-    ∙ as-same 4 s (rules-out (parsed r)) (omega arith) (λ y h. no-second-rule (parsed r) y (not-rule y h))
+    asked-as 4 (λ (x : Parsed). rules-out x (parsed-as 4 s)) refl (omega arith) r
+    ∙ as-same 4 s (rules-out (parsed r)) (omega arith) (no-second-rule (parsed r))
 
 pub edge-past-as : (n : ℕ) (r : Record) → edge-past n (parsed-as 2 r) ≡ edge-past n (parsed r)
-edge-past-as n r = as-same 2 r (edge-past n) (omega arith) (λ x h. no-edge-past n x (not-edge x h))
+edge-past-as n = asked-as 2 (edge-past n) refl (omega arith)
 
 pub row-past-as : (n : ℕ) (r : Record) → row-past n (parsed-as 3 r) ≡ row-past n (parsed r)
-row-past-as n r = as-same 3 r (row-past n) (omega arith) (λ x h. no-row-past n x (not-row x h))
+row-past-as n = asked-as 3 (row-past n) refl (omega arith)
 
 pub crossing-as : (l : List ℕ) (n : ℕ) (r : Record) → crossing-of l n (parsed-as 2 r) ≡ crossing-of l n (parsed r)
-crossing-as l n r = as-same 2 r (crossing-of l n) (omega arith) (λ x h. no-crossing l n x (not-edge x h))
+crossing-as l n = asked-as 2 (crossing-of l n) refl (omega arith)
 
 pub method-as : (r : Record) → method-of (parsed-as 1 r) ≡ method-of (parsed r)
-method-as r = as-same 1 r method-of (omega arith) (λ x h. no-method x (not-node x h))
+method-as = asked-as 1 method-of refl (omega arith)
 
 pub or-as : (r : Record) → is-or-of (parsed-as 3 r) ≡ is-or-of (parsed r)
-or-as r = as-same 3 r is-or-of (omega arith) (λ x h. no-or x (not-row x h))
+or-as = asked-as 3 is-or-of refl (omega arith)
 
 pub foreign-node-as : (I : Sets) (r : Record) → foreign-node I (parsed-as 1 r) ≡ foreign-node I (parsed r)
-foreign-node-as I r = as-same 1 r (foreign-node I) (omega arith) (λ x h. no-foreign-node I x (not-node x h))
+foreign-node-as I = asked-as 1 (foreign-node I) refl (omega arith)
 
 pub foreign-call-as : (I : Sets) (r : Record) → foreign-call I (parsed-as 2 r) ≡ foreign-call I (parsed r)
-foreign-call-as I r = as-same 2 r (foreign-call I) (omega arith) (λ x h. no-foreign-call I x (not-edge x h))
-
--- ---- a record that is known to read as one kind does not read as another
-
-pub never-node : (x : Parsed) (m : ℕ) (r e : Bool) → x ≡ Node m r e → OneOf but-node (tagOf Parsed.the-type x) → ⊥
-never-node x m r e p k = miss but-node 0 tt (subst (λ (y : Parsed). OneOf but-node (tagOf Parsed.the-type y)) p k)
-
-pub never-edge : (x : Parsed) (f l t : ℕ) → x ≡ Edge f l t → OneOf but-edge (tagOf Parsed.the-type x) → ⊥
-never-edge x f l t p k = miss but-edge 1 tt (subst (λ (y : Parsed). OneOf but-edge (tagOf Parsed.the-type y)) p k)
-
-pub never-row : (x : Parsed) (o a b : ℕ) → x ≡ Row o a b → OneOf but-row (tagOf Parsed.the-type x) → ⊥
-never-row x o a b p k = miss but-row 2 tt (subst (λ (y : Parsed). OneOf but-row (tagOf Parsed.the-type y)) p k)
-
-pub never-rule : (x : Parsed) (q v m n s : ℕ) → x ≡ Rule q v m n s → OneOf but-rule (tagOf Parsed.the-type x) → ⊥
-never-rule x q v m n s p k = miss but-rule 3 tt (subst (λ (y : Parsed). OneOf but-rule (tagOf Parsed.the-type y)) p k)
-
-pub never-interface : (x : Parsed) (u v : ℕ) → x ≡ Interface u v → OneOf but-interface (tagOf Parsed.the-type x) → ⊥
-never-interface x u v p k = miss but-interface 4 tt (subst (λ (y : Parsed). OneOf but-interface (tagOf Parsed.the-type y)) p k)
+foreign-call-as I = asked-as 2 (foreign-call I) refl (omega arith)

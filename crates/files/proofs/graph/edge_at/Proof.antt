@@ -2,9 +2,9 @@ use lib.ListN.{getD}
 use Rattle.files.specs.Graph.{no-edge}
 use Rattle.files.specs.Decode.{decode-graph}
 use Rattle.files.proofs.AccessLaws.{same-edge}
-use mathlib.Core.Path.{_∙_}
+use mathlib.Core.Path.{refl, _∙_}
 use Rattle.files.specs.Access.Laws.{edge-parsed}
-use Rattle.files.proofs.Tags.{never-edge}
+use Rattle.files.proofs.Tags.{never}
 use borrow.Author.Needs.{needs}
 use Rattle.files.proofs.graph.edge_at.Statement.{statement}
 use Rattle.files.proofs.graph.edge_at.Tie as tie
@@ -24,7 +24,7 @@ at-requires c κs = search needs
 returns : tie.Need-returns
 returns c =
     let s = c .before .before .before .before in
-    absurd (never-edge _ _ _ _ (c .before .before .parse-edge .ensures ∙ edge-parsed (s .args .graph .now) (s .pre .0) (s .args .nodes) (s .args .j) (s .pre .1) (s .pre .2)) (c .before .match .keys2))
+    absurd (never 2 _ _ (c .before .before .parse-edge .ensures ∙ edge-parsed (s .args .graph .now) (s .pre .0) (s .args .nodes) (s .args .j) (s .pre .1) (s .pre .2)) refl (c .before .match .keys2))
 
 returns-2 : tie.Need-returns-2
 returns-2 c =

@@ -1,10 +1,10 @@
 use Rattle.files.specs.Graph.{node}
 use Rattle.files.specs.Decode.{decode-graph}
 use Rattle.files.proofs.AccessLaws.{same-node}
-use mathlib.Core.Path.{_∙_}
+use mathlib.Core.Path.{refl, _∙_}
 use native.Mathlib.Omega.{arith}
 use Rattle.files.specs.Access.Laws.{nodes-few, node-parsed}
-use Rattle.files.proofs.Tags.{never-node}
+use Rattle.files.proofs.Tags.{never}
 use borrow.Author.Needs.{needs}
 use Rattle.files.proofs.graph.node_at.Statement.{statement}
 use Rattle.files.proofs.graph.node_at.Tie as tie
@@ -21,7 +21,7 @@ at-requires c κs = search needs
 returns : tie.Need-returns
 returns c =
     let s = c .before .before .before .before in
-    absurd (never-node _ _ _ _ (c .before .before .parse-node .ensures ∙ node-parsed (s .args .graph .now) (s .pre .0) (s .args .g) (s .pre .1)) (c .before .match .keys2))
+    absurd (never 1 _ _ (c .before .before .parse-node .ensures ∙ node-parsed (s .args .graph .now) (s .pre .0) (s .args .g) (s .pre .1)) refl (c .before .match .keys2))
 
 returns-2 : tie.Need-returns-2
 returns-2 c =

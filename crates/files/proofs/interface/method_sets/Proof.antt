@@ -1,8 +1,8 @@
-use mathlib.Core.Path.{_∙_}
+use mathlib.Core.Path.{refl, _∙_}
 use native.Mathlib.Omega.{arith}
 use Rattle.files.specs.Decode.{decode-interface}
 use Rattle.files.specs.Access.Laws.{interface-count, interface-parsed}
-use Rattle.files.proofs.Tags.{never-interface}
+use Rattle.files.proofs.Tags.{never}
 use Rattle.files.proofs.AccessLaws.{same-interface}
 use borrow.Author.Needs.{needs}
 use Rattle.files.proofs.interface.method_sets.Statement.{statement}
@@ -20,7 +20,7 @@ enum-known-provided c = search needs
 returns : tie.Need-returns
 returns c =
     let s = c .before .before .before in
-    absurd (never-interface _ _ _ (c .before .parse-interface .ensures ∙ interface-parsed (s .args .interface .now) (s .pre)) (c .match .keys2))
+    absurd (never 5 _ _ (c .before .parse-interface .ensures ∙ interface-parsed (s .args .interface .now) (s .pre)) refl (c .match .keys2))
 
 -- src/interface.rt:29:1
 returns-2 : tie.Need-returns-2

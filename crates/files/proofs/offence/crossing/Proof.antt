@@ -1,4 +1,4 @@
-use Rattle.files.proofs.Tags.{no-crossing, crossing-as}
+use Rattle.files.proofs.Tags.{not-read, crossing-as}
 use Rattle.files.specs.Checking.{crossing-of}
 use mathlib.Core.Path.{refl, ap, _∙_}
 use borrow.Author.Tests.{lt-ltb, le-ltb}
@@ -18,7 +18,7 @@ enum-known-from c = search needs
 returns : tie.Need-returns
 returns c =
     let s = c .before .before .before .args in
-    no-crossing (s .records .now) (s .n) (c .before .parse-edge .result) (c .match .keys2) ∙ ap (crossing-of (s .records .now) (s .n)) (c .before .parse-edge .ensures) ∙ crossing-as (s .records .now) (s .n) _
+    not-read 2 (crossing-of (s .records .now) (s .n)) refl (c .before .parse-edge .result) (c .match .keys2) ∙ ap (crossing-of (s .records .now) (s .n)) (c .before .parse-edge .ensures) ∙ crossing-as (s .records .now) (s .n) _
 
 -- src/offence.rt:183:9
 returns-2 : tie.Need-returns-2

@@ -1,4 +1,5 @@
-use Rattle.files.proofs.Tags.{no-edge-past}
+use Rattle.files.specs.Checking.{edge-past}
+use Rattle.files.proofs.Tags.{not-read}
 use mathlib.Core.Path.{refl}
 use borrow.Author.Needs.{needs}
 use Rattle.files.proofs.offence.edge_past.Statement.{statement}
@@ -10,7 +11,7 @@ enum-known-p c = search needs
 
 -- src/offence.rt:145:9
 returns : tie.Need-returns
-returns c = no-edge-past (c .before .args .n) (c .before .args .p) (c .match .keys2)
+returns c = not-read 2 (edge-past (c .before .args .n)) refl (c .before .args .p) (c .match .keys2)
 
 -- src/offence.rt:141:1
 returns-2 : tie.Need-returns-2

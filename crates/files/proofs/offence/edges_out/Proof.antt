@@ -1,5 +1,7 @@
-use Rattle.files.proofs.Tags.{no-first-edge, no-next-edge}
-use mathlib.Core.Path.{ap}
+use Rattle.files.specs.declared.record.Parsed.{Parsed}
+use Rattle.files.specs.Checking.{edges-out, edge-out}
+use Rattle.files.proofs.Tags.{not-read}
+use mathlib.Core.Path.{refl, ap}
 use mathlib.Core.Bool.{not}
 use borrow.Author.Needs.{needs}
 use Rattle.files.proofs.offence.edges_out.Statement.{statement}
@@ -11,7 +13,7 @@ enum-known-p c = search needs
 
 -- src/offence.rt:82:9
 returns : tie.Need-returns
-returns c = no-first-edge (c .before .args .p) (c .before .args .q) (c .match .keys2)
+returns c = not-read 2 (λ (x : Parsed). edges-out x (c .before .args .q)) refl (c .before .args .p) (c .match .keys2)
 
 -- src/offence.rt:85:15
 enum-known-q : tie.Need-enum-known-q
@@ -19,7 +21,7 @@ enum-known-q c = search needs
 
 -- src/offence.rt:90:9
 returns-2 : tie.Need-returns-2
-returns-2 c = rw (c .before .before .p .given .1) (no-next-edge _ _ _ (c .before .before .before .before .args .q) (c .match2 .keys2))
+returns-2 c = rw (c .before .before .p .given .1) (not-read 2 (edge-out _ _ _) refl (c .before .before .before .before .args .q) (c .match2 .keys2))
 
 -- src/offence.rt:92:6
 before3-requires : tie.Need-before3-requires

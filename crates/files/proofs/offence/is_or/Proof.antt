@@ -1,4 +1,5 @@
-use Rattle.files.proofs.Tags.{no-or}
+use Rattle.files.specs.Checking.{is-or-of}
+use Rattle.files.proofs.Tags.{not-read}
 use mathlib.Core.Path.{refl}
 use borrow.Author.Needs.{needs}
 use Rattle.files.proofs.offence.is_or.Statement.{statement}
@@ -10,7 +11,7 @@ enum-known-p c = search needs
 
 -- src/offence.rt:198:9
 returns : tie.Need-returns
-returns c = no-or (c .before .args .p) (c .match .keys2)
+returns c = not-read 3 is-or-of refl (c .before .args .p) (c .match .keys2)
 
 -- src/offence.rt:194:1
 returns-2 : tie.Need-returns-2

@@ -1,6 +1,6 @@
-use Rattle.files.proofs.Tags.{no-method, method-as}
+use Rattle.files.proofs.Tags.{not-read, method-as}
 use Rattle.files.specs.Checking.{method-of}
-use mathlib.Core.Path.{sym, ap, _∙_}
+use mathlib.Core.Path.{refl, sym, ap, _∙_}
 use borrow.Author.Needs.{needs}
 use Rattle.files.proofs.offence.method_of.Statement.{statement}
 use Rattle.files.proofs.offence.method_of.Tie as tie
@@ -15,7 +15,7 @@ enum-known-method c = search needs
 
 -- src/offence.rt:169:9
 returns : tie.Need-returns
-returns c = no-method (c .before .parse-node .result) (c .match .keys2) ∙ ap method-of (c .before .parse-node .ensures) ∙ method-as _
+returns c = not-read 1 method-of refl (c .before .parse-node .result) (c .match .keys2) ∙ ap method-of (c .before .parse-node .ensures) ∙ method-as _
 
 -- src/offence.rt:164:1
 returns-2 : tie.Need-returns-2

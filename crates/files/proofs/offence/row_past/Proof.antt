@@ -1,4 +1,5 @@
-use Rattle.files.proofs.Tags.{no-row-past}
+use Rattle.files.specs.Checking.{row-past}
+use Rattle.files.proofs.Tags.{not-read}
 use mathlib.Core.Path.{refl}
 use borrow.Author.Needs.{needs}
 use Rattle.files.proofs.offence.row_past.Statement.{statement}
@@ -10,7 +11,7 @@ enum-known-p c = search needs
 
 -- src/offence.rt:156:9
 returns : tie.Need-returns
-returns c = no-row-past (c .before .args .n) (c .before .args .p) (c .match .keys2)
+returns c = not-read 3 (row-past (c .before .args .n)) refl (c .before .args .p) (c .match .keys2)
 
 -- src/offence.rt:158:25
 cast-named-a : tie.Need-cast-named-a

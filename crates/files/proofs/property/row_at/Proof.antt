@@ -1,9 +1,9 @@
 use Rattle.files.specs.Property.{row}
 use Rattle.files.specs.Decode.{decode-property}
 use Rattle.files.proofs.AccessLaws.{same-row}
-use mathlib.Core.Path.{_∙_}
+use mathlib.Core.Path.{refl, _∙_}
 use Rattle.files.specs.Access.Laws.{row-parsed}
-use Rattle.files.proofs.Tags.{never-row}
+use Rattle.files.proofs.Tags.{never}
 use borrow.Author.Needs.{needs}
 use Rattle.files.proofs.property.row_at.Statement.{statement}
 use Rattle.files.proofs.property.row_at.Tie as tie
@@ -20,7 +20,7 @@ at-requires c κs = search needs
 returns : tie.Need-returns
 returns c =
     let s = c .before .before .before .before in
-    absurd (never-row _ _ _ _ (c .before .before .parse-row .ensures ∙ row-parsed (s .args .property .now) (s .pre .0) (s .args .r) (s .pre .1)) (c .before .match .keys2))
+    absurd (never 3 _ _ (c .before .before .parse-row .ensures ∙ row-parsed (s .args .property .now) (s .pre .0) (s .args .r) (s .pre .1)) refl (c .before .match .keys2))
 
 returns-2 : tie.Need-returns-2
 returns-2 c =

@@ -2,9 +2,9 @@ use lib.ListN.{getD}
 use Rattle.files.specs.Rules.{no-rule}
 use Rattle.files.specs.Decode.{decode-rules}
 use Rattle.files.proofs.AccessLaws.{same-rule}
-use mathlib.Core.Path.{_∙_}
+use mathlib.Core.Path.{refl, _∙_}
 use Rattle.files.specs.Access.Laws.{rule-parsed}
-use Rattle.files.proofs.Tags.{never-rule}
+use Rattle.files.proofs.Tags.{never}
 use borrow.Author.Needs.{needs}
 use Rattle.files.proofs.rules.rule_at.Statement.{statement}
 use Rattle.files.proofs.rules.rule_at.Tie as tie
@@ -21,7 +21,7 @@ at-requires c κs = search needs
 returns : tie.Need-returns
 returns c =
     let s = c .before .before .before .before in
-    absurd (never-rule _ _ _ _ _ _ (c .before .before .parse-rule .ensures ∙ rule-parsed (s .args .rules .now) (s .pre .0) (s .args .j) (s .pre .1)) (c .before .match .keys2))
+    absurd (never 4 _ _ (c .before .before .parse-rule .ensures ∙ rule-parsed (s .args .rules .now) (s .pre .0) (s .args .j) (s .pre .1)) refl (c .before .match .keys2))
 
 returns-2 : tie.Need-returns-2
 returns-2 c =

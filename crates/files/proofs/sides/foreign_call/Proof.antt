@@ -1,4 +1,6 @@
-use Rattle.files.proofs.Tags.{no-foreign-call}
+use mathlib.Core.Path.{refl}
+use Rattle.files.specs.Sides.{foreign-call}
+use Rattle.files.proofs.Tags.{not-read}
 use borrow.Author.Needs.{needs}
 use Rattle.files.proofs.sides.foreign_call.Statement.{statement}
 use Rattle.files.proofs.sides.foreign_call.Tie as tie
@@ -9,7 +11,7 @@ enum-known-p c = search needs
 
 -- src/sides.rt:32:9
 returns : tie.Need-returns
-returns c = no-foreign-call _ (c .before .args .p) (c .match .keys2)
+returns c = not-read 2 (foreign-call _) refl (c .before .args .p) (c .match .keys2)
 
 -- src/sides.rt:34:20
 in-set-requires : tie.Need-in-set-requires

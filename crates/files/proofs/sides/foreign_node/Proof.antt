@@ -1,4 +1,6 @@
-use Rattle.files.proofs.Tags.{no-foreign-node}
+use mathlib.Core.Path.{refl}
+use Rattle.files.specs.Sides.{foreign-node}
+use Rattle.files.proofs.Tags.{not-read}
 use borrow.Author.Needs.{needs}
 use Rattle.files.proofs.sides.foreign_node.Statement.{statement}
 use Rattle.files.proofs.sides.foreign_node.Tie as tie
@@ -9,7 +11,7 @@ enum-known-p c = search needs
 
 -- src/sides.rt:21:9
 returns : tie.Need-returns
-returns c = no-foreign-node _ (c .before .args .p) (c .match .keys2)
+returns c = not-read 1 (foreign-node _) refl (c .before .args .p) (c .match .keys2)
 
 -- src/sides.rt:23:6
 in-set-requires : tie.Need-in-set-requires
