@@ -1,4 +1,4 @@
--- For the code that takes a record apart or writes one: two readings of one record are the same node, edge, row, rule or interface; a scan of the rules takes one or goes on; six stores are one run.
+-- For the code that takes a record apart or writes one: two readings of one record are the same node, edge, row, rule or interface; a record that was read, parsed as one kind; a scan of the rules takes one or goes on; six stores are one run.
 use mathlib.Core.Path.{_≡_, sym, ap, _∙_}
 use mathlib.Core.Bool.{Bool, true, false, _&&_}
 use mathlib.Core.List.{List, [], _∷_}
@@ -17,8 +17,11 @@ use Rattle.files.specs.Interface.{Interface}
 use Rattle.files.specs.Decode.{row-rec}
 use Rattle.files.specs.Access.{node-held, edge-held, row-held, rule-held}
 use Rattle.files.specs.Access.Laws.{rule-hit, rule-miss}
+use Rattle.files.specs.Record.{parsed, parsed-as}
+use Rattle.files.specs.Record.Laws.{as-kind, as-other}
+use Rattle.files.specs.declared.record.Record.{Record}
 use Rattle.files.specs.declared.record.Parsed.{Parsed}
-use Rattle.files.specs.declared.record.Parsed.the-variants.{Node as NodeRead, Edge as EdgeRead, Row as RowRead, Rule as RuleRead, Interface as InterfaceRead}
+use Rattle.files.specs.declared.record.Parsed.the-variants.{Node as NodeRead, Edge as EdgeRead, Row as RowRead, Rule as RuleRead, Interface as InterfaceRead, Other}
 use Rattle.files.specs.declared.graph.NodeAt.the-variants.{Is as NodeIs}
 use Rattle.files.specs.declared.graph.GraphEdge.{GraphEdge}
 use Rattle.files.specs.declared.graph.EdgeAt.{EdgeAt}
@@ -47,6 +50,14 @@ same-rule x s k m n t u p q = cc
 pub same-interface : (x : Parsed) (a b : ℕ) (I : Interface) → x ≡ InterfaceRead a b → x ≡ InterfaceRead (I .provided) (I .required)
     → (a ≡ I .provided) × (b ≡ I .required)
 same-interface x a b I p q = (cc, cc)
+
+-- a record that was read, parsed as kind k where it has that kind and where it has not
+module _ (k : ℕ) (r s : Record) (e : r ≡ s) where
+  pub read-as : (x : Parsed) → r .kind ≡ k → x ≡ parsed r → x ≡ parsed-as k s
+  read-as x h p = p ∙ sym (as-kind k r h) ∙ ap (parsed-as k) e
+
+  pub read-other : (r .kind ≡ k → ⊥) → Other ≡ parsed-as k s
+  read-other h = sym (as-other k r h) ∙ ap (parsed-as k) e
 
 -- an interface is its two sets
 pub of-sets : (a b : ℕ) (I : Interface) → a ≡ I .provided → b ≡ I .required → record { provided = a; required = b } ≡ I
