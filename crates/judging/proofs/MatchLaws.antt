@@ -10,16 +10,16 @@ use lib.Bits.{bitAnd}
 use lib.Dec.{T, eqb, eqb→eq}
 use lib.ListN.{length, getD, replicate}
 use Rattle.files.specs.Basics.Tests.{or-e, or-l, or-r, and-i, and-l, eq-eqb}
-use Rattle.files.specs.Cells.{cell, has-bit}
+use Rattle.files.specs.Cells.{cell, put-cell, has-bit}
 use Rattle.files.specs.Decode.{decode-graph}
 use Rattle.files.specs.Graph.{Graph, size}
 use Rattle.judging.specs.declared.sizes.Sizes.{Sizes}
 use Rattle.judging.specs.Chains.{Outside, last-where}
-use Rattle.judging.specs.Refinement.{Both, rel, held, load, edge, comes, labelled-into, Neighbours, In, Within, HeldInside, Handed, Sifted, Refining, Shrank, Contained, LabelMatched, NodeMatched, Candidates, Took, Matching, Settled}
+use Rattle.judging.specs.Refinement.{Both, rel, held, load, edge, comes, labelled-into, Neighbours, In, Within, HeldInside, Handed, Sifted, Refining, Shrank, Contained, LabelMatched, NodeMatched, Candidates, Took, noted, Noted, Matching, Settled}
 use Rattle.judging.specs.Refinement.Files.{first-size, second-size, first-edges, second-edges, first-flow, second-flow, first-fits, second-fits, first-edges-fit, first-edge-in, second-edge-in}
 use Rattle.judging.specs.Refinement.Handing.{handed-over, handed-none, handed-one, row-dropped, shrank-on, unmet-apart, label-matched, label-none, label-kept, node-kept, order-beside, candidates-all, candidates-lost}
 use Rattle.judging.specs.Refinement.Rows.{lit, lit-and, lit-not, lit-zero, row-lit}
-use Rattle.judging.specs.Refinement.Taking.{took, matching-on, matching-none, load-le, load-lt, all-settled}
+use Rattle.judging.specs.Refinement.Taking.{took, matching-on, noted-none, noted-more, noted-stays, all-noted, load-le, load-lt, all-settled}
 use Rattle.judging.specs.Simulation.{related}
 use Rattle.judging.specs.Simulation.Laws.{related-e}
 use Rattle.judging.proofs.ChainLaws.{zero-byte}
@@ -206,16 +206,22 @@ module _ (s : Sizes) (f g : List ℕ) (x : Both s f g) where
   pub ordered : (w w′ : List ℕ) → Outside 29760 30816 w w′ → length w′ ≡ length w → Refining G H w → Refining G H w′
   ordered w w′ o long r = order-beside G H (first-flow s f g x) (second-flow s f g x) (first-fits s f g x) (second-fits s f g x) (first-edges-fit s f g x) w w′ o long r
 
-  pub matching-start : (w : List ℕ) → Refining G H w → Matching G H 0 w
-  matching-start w r = matching-none G H (first-flow s f g x) (second-flow s f g x) (first-fits s f g x) (second-fits s f g x) (first-edges-fit s f g x) w r
+  -- ---- rows taken whole, and noted
 
-  pub matching-more : (v : ℕ) (w w′ : List ℕ) → v < s .nodes → Matching G H v w → Took G H v w w′ → Matching G H (v + 1) w′
-  matching-more v w w′ hv m y =
-      matching-on G H (first-flow s f g x) (second-flow s f g x) (first-fits s f g x) (second-fits s f g x) (first-edges-fit s f g x) v (v + 1) v w w′ (omega (arith, hv, first-size s f g x)) (omega (arith, hv, first-size s f g x)) (λ u l. which u l (ℕ-discrete u v)) m y
-    where
-      which : (u : ℕ) → u < v + 1 → Dec (u ≡ v) → (u < v) ⊎ (u ≡ v)
-      which u l (yes e) = inr e
-      which u l (no n) = inl (omega arith)
+  pub noted-start : (w : List ℕ) → ((q : ℕ) → 30272 ≤ q → q < 30528 → getD w q 0 ≡ 0) → Noted G H w
+  noted-start w z = noted-none G H (first-flow s f g x) (second-flow s f g x) (first-fits s f g x) (second-fits s f g x) (first-edges-fit s f g x) w z
+
+  pub noted-turn : (v : ℕ) (w w₁ w₂ : List ℕ) → v < s .nodes → Refining G H w → Noted G H w → Took G H v w w₁ → w₂ ≡ put-cell w₁ 30272 1 v 1
+      → Refining G H w₂ × (Noted G H w₂ × ((u : ℕ) → (u ≡ v) ⊎ (noted w u ≡ 1) → noted w₂ u ≡ 1))
+  noted-turn v w w₁ w₂ hv r n y put =
+      let low : v < size G = omega (arith, hv, first-size s f g x) in
+      let z = noted-more G H (first-flow s f g x) (second-flow s f g x) (first-fits s f g x) (second-fits s f g x) (first-edges-fit s f g x) v w w₁ w₂ low r n y put (y .refining .room) in
+      (z .0, (z .1, noted-stays G H (first-flow s f g x) (second-flow s f g x) (first-fits s f g x) (second-fits s f g x) (first-edges-fit s f g x) v w w₁ w₂ low r n y put (y .refining .room)))
+
+  pub matched-all : (w : List ℕ) → Refining G H w → Noted G H w → ((u : ℕ) → u < s .nodes → noted w u ≡ 1) → Matching G H (s .nodes) w
+  matched-all w r n a =
+      subst (λ (k : ℕ). Matching G H k w) (first-size s f g x)
+      (all-noted G H (first-flow s f g x) (second-flow s f g x) (first-fits s f g x) (second-fits s f g x) (first-edges-fit s f g x) w r n (λ u l. a u (omega (arith, l, first-size s f g x))))
 
   module _ (v : ℕ) (w w′ : List ℕ) (hv : v < s .nodes) (m : Matching G H (s .nodes) w) (y : Took G H v w w′) where
     pub matching-still : Matching G H (s .nodes) w′

@@ -10,7 +10,7 @@ use lib.ListN.{length, getD}
 use Rattle.files.specs.Access.{GraphFile}
 use Rattle.files.specs.Basics.Tables.{tally}
 use Rattle.files.specs.Basics.Tests.{any, one}
-use Rattle.files.specs.Cells.{has-bit}
+use Rattle.files.specs.Cells.{cell, has-bit}
 use Rattle.files.specs.Graph.{Graph, Node, Edge, size, node, no-edge}
 use Rattle.files.specs.Record.{count}
 use Rattle.files.specs.Refusal.{nodes-of}
@@ -50,6 +50,10 @@ held w g h = has-bit w (8192 + 32 * g) h
 -- how many pairs of the first n nodes are held
 abbrev pub load : ℕ → List ℕ → ℕ
 load n w = tally (λ (p : ℕ). held w (p / 256) (p % 256)) (256 * n)
+
+-- 1 where the row of v is noted as taken, while every row is taken whole
+abbrev pub noted : List ℕ → ℕ → ℕ
+noted w v = cell w 30272 1 v
 
 -- an edge with label l leads from x to y, looked up by where it comes from, and by where it leads to
 abbrev pub follows : List ℕ → ℕ → ℕ → ℕ → Bool
@@ -136,6 +140,7 @@ module _ (G H : Graph) where
     pub refining : Refining w′
     pub rel-less : (g h : ℕ) → g < size G → h < 256 → T (rel w′ g h) → T (rel w g h)
     pub held-kept : (g h : ℕ) → g < size G → h < 256 → held w′ g h ≡ held w g h
+    pub past : (q : ℕ) → 16384 ≤ q → getD w′ q 0 ≡ getD w q 0
 
   -- the row r has what the largest simulation gives v
   abbrev pub Contained : ℕ → List ℕ → Type 0
@@ -161,6 +166,17 @@ module _ (G H : Graph) where
     pub held-now : (h : ℕ) → h < 256 → held w′ v h ≡ rel w v h
     pub held-kept : (g h : ℕ) → g < size G → h < 256 → (g ≡ v → ⊥) → held w′ g h ≡ held w g h
     pub matched : NodeMatched w′ v
+    pub past : (q : ℕ) → 16384 ≤ q → getD w′ q 0 ≡ getD w q 0
+
+  -- node v holds what it is related to, and the edges into it are matched by what it holds
+  pub record MatchedAt (w : List ℕ) (v : ℕ) : Type 0 where
+    pub holding : (h : ℕ) → h < 256 → T (rel w v h) → T (held w v h)
+    pub held-inside : HeldInside (size H) w v
+    pub node-matched : NodeMatched w v
+
+  -- every node whose row is noted as taken
+  pub Noted : List ℕ → Type 0
+  Noted w = (v : ℕ) → v < size G → noted w v ≡ 1 → MatchedAt w v
 
   -- the first n nodes hold what they are related to, and the edges into them are matched by what they hold
   pub record Matching (n : ℕ) (w : List ℕ) : Type 0 where

@@ -1,11 +1,13 @@
-// The largest simulation: every row is handed on whole once, then, until no row has lost anything since it was last taken, only what it has lost. The order in which rows are
+// The largest simulation: every row is handed on whole once, in order, then, until no row has lost anything since it was last taken, only what it has lost. The order in which rows are
 // taken changes no result. `refine` states that at the end the relation is the largest simulation.
+ghost use mathlib.Core.Path.{_≡_};
+ghost use mathlib.Core.Logic.{_⊎_};
 ghost use mathlib.Core.Bool.{not};
 ghost use Prim.Native.Nat.{ℕ, _≤_, _<_};
 ghost use lib.Dec.{T};
 ghost use lib.ListN.{length};
 ghost use Rattle.files.specs.Decode.{decode-graph};
-ghost use Rattle.judging.specs.Refinement.{Both, rel, held, load, HeldInside, Refining, NodeMatched, Took, Matching, Settled};
+ghost use Rattle.judging.specs.Refinement.{Both, rel, held, load, HeldInside, Refining, NodeMatched, Took, noted, Noted, Matching, Settled};
 use crate::matches::hand_on;
 use crate::order::put_in_order;
 use crate::relation::prepare;
@@ -13,7 +15,9 @@ use crate::rows::exceeds;
 use crate::rows::put_row;
 use crate::rows::row_at;
 use crate::sizes::Sizes;
+use files::cells::clear;
 use files::cells::get8;
+use files::cells::put8;
 use files::encode::LINE;
 
 // Takes the row of node v: hands it on, whole or what it has lost, and holds it.
@@ -26,15 +30,45 @@ fn take(first: &[u8], second: &[u8], s: Sizes, work: &mut [u8], v: usize, all: b
     put_row(work, Sizes::HELD + LINE * v, &row);
 }
 
-// Takes every row whole.
-fn match_all(first: &[u8], second: &[u8], s: Sizes, work: &mut [u8])
+// Takes the row of node v whole, and notes it.
+fn take_noted(first: &[u8], second: &[u8], s: Sizes, work: &mut [u8], v: usize)
+    requires { ⌜ (Both s (now first) (now second)) × ((v < s .nodes) × ((Refining (decode-graph (now first)) (decode-graph (now second)) (now work)) × (Noted (decode-graph (now first)) (decode-graph (now second)) (now work)))) ⌝ }
+    ensures { λ _. ⌜ (Refining (decode-graph (now (first .entry))) (decode-graph (now (second .entry))) (now (work .exit))) × ((Noted (decode-graph (now (first .entry))) (decode-graph (now (second .entry))) (now (work .exit))) × ((u : ℕ) → (u ≡ v) ⊎ (noted (now (work .entry)) u ≡ 1) → noted (now (work .exit)) u ≡ 1)) ⌝ }
+{
+    take(first, second, s, work, v, true);
+    put8(work, Sizes::PARENTS, v, 1);
+}
+
+// Takes the rows of the nodes that the walk lists whole, in its order: successors first, since what a row loses later must be handed on once more.
+fn match_listed(first: &[u8], second: &[u8], s: Sizes, work: &mut [u8])
     requires { ⌜ (Both s (now first) (now second)) × (Refining (decode-graph (now first)) (decode-graph (now second)) (now work)) ⌝ }
+    ensures { λ _. ⌜ (Refining (decode-graph (now (first .entry))) (decode-graph (now (second .entry))) (now (work .exit))) × (Noted (decode-graph (now (first .entry))) (decode-graph (now (second .entry))) (now (work .exit))) ⌝ }
+{
+    clear(&mut work[Sizes::PARENTS..Sizes::ORDER]);
+    let mut i = 0;
+    while i < s.nodes {
+        let v = get8(work, Sizes::ORDER, i) as usize;
+        i += 1;
+        if s.nodes <= v {
+            continue;
+        }
+        take_noted(first, second, s, work, v);
+    }
+}
+
+// Takes every row whole that is not noted.
+fn match_all(first: &[u8], second: &[u8], s: Sizes, work: &mut [u8])
+    requires { ⌜ (Both s (now first) (now second)) × ((Refining (decode-graph (now first)) (decode-graph (now second)) (now work)) × (Noted (decode-graph (now first)) (decode-graph (now second)) (now work))) ⌝ }
     ensures { λ _. ⌜ Matching (decode-graph (now (first .entry))) (decode-graph (now (second .entry))) (s .nodes) (now (work .exit)) ⌝ }
 {
     let mut v = 0;
     while v < s.nodes {
-        take(first, second, s, work, v, true);
+        let at = v;
         v += 1;
+        if get8(work, Sizes::PARENTS, at) == 1 {
+            continue;
+        }
+        take_noted(first, second, s, work, at);
     }
 }
 
@@ -108,6 +142,7 @@ pub(crate) fn refine(first: &[u8], second: &[u8], s: Sizes, work: &mut [u8])
 {
     prepare(first, second, s, work);
     put_in_order(first, second, s, work);
+    match_listed(first, second, s, work);
     match_all(first, second, s, work);
     settle(first, second, s, work);
 }

@@ -19,7 +19,7 @@ impl Sizes {
 
     pub const NEXTS: usize = 21568;
 
-    // The walk that puts the first graph's nodes in order: the next edge of each node, the node from which it was met, the nodes as they are left, and which were met.
+    // The walk that puts the first graph's nodes in order: the next edge of each node, the node from which it was met, the nodes as they are left, and which were met. While every row is taken whole, a node that was is noted among the second.
     pub const CURSORS: usize = 29760;
 
     pub const PARENTS: usize = 30272;
