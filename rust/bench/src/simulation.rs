@@ -3,7 +3,10 @@
 use crate::growth::{series, Series, EDGES, NODES};
 use crate::inputs::{cases, graph, largest_graph, pair, typical_graph, Timed};
 use generator::generate::Random;
-use generator::relations::{backward, band, circulant, forward, hubs, loops, shuffled};
+use generator::relations::{
+    backward, band, circulant, forward, hubs, labelled_band, labelled_line, labelled_ring, loops,
+    shuffled,
+};
 use std::io;
 
 const ENTRY: [u8; 6] = [1, 1, 0, 1, 0, 0];
@@ -31,6 +34,8 @@ pub fn inputs() -> io::Result<Vec<Timed>> {
         pair("loops, band, backward", loops(), band(backward)),
         pair("loops, hubs, backward", loops(), hubs(backward)),
         pair("loops, hubs, shuffled", loops(), hubs(shuffled)),
+        pair("nine labels: line, band", labelled_line(forward), labelled_band(forward)),
+        pair("nine labels: ring, line", labelled_ring(forward), labelled_line(shuffled)),
     ];
     inputs.extend(cases("graph", "graph")?);
     Ok(inputs)

@@ -1,4 +1,4 @@
-//! Graphs of the largest size on which the largest simulation is slow to find: one method, one label, all nodes alike.
+//! Graphs of the largest size on which the largest simulation is slow to find: one method, all nodes alike, one label where nothing else is said.
 
 use crate::generate::LIMITS;
 use crate::graphs::{graph_file, node};
@@ -7,6 +7,7 @@ const LAST: u8 = (LIMITS.nodes - 1) as u8;
 /// Steps of each node of a band.
 const REACH: usize = LIMITS.edges / LIMITS.nodes;
 const HUBS: u8 = 15;
+const LABELS: u8 = 9;
 
 /// The number in the file of each node of a graph.
 pub type Numbering = fn(u8) -> u8;
@@ -49,7 +50,33 @@ pub fn hubs(numbering: Numbering) -> Vec<u8> {
     alike(line.chain(hubs), numbering)
 }
 
+/// Each node steps to the next by all nine labels, the last one to the first: no pair falls but by the graph compared with.
+pub fn labelled_ring(numbering: Numbering) -> Vec<u8> {
+    labelled((0..=LAST).flat_map(|from| all_labels(from, from.wrapping_add(1))), numbering)
+}
+
+/// The same, where the last node has no step.
+pub fn labelled_line(numbering: Numbering) -> Vec<u8> {
+    labelled((0..LAST).flat_map(|from| all_labels(from, from + 1)), numbering)
+}
+
+/// A band whose steps have all nine labels, by how far they lead.
+pub fn labelled_band(numbering: Numbering) -> Vec<u8> {
+    let steps = |from: u8| {
+        (from..=LAST).skip(1).take(REACH).map(move |to| (from, (to - from) % LABELS, to))
+    };
+    labelled((0..=LAST).flat_map(steps), numbering)
+}
+
+fn all_labels(from: u8, to: u8) -> impl Iterator<Item = (u8, u8, u8)> {
+    (0..LABELS).map(move |label| (from, label, to))
+}
+
 fn alike(steps: impl Iterator<Item = (u8, u8)>, numbering: Numbering) -> Vec<u8> {
-    let edges = steps.map(|(from, to)| (numbering(from), 0, numbering(to))).collect();
+    labelled(steps.map(|(from, to)| (from, 0, to)), numbering)
+}
+
+fn labelled(steps: impl Iterator<Item = (u8, u8, u8)>, numbering: Numbering) -> Vec<u8> {
+    let edges = steps.map(|(from, label, to)| (numbering(from), label, numbering(to))).collect();
     graph_file(&vec![node(1, false, true); LIMITS.nodes], &edges)
 }
