@@ -83,7 +83,7 @@ static int wrong_comparing(void)
     static const uint8_t second[] = {1, 1, 0, 1, 0, 0};
     static const uint8_t relation[64] = {1};
     static const struct example p9 = {tintboulder_compare, first, second, relation, sizeof first, sizeof second, sizeof relation, 2, {1, 0}};
-    return wrong_answers(&p9, 178272) + (tintboulder_work(2) != 178272);
+    return wrong_answers(&p9, 165152) + (tintboulder_work(2) != 165152);
 }
 
 /* Example P1. */

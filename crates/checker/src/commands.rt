@@ -26,7 +26,7 @@ fn judge_buffer() -> [u8; Shape::ROOM]
 }
 
 fn compare_buffer() -> [u8; Sizes::ROOM]
-    ensures { λ r. ⌜ 178272 ≡ length r ⌝ }
+    ensures { λ r. ⌜ 165152 ≡ length r ⌝ }
 {
     [0; Sizes::ROOM]
 }

@@ -18,7 +18,7 @@ pub(crate) fn two_bytes(example: &[u8], i: usize) -> usize
 
 // The published length of the call that a letter names, where the flag is 1.
 pub(crate) fn work_length(letter: u8, flag: u8) -> usize
-    ensures { λ r. ⌜ r ≤ 178272 ⌝ }
+    ensures { λ r. ⌜ r ≤ 165152 ⌝ }
 {
     if flag == 0 {
         return 0;
@@ -35,8 +35,9 @@ pub(crate) fn work_length(letter: u8, flag: u8) -> usize
     Sizes::ROOM
 }
 
-pub(crate) fn work_buffer() -> [u8; 178272]
-    ensures { λ r. ⌜ 178272 ≡ length r ⌝ }
+// As long as the longest of them, comparing's.
+pub(crate) fn work_buffer() -> [u8; Sizes::ROOM]
+    ensures { λ r. ⌜ 165152 ≡ length r ⌝ }
 {
-    [0; 178272]
+    [0; Sizes::ROOM]
 }

@@ -7,19 +7,20 @@ use Prim.Native.Nat.{ℕ, _+_, _*_, _-_, _/_, _%_, _≤_, _<_}
 use native.Mathlib.Decide.{ℕ-discrete}
 use native.Mathlib.Omega.{arith}
 use lib.Bits.{bitAnd}
-use lib.Dec.{T, eqb, eqb→eq}
+use lib.Dec.{T, eqb, eqb→eq, ltb, ltb→lt, lt→ltb}
 use lib.ListN.{length, getD, replicate}
-use Rattle.files.specs.Basics.Tests.{or-e, or-l, or-r, and-i, and-l, eq-eqb}
-use Rattle.files.specs.Cells.{cell, put-cell, has-bit}
+use Rattle.files.specs.Basics.Tests.{or-e, or-l, or-r, and-i, eq-eqb, same-test, T-eq}
+use Rattle.files.specs.Cells.{cell, has-bit, put-bit}
+use Rattle.files.specs.Cells.Laws.{bit-byte, bit-same, bit-other}
 use Rattle.files.specs.Decode.{decode-graph}
 use Rattle.files.specs.Graph.{Graph, size}
 use Rattle.judging.specs.declared.sizes.Sizes.{Sizes}
 use Rattle.judging.specs.Chains.{Outside, last-where}
-use Rattle.judging.specs.Refinement.{Both, rel, held, load, edge, comes, labelled-into, Neighbours, In, Within, HeldInside, Handed, Sifted, Refining, Shrank, Contained, LabelMatched, NodeMatched, Candidates, Took, noted, Noted, Matching, Settled}
+use Rattle.judging.specs.Refinement.{Both, rel, held, load, edge, follows, labelled-into, In, Within, Lacking, LostAdded, LostMet, Sifted, Refining, Shrank, Contained, LabelMatched, NodeMatched, Leading, Candidates, Took, Matching, Settled}
 use Rattle.judging.specs.Refinement.Files.{first-size, second-size, first-edges, second-edges, first-flow, second-flow, first-fits, second-fits, first-edges-fit, first-edge-in, second-edge-in}
-use Rattle.judging.specs.Refinement.Handing.{handed-over, handed-none, handed-one, row-dropped, shrank-on, unmet-apart, label-matched, label-none, label-kept, node-kept, order-beside, candidates-all, candidates-lost}
+use Rattle.judging.specs.Refinement.Handing.{looked-up-kept, lost-over, lost-none, lost-one, lost-met, lost-kept, row-dropped, shrank-on, unmet-apart, label-matched, label-none, label-kept, node-kept, order-beside, candidates-met, lacking-apart, leading-by, leading-kept}
 use Rattle.judging.specs.Refinement.Rows.{lit, lit-and, lit-not, lit-zero, row-lit}
-use Rattle.judging.specs.Refinement.Taking.{took, matching-on, noted-none, noted-more, noted-stays, all-noted, load-le, load-lt, all-settled}
+use Rattle.judging.specs.Refinement.Taking.{took, matching-on, matching-first, load-le, load-lt, all-settled}
 use Rattle.judging.specs.Simulation.{related}
 use Rattle.judging.specs.Simulation.Laws.{related-e}
 use Rattle.judging.proofs.ChainLaws.{zero-byte}
@@ -52,11 +53,67 @@ byte-blank r k z h a b t =
 pub none-within : (n : ℕ) → Within n (replicate 32 0)
 none-within n h b t = absurd (subst T (zero-bit (replicate 32 0) 0 h (zero-byte (replicate 32 0) refl (0 + h / 8))) t)
 
+pub not-off : (b : Bool) → not b ≡ false → T b
+not-off true e = tt
+not-off false e = subst T e tt
+
+-- the row of all nodes below n, one by one
+pub all-below-none : (h : ℕ) → has-bit (replicate 32 0) 0 h ≡ ltb h 0
+all-below-none h = zero-bit (replicate 32 0) 0 h (zero-byte (replicate 32 0) refl (0 + h / 8)) ∙ same-test false (ltb h 0) (λ t. absurd t) (λ t. absurd (omega (arith, ltb→lt h 0 t)))
+
+pub all-below-more : (r r′ : List ℕ) (n : ℕ) → 32 ≤ length r → n < 256 → r′ ≡ put-bit r 0 n → ((h : ℕ) → h < 256 → has-bit r 0 h ≡ ltb h n) → (h : ℕ) → h < 256 → has-bit r′ 0 h ≡ ltb h (n + 1)
+all-below-more r r′ n room few put was h b = ap (λ (z : List ℕ). has-bit z 0 h) put ∙ go (ℕ-discrete n h)
+  where
+    go : Dec (n ≡ h) → has-bit (put-bit r 0 n) 0 h ≡ ltb h (n + 1)
+    go (yes e) = subst (λ (k : ℕ). has-bit (put-bit r 0 n) 0 k ≡ ltb k (n + 1)) e (bit-same r 0 n (omega arith) ∙ sym (T-eq (ltb n (n + 1)) (lt→ltb n (n + 1) (omega arith))))
+    go (no f) = bit-other r 0 n h f ∙ was h b ∙ same-test (ltb h n) (ltb h (n + 1)) (λ t. lt→ltb h (n + 1) (let z = ltb→lt h n t in omega arith)) (λ t. lt→ltb h n (let z = ltb→lt h (n + 1) t in omega (arith, z, f)))
+
+-- a row put where it is held, for one node more
+pub held-turn : (w₀ w w′ r : List ℕ) (n v : ℕ) → v < 256 → ((h : ℕ) → h < 256 → has-bit r 0 h ≡ ltb h n) → ((h : ℕ) → h < 256 → held w′ v h ≡ has-bit r 0 h) → Outside (8192 + 32 * v) (8192 + 32 * v + 32) w w′
+    → ((u h : ℕ) → u < v → h < 256 → held w u h ≡ ltb h n) → Outside 8192 16384 w₀ w → ((u h : ℕ) → u < v + 1 → h < 256 → held w′ u h ≡ ltb h n) × Outside 8192 16384 w₀ w′
+held-turn w₀ w w′ r n v few is put o was out = (λ u h a b. go u h a b (ℕ-discrete u v), beside)
+  where
+    go : (u h : ℕ) → u < v + 1 → h < 256 → Dec (u ≡ v) → held w′ u h ≡ ltb h n
+    go u h a b (yes e) = subst (λ (k : ℕ). held w′ k h ≡ ltb h n) (sym e) (put h b ∙ is h b)
+    go u h a b (no f) = bit-byte w′ w (8192 + 32 * u) (8192 + 32 * u) h (o (8192 + 32 * u + h / 8) (inl (omega arith))) ∙ was u h (omega arith) b
+
+    beside : Outside 8192 16384 w₀ w′
+    beside q (inl l) = o q (inl (omega arith)) ∙ out q (inl l)
+    beside q (inr l) = o q (inr (omega arith)) ∙ out q (inr l)
+
+-- the row of nodes without an edge of a label, one by one
+module _ (w : List ℕ) (l : ℕ) where
+  pub lacking-none : Lacking w l 0 (replicate 32 0)
+  lacking-none = record { without-edge = λ x b t. absurd (let z = none-within 0 x b t in omega (arith, z)); with-edge = λ x b. absurd (omega arith) }
+
+  pub lacking-over : (r : List ℕ) (n : ℕ) → (y : ℕ) × (y < 256) × T (follows w n l y) → Lacking w l n r → Lacking w l (n + 1) r
+  lacking-over r n y x = record { without-edge = λ k b t. let z = x .without-edge k b t in (omega (arith, z .0), z .1); with-edge = λ k b f. go k b f (ℕ-discrete k n) }
+    where
+      go : (k : ℕ) → k < n + 1 → (In r k → ⊥) → Dec (k ≡ n) → (y : ℕ) × (y < 256) × T (follows w k l y)
+      go k b f (yes e) = (y .0, y .1, subst (λ (m : ℕ). T (follows w m l (y .0))) (sym e) (y .2))
+      go k b f (no d) = x .with-edge k (omega arith) f
+
+  pub lacking-put : (r r′ : List ℕ) (n : ℕ) → 32 ≤ length r → n < 256 → r′ ≡ put-bit r 0 n → ((y : ℕ) → y < 256 → follows w n l y ≡ false) → Lacking w l n r → Lacking w l (n + 1) r′
+  lacking-put r r′ n room few put none x = subst (Lacking w l (n + 1)) (sym put) (record { without-edge = λ k b t. go k b t (ℕ-discrete n k); with-edge = λ k b f. on k b f (ℕ-discrete n k) })
+    where
+      go : (k : ℕ) → k < 256 → In (put-bit r 0 n) k → Dec (n ≡ k) → (k < n + 1) × ((y : ℕ) → y < 256 → T (follows w k l y) → ⊥)
+      go k b t (yes e) = (omega arith, λ y m u. subst T (none y m) (subst (λ (z : ℕ). T (follows w z l y)) (sym e) u))
+      go k b t (no d) = let z = x .without-edge k b (subst T (bit-other r 0 n k d) t) in (omega (arith, z .0), z .1)
+
+      on : (k : ℕ) → k < n + 1 → (In (put-bit r 0 n) k → ⊥) → Dec (n ≡ k) → (y : ℕ) × (y < 256) × T (follows w k l y)
+      on k b f (yes e) = absurd (f (subst (In (put-bit r 0 n)) e (subst T (sym (bit-same r 0 n (omega arith))) tt)))
+      on k b f (no d) = x .with-edge k (omega arith) (λ t. f (subst T (sym (bit-other r 0 n k d)) t))
+
 -- what was held and is no longer in the row
 lost-not : (a b : Bool) → (a && not b) ≡ false → T a → (T b → ⊥) → ⊥
 lost-not true true e t n = n tt
 lost-not true false e t n = subst T e tt
 lost-not false b e t n = t
+
+-- a node that was not lost
+pub not-lost : (w : List ℕ) (v : ℕ) (row c : List ℕ) (h : ℕ) (a b : Bool) → a ≡ held w v h → b ≡ has-bit row 0 h → (a && not b) ≡ false → LostAdded w v row c c h (h + 1)
+not-lost w v row c h a b p q e =
+    lost-over w v row c c h h (h + 1) (λ y m n t z. let d : y ≡ h = omega arith in lost-not a b e (subst T (sym p) (subst (λ (k : ℕ). T (held w v k)) d t)) (λ u. z (subst (In row) (sym d) (subst T q u)))) (lost-none w v row c h)
 
 module _ (s : Sizes) (f g : List ℕ) (x : Both s f g) where
   abbrev G : Graph
@@ -131,25 +188,11 @@ module _ (s : Sizes) (f g : List ℕ) (x : Both s f g) where
   -- ---- candidates
 
   module _ (w : List ℕ) (r : Refining G H w) (v l : ℕ) (hv : v < s .nodes) (hl : l < 9) (row : List ℕ) where
-    pub lost-added : (c c′ : List ℕ) (h : ℕ) (a b : Bool) → h < 256 → HeldInside (s .nodes2) w v → Within (s .nodes2) c → a ≡ held w v h → b ≡ has-bit row 0 h → (a && not b) ≡ true
-        → ((y : ℕ) → y < 256 → has-bit c′ 0 y ≡ (has-bit c 0 y || comes w h l y)) → Handed (s .nodes2) w v l row c c′ h (h + 1)
-    lost-added c c′ h a b hh i j p q e bits =
-        handed-one (s .nodes2) w v l row H (subst (λ (n : ℕ). Neighbours H n w) (second-size s f g x) (r .neighbours)) (λ d hd. (second-edge-in s f g x d (omega (arith, hd, second-edges s f g x))) .0)
-        c c′ h (i h hh (subst T p (and-l a (not b) (subst T (sym e) tt)))) hl j bits
-
-    pub not-lost : (c : List ℕ) (h : ℕ) (a b : Bool) → Within (s .nodes2) c → a ≡ held w v h → b ≡ has-bit row 0 h → (a && not b) ≡ false → Handed (s .nodes2) w v l row c c h (h + 1)
-    not-lost c h a b j p q e =
-        handed-over (s .nodes2) w v l row c c h h (h + 1) (λ y m n t z. let d : y ≡ h = omega arith in lost-not a b e (subst T (sym p) (subst (λ (k : ℕ). T (held w v k)) d t)) (λ u. z (subst (In row) (sym d) (subst T q u)))) (handed-none (s .nodes2) w v l row c h j)
-
-    pub found-all : (c : List ℕ) → Within (s .nodes2) c → ((e h : ℕ) → e < s .edges → T (labelled-into G (9 * v + l) e) → h < 256 → T (rel w ((edge G e) .from) h) → In c h) → Candidates G H w v l row c
-    found-all c i a =
-        candidates-all G H (first-flow s f g x) (second-flow s f g x) (first-fits s f g x) (second-fits s f g x) (first-edges-fit s f g x) w v l row c
-        (λ h b t. let z = i h b t in omega (arith, z, second-size s f g x)) (λ e h he t b u. a e h (omega (arith, he, first-edges s f g x)) t b u)
-
-    pub found-lost : (c c′ : List ℕ) → NodeMatched G H w v → HeldInside (s .nodes2) w v → Handed (s .nodes2) w v l row c c′ 0 256 → Candidates G H w v l row c′
-    found-lost c c′ m i y =
-        candidates-lost G H (first-flow s f g x) (second-flow s f g x) (first-fits s f g x) (second-fits s f g x) (first-edges-fit s f g x) w v l row c c′ hl r m
-        (λ h b t. let z = i h b t in omega (arith, z, second-size s f g x)) (subst (λ (n : ℕ). Handed n w v l row c c′ 0 256) (sym (second-size s f g x)) y)
+    pub found : (m a c : List ℕ) → NodeMatched G H w v → LostMet H w v row m → Within (s .nodes2) a
+        → ((e h : ℕ) → e < s .edges → T (labelled-into G (9 * v + l) e) → h < 256 → T (rel w ((edge G e) .from) h) → In a h) → ((h : ℕ) → h < 256 → has-bit c 0 h ≡ (has-bit a 0 h && has-bit m 0 h)) → Candidates G H w v l row c
+    found m a c matched met i sources =
+        candidates-met G H (first-flow s f g x) (second-flow s f g x) (first-fits s f g x) (second-fits s f g x) (first-edges-fit s f g x) w v l row m a c matched met
+        (λ h b t. let z = i h b t in omega (arith, z, second-size s f g x)) (λ e h he t b u. sources e h (omega (arith, he, first-edges s f g x)) t b u)
 
     -- ---- one label
 
@@ -162,6 +205,11 @@ module _ (s : Sizes) (f g : List ℕ) (x : Both s f g) where
 
     slot-told : (e : ℕ) → (edge G e) .to ≡ v → (edge G e) .label ≡ l → T (labelled-into G (9 * v + l) e)
     slot-told e a b = eq-eqb (9 * (edge G e) .to + (edge G e) .label) (9 * v + l) (omega arith)
+
+    pub lacking-drop : Lacking w l (s .nodes2) row → (e h : ℕ) → e < s .edges → T (labelled-into G (9 * v + l) e) → h < 256 → In row h → T (related G H ((edge G e) .from) h) → ⊥
+    lacking-drop y e h he t b i z =
+        let he′ : e < length (G .edges) = omega (arith, he, first-edges s f g x) in
+        lacking-apart G H (first-flow s f g x) (second-flow s f g x) (first-fits s f g x) (second-fits s f g x) (first-edges-fit s f g x) w r l h hl ((y .without-edge h b i) .1) e he′ ((slot-tells e he′ t) .1) z
 
     pub may-drop : (c c′ : List ℕ) → Contained G H v row → Sifted w l row c c′ 0 256 → (e h : ℕ) → e < s .edges → T (labelled-into G (9 * v + l) e) → h < 256 → In c′ h → T (related G H ((edge G e) .from) h) → ⊥
     may-drop c c′ cont y e h he t b i z =
@@ -187,10 +235,16 @@ module _ (s : Sizes) (f g : List ℕ) (x : Both s f g) where
       go (yes e) = subst (λ (k : ℕ). LabelMatched G H w′ v k row) (sym e) z
       go (no d) = label-kept G H (first-flow s f g x) (second-flow s f g x) (first-fits s f g x) (second-fits s f g x) (first-edges-fit s f g x) w w′ v l row y (m l (omega arith))
 
-  pub held-still : (w w′ : List ℕ) (v : ℕ) → v < s .nodes → Shrank G H w w′ → NodeMatched G H w v × HeldInside (s .nodes2) w v → NodeMatched G H w′ v × HeldInside (s .nodes2) w′ v
-  held-still w w′ v hv y m =
-      let low : v < size G = omega (arith, hv, first-size s f g x) in
-      (node-kept G H (first-flow s f g x) (second-flow s f g x) (first-fits s f g x) (second-fits s f g x) (first-edges-fit s f g x) w w′ v low y (m .0), λ h b t. m .1 h b (subst T (y .held-kept v h low b) t))
+  -- what is asked of a node, and what has an edge to what it has lost, stay while others lose
+  pub met-first : (w : List ℕ) (v : ℕ) (r c m : List ℕ) → Refining G H w → LostAdded w v r c m 0 256 → LostMet H w v r m
+  met-first w v r c m y z = lost-met G H (first-flow s f g x) (second-flow s f g x) (first-fits s f g x) (second-fits s f g x) (first-edges-fit s f g x) w v r c m y z
+
+  pub met-still : (w w′ : List ℕ) (v : ℕ) (r m : List ℕ) → v < s .nodes → Shrank G H w w′ → NodeMatched G H w v → LostMet H w v r m → NodeMatched G H w′ v × LostMet H w′ v r m
+  met-still w w′ v r m hv y n z =
+      let low : v < size G = omega (arith, hv, first-size s f g x) in (
+        node-kept G H (first-flow s f g x) (second-flow s f g x) (first-fits s f g x) (second-fits s f g x) (first-edges-fit s f g x) w w′ v low y n,
+        lost-kept G H (first-flow s f g x) (second-flow s f g x) (first-fits s f g x) (second-fits s f g x) (first-edges-fit s f g x) w w′ v r m low y z,
+      )
 
   -- ---- taking rows
 
@@ -206,22 +260,45 @@ module _ (s : Sizes) (f g : List ℕ) (x : Both s f g) where
   pub ordered : (w w′ : List ℕ) → Outside 29760 30816 w w′ → length w′ ≡ length w → Refining G H w → Refining G H w′
   ordered w w′ o long r = order-beside G H (first-flow s f g x) (second-flow s f g x) (first-fits s f g x) (second-fits s f g x) (first-edges-fit s f g x) w w′ o long r
 
-  -- ---- rows taken whole, and noted
+  -- ---- before any row is taken
 
-  pub noted-start : (w : List ℕ) → ((q : ℕ) → 30272 ≤ q → q < 30528 → getD w q 0 ≡ 0) → Noted G H w
-  noted-start w z = noted-none G H (first-flow s f g x) (second-flow s f g x) (first-fits s f g x) (second-fits s f g x) (first-edges-fit s f g x) w z
+  -- none of the row c is left to the sources of edges with label l into the nodes below n
+  abbrev pub Dropped : List ℕ → List ℕ → ℕ → ℕ → Type 0
+  Dropped w c l n = (e h : ℕ) → e < s .edges → (edge G e) .label ≡ l → (edge G e) .to < n → h < 256 → T (rel w ((edge G e) .from) h) → In c h → ⊥
 
-  pub noted-turn : (v : ℕ) (w w₁ w₂ : List ℕ) → v < s .nodes → Refining G H w → Noted G H w → Took G H v w w₁ → w₂ ≡ put-cell w₁ 30272 1 v 1
-      → Refining G H w₂ × (Noted G H w₂ × ((u : ℕ) → (u ≡ v) ⊎ (noted w u ≡ 1) → noted w₂ u ≡ 1))
-  noted-turn v w w₁ w₂ hv r n y put =
-      let low : v < size G = omega (arith, hv, first-size s f g x) in
-      let z = noted-more G H (first-flow s f g x) (second-flow s f g x) (first-fits s f g x) (second-fits s f g x) (first-edges-fit s f g x) v w w₁ w₂ low r n y put (y .refining .room) in
-      (z .0, (z .1, noted-stays G H (first-flow s f g x) (second-flow s f g x) (first-fits s f g x) (second-fits s f g x) (first-edges-fit s f g x) v w w₁ w₂ low r n y put (y .refining .room)))
+  pub dropped-turn : (w w′ c : List ℕ) (l v : ℕ) → Shrank G H w w′ → Dropped w c l v → ((e h : ℕ) → e < s .edges → T (labelled-into G (9 * v + l) e) → h < 256 → T (rel w′ ((edge G e) .from) h) → In c h → ⊥) → Dropped w′ c l (v + 1)
+  dropped-turn w w′ c l v y old new e h he label-is below b t i = go (ℕ-discrete ((edge G e) .to) v)
+    where
+      go : Dec ((edge G e) .to ≡ v) → ⊥
+      go (yes d) = new e h he (eq-eqb (9 * (edge G e) .to + (edge G e) .label) (9 * v + l) (omega arith)) b t i
+      go (no d) = old e h he label-is (omega arith) b (y .rel-less ((edge G e) .from) h (omega (arith, (first-edge-in s f g x e he) .0, first-size s f g x)) b t) i
 
-  pub matched-all : (w : List ℕ) → Refining G H w → Noted G H w → ((u : ℕ) → u < s .nodes → noted w u ≡ 1) → Matching G H (s .nodes) w
-  matched-all w r n a =
-      subst (λ (k : ℕ). Matching G H k w) (first-size s f g x)
-      (all-noted G H (first-flow s f g x) (second-flow s f g x) (first-fits s f g x) (second-fits s f g x) (first-edges-fit s f g x) w r n (λ u l. a u (omega (arith, l, first-size s f g x))))
+  pub leading-all : (w w′ c : List ℕ) (l v : ℕ) → l < 9 → s .nodes ≤ v → Refining G H w → Shrank G H w w′ → Lacking w l (s .nodes2) c → Dropped w′ c l v → Leading G H w′ l
+  leading-all w w′ c l v hl all r y k none =
+      leading-by G H (first-flow s f g x) (second-flow s f g x) (first-fits s f g x) (second-fits s f g x) (first-edges-fit s f g x) w w′ c l hl r y (λ h hh n. k .with-edge h (omega (arith, hh, second-size s f g x)) n)
+      (λ e h he label-is b t i. let he′ : e < s .edges = omega (arith, he, first-edges s f g x) in none e h he′ label-is (omega (arith, (first-edge-in s f g x e he′) .1, all)) b t i)
+
+  pub leadings-kept : (w w′ : List ℕ) (n : ℕ) → Shrank G H w w′ → ((l : ℕ) → l < n → Leading G H w l) → Leading G H w′ n → (l : ℕ) → l < n + 1 → Leading G H w′ l
+  leadings-kept w w′ n y m z l hl = go (ℕ-discrete l n)
+    where
+      go : Dec (l ≡ n) → Leading G H w′ l
+      go (yes e) = subst (Leading G H w′) (sym e) z
+      go (no d) = leading-kept G H (first-flow s f g x) (second-flow s f g x) (first-fits s f g x) (second-fits s f g x) (first-edges-fit s f g x) w w′ l y (m l (omega arith))
+
+  pub held-beside : (w w′ : List ℕ) → Outside 8192 16384 w w′ → length w′ ≡ length w → Refining G H w → Refining G H w′
+  held-beside w w′ o long r =
+      looked-up-kept G H (first-flow s f g x) (second-flow s f g x) (first-fits s f g x) (second-fits s f g x) (first-edges-fit s f g x) w w′ (λ q l d. o q (inr (omega arith))) long r (λ u h a b t. subst T (same u h a b) t)
+      (λ u h t. let z = related-e G H (first-flow s f g x) (second-flow s f g x) u h t in subst T (sym (same u h (z .0) (omega (arith, z .1, second-fits s f g x)))) (r .contains u h t))
+    where
+      same : (u h : ℕ) → u < size G → h < 256 → rel w′ u h ≡ rel w u h
+      same u h a b = bit-byte w′ w (32 * u) (32 * u) h (o (32 * u + h / 8) (inl (omega (arith, first-fits s f g x))))
+
+  pub matched-first : (w w′ : List ℕ) → ((v h : ℕ) → v < s .nodes → h < 256 → held w v h ≡ ltb h (s .nodes2)) → Shrank G H w w′ → ((l : ℕ) → l < 9 → Leading G H w′ l) → Matching G H (s .nodes) w′
+  matched-first w w′ whole y leading =
+      subst (λ (k : ℕ). Matching G H k w′) (first-size s f g x)
+      (matching-first G H (first-flow s f g x) (second-flow s f g x) (first-fits s f g x) (second-fits s f g x) (first-edges-fit s f g x) w′ (y .refining)
+      (λ v h l b. y .held-kept v h l b ∙ whole v h (omega (arith, l, first-size s f g x)) b ∙ ap (ltb h) (sym (second-size s f g x)))
+      (λ e he. (first-edge-in s f g x e (omega (arith, he, first-edges s f g x))) .2) leading)
 
   module _ (v : ℕ) (w w′ : List ℕ) (hv : v < s .nodes) (m : Matching G H (s .nodes) w) (y : Took G H v w w′) where
     pub matching-still : Matching G H (s .nodes) w′
@@ -238,10 +315,6 @@ module _ (s : Sizes) (f g : List ℕ) (x : Both s f g) where
 
     pub load-less : (h : ℕ) × (h < 256) × T (held w v h) × (T (rel w v h) → ⊥) → load (s .nodes) w′ < load (s .nodes) w
     load-less z = subst (λ (n : ℕ). load n w′ < load n w) (first-size s f g x) (load-lt G H (first-flow s f g x) (second-flow s f g x) (first-fits s f g x) (second-fits s f g x) (first-edges-fit s f g x) v w w′ low sized y (z .0) (z .1) (z .2) (z .3))
-
-  -- what taking the lost part of a row asks for
-  pub may-take : (n v : ℕ) (w : List ℕ) → v < n → Matching G H n w → NodeMatched G H w v × HeldInside (s .nodes2) w v
-  may-take n v w l m = (m .node-matched v l, λ h b t. let z = m .held-inside v l h b t in omega (arith, z, second-size s f g x))
 
   pub settled-all : (w : List ℕ) → Matching G H (s .nodes) w → ((v h : ℕ) → v < s .nodes → h < 256 → T (held w v h) → T (rel w v h)) → Settled G H w
   settled-all w m none =

@@ -22,7 +22,7 @@ use Rattle.files.specs.declared.graph.GraphNode.{GraphNode}
 use Rattle.judging.specs.declared.sizes.Sizes.{Sizes}
 use Rattle.judging.specs.Chains.{Chained, Outside, linked}
 use Rattle.judging.specs.Chains.Laws.{chained-same, chain-on}
-use Rattle.judging.specs.Refinement.{Both, rel, kind, of-kind, edge, labelled-into, KindRows, Neighbours, Refining}
+use Rattle.judging.specs.Refinement.{Both, rel, kind, of-kind, edge, neighbour, labelled-into, KindRows, Neighbours, Refining}
 use Rattle.judging.specs.Refinement.Files.{first-size, second-size, first-edges, second-edges, first-flow, second-flow, second-fits, first-edge-in, second-edge-in}
 use Rattle.judging.specs.Refinement.Preparing.{put-beside, kinds-none, kinds-more, kind-is, Putting, putting-none, putting-more, putting-end}
 use Rattle.judging.specs.Simulation.{alike}
@@ -65,7 +65,7 @@ module _ (s : Sizes) (f g : List ℕ) (x : Both s f g) where
   pub kinds-start : (w : List ℕ) → ((q : ℕ) → 16384 ≤ q → q < 16960 → getD w q 0 ≡ 0) → KindRows H 0 w
   kinds-start w z = kinds-none H w (λ k h a b. blank-bit w 16384 16960 (16384 + 32 * k) h z (omega arith) (omega arith))
 
-  pub kinds-turn : (w₀ w w′ : List ℕ) (h k : ℕ) → h < s .nodes2 → 178272 ≤ length w → (k ≡ kind (node H h)) × (k < 18) → w′ ≡ put-bit w (16384 + 32 * k) h → KindRows H h w → Outside 16384 16960 w₀ w
+  pub kinds-turn : (w₀ w w′ : List ℕ) (h k : ℕ) → h < s .nodes2 → 165152 ≤ length w → (k ≡ kind (node H h)) × (k < 18) → w′ ≡ put-bit w (16384 + 32 * k) h → KindRows H h w → Outside 16384 16960 w₀ w
       → KindRows H (h + 1) w′ × Outside 16384 16960 w₀ w′
   kinds-turn w₀ w w′ h k l room is put rows o =
       (kinds-more H h w w′ k (omega (arith, x .few-second-nodes)) (is .0) (is .1) (omega arith) put rows, put-beside w₀ w w′ (16384 + 32 * k) h 16384 16960 put (omega arith) (omega (arith, is .1, x .few-second-nodes)) o)
@@ -112,10 +112,10 @@ module _ (s : Sizes) (f g : List ℕ) (x : Both s f g) where
     nexts-are = λ k j hk hj t. absurd (omega arith);
   }
 
-  pub may-slot : (w : List ℕ) (e k : ℕ) → e < s .edges → 178272 ≤ length w → k ≡ slot e → (16960 + 2 * k + 2 ≤ length w) × ((21568 + 2 * e + 2 ≤ length w) × (e < 65535))
+  pub may-slot : (w : List ℕ) (e k : ℕ) → e < s .edges → 165152 ≤ length w → k ≡ slot e → (16960 + 2 * k + 2 ≤ length w) × ((21568 + 2 * e + 2 ≤ length w) × (e < 65535))
   may-slot w e k h room is = (omega (arith, is, slot-low e h, x .few-first-nodes), (omega (arith, x .few-first-edges), omega (arith, x .few-first-edges)))
 
-  pub slots-turn : (w₀ w w′ : List ℕ) (e k : ℕ) → e < s .edges → 178272 ≤ length w → k ≡ slot e → Chained w 16960 21568 (labelled-into G) (9 * s .nodes) e → Outside 16960 29760 w₀ w → w′ ≡ linked w 16960 21568 k e
+  pub slots-turn : (w₀ w w′ : List ℕ) (e k : ℕ) → e < s .edges → 165152 ≤ length w → k ≡ slot e → Chained w 16960 21568 (labelled-into G) (9 * s .nodes) e → Outside 16960 29760 w₀ w → w′ ≡ linked w 16960 21568 k e
       → Chained w′ 16960 21568 (labelled-into G) (9 * s .nodes) (e + 1) × Outside 16960 29760 w₀ w′
   slots-turn w₀ w w′ e k h room is =
       chain-on slot w₀ w w′ 16960 21568 (9 * s .nodes) e k 16960 29760 is (omega (arith, is, slot-low e h)) (omega arith) (omega (arith, x .few-first-nodes)) (omega (arith, x .few-first-edges)) (omega arith) (omega (arith, x .few-first-edges))
@@ -127,30 +127,28 @@ module _ (s : Sizes) (f g : List ℕ) (x : Both s f g) where
       let b = second-edge-in s f g x j h in
       (omega (arith, ap (λ (z : GraphEdge). z .from) is, b .0, x .few-second-nodes), omega (arith, ap (λ (z : GraphEdge). z .to) is, b .1, x .few-second-nodes), omega (arith, ap (λ (z : GraphEdge). z .label) is, b .2))
 
-  pub edge-put : (w w₁ w₂ : List ℕ) (j : ℕ) (u : GraphEdge) → u ≡ edge-held (edge H j) → w₁ ≡ put-bit w (30816 + 64 * (9 * u .from + u .label)) (u .to) → w₂ ≡ put-bit w₁ (30848 + 64 * (9 * u .to + u .label)) (u .from)
-      → w₂ ≡ put-bit (put-bit w (30816 + 64 * (9 * (edge H j) .from + (edge H j) .label)) ((edge H j) .to)) (30848 + 64 * (9 * (edge H j) .to + (edge H j) .label)) ((edge H j) .from)
+  pub edge-put : (w w₁ w₂ : List ℕ) (j : ℕ) (u : GraphEdge) → u ≡ edge-held (edge H j) → w₁ ≡ put-bit w (30816 + 32 * (10 * u .from + u .label)) (u .to) → w₂ ≡ put-bit w₁ (30816 + 32 * (10 * u .to + 9)) (u .from)
+      → w₂ ≡ put-bit (put-bit w (30816 + 32 * (10 * (edge H j) .from + (edge H j) .label)) ((edge H j) .to)) (30816 + 32 * (10 * (edge H j) .to + 9)) ((edge H j) .from)
   edge-put w w₁ w₂ j u is a b =
-      b ∙ ap (λ (v : List ℕ). put-bit v (30848 + 64 * (9 * u .to + u .label)) (u .from)) a
-      ∙ ap (λ (z : GraphEdge). put-bit (put-bit w (30816 + 64 * (9 * z .from + z .label)) (z .to)) (30848 + 64 * (9 * z .to + z .label)) (z .from)) is
+      b ∙ ap (λ (v : List ℕ). put-bit v (30816 + 32 * (10 * u .to + 9)) (u .from)) a
+      ∙ ap (λ (z : GraphEdge). put-bit (put-bit w (30816 + 32 * (10 * z .from + z .label)) (z .to)) (30816 + 32 * (10 * z .to + 9)) (z .from)) is
 
-  pub putting-start : (w : List ℕ) → ((q : ℕ) → 30816 ≤ q → q < 30816 + 576 * s .nodes2 → getD w q 0 ≡ 0) → Putting H (s .nodes2) 0 w
-  putting-start w z = putting-none H (s .nodes2) w
-      (λ k l y a b c. blank-bit w 30816 (30816 + 576 * s .nodes2) (30816 + 64 * (9 * k + l)) y z (omega arith) (omega arith))
-      (λ k l y a b c. blank-bit w 30816 (30816 + 576 * s .nodes2) (30848 + 64 * (9 * k + l)) y z (omega arith) (omega arith))
+  pub putting-start : (w : List ℕ) → ((q : ℕ) → 30816 ≤ q → q < 30816 + 320 * s .nodes2 → getD w q 0 ≡ 0) → Putting H (s .nodes2) 0 w
+  putting-start w z = putting-none H (s .nodes2) w (λ m y a c. blank-bit w 30816 (30816 + 320 * s .nodes2) (30816 + 32 * m) y z (omega arith) (omega arith))
 
   narrow : (d : ℕ) → d < length (H .edges) → ((edge H d) .from < 256) × ((edge H d) .to < 256) × ((edge H d) .label < 9)
   narrow d h = let b = second-edge-in s f g x d (omega (arith, h, second-edges s f g x)) in (omega (arith, b .0, x .few-second-nodes), omega (arith, b .1, x .few-second-nodes), b .2)
 
-  pub putting-turn : (w₀ w w′ : List ℕ) (j : ℕ) → j < s .edges2 → 178272 ≤ length w → Putting H (s .nodes2) j w → Outside 30816 178272 w₀ w
-      → w′ ≡ put-bit (put-bit w (30816 + 64 * (9 * (edge H j) .from + (edge H j) .label)) ((edge H j) .to)) (30848 + 64 * (9 * (edge H j) .to + (edge H j) .label)) ((edge H j) .from)
-      → Putting H (s .nodes2) (j + 1) w′ × Outside 30816 178272 w₀ w′
+  pub putting-turn : (w₀ w w′ : List ℕ) (j : ℕ) → j < s .edges2 → 165152 ≤ length w → Putting H (s .nodes2) j w → Outside 30816 112736 w₀ w
+      → w′ ≡ put-bit (put-bit w (30816 + 32 * (10 * (edge H j) .from + (edge H j) .label)) ((edge H j) .to)) (30816 + 32 * (10 * (edge H j) .to + 9)) ((edge H j) .from)
+      → Putting H (s .nodes2) (j + 1) w′ × Outside 30816 112736 w₀ w′
   putting-turn w₀ w w′ j h room p o is =
       let hj : j < length (H .edges) = omega (arith, h, second-edges s f g x) in
       let b = narrow j hj in
-      let once = put-bit w (30816 + 64 * (9 * (edge H j) .from + (edge H j) .label)) ((edge H j) .to) in (
-        putting-more H (s .nodes2) j w hj room narrow p w′ is,
-        put-beside w₀ once w′ (30848 + 64 * (9 * (edge H j) .to + (edge H j) .label)) ((edge H j) .from) 30816 178272 is (omega arith) (omega (arith, b .0, b .1, b .2))
-            (put-beside w₀ w once (30816 + 64 * (9 * (edge H j) .from + (edge H j) .label)) ((edge H j) .to) 30816 178272 refl (omega arith) (omega (arith, b .0, b .1, b .2)) o),
+      let once = put-bit w (30816 + 32 * (10 * (edge H j) .from + (edge H j) .label)) ((edge H j) .to) in (
+        putting-more H (s .nodes2) j w hj (omega arith) narrow p w′ is,
+        put-beside w₀ once w′ (30816 + 32 * (10 * (edge H j) .to + 9)) ((edge H j) .from) 30816 112736 is (omega arith) (omega (arith, b .0, b .1, b .2))
+            (put-beside w₀ w once (30816 + 32 * (10 * (edge H j) .from + (edge H j) .label)) ((edge H j) .to) 30816 112736 refl (omega arith) (omega (arith, b .0, b .1, b .2)) o),
       )
 
   pub putting-all : (w : List ℕ) (j : ℕ) → s .edges2 ≤ j → Putting H (s .nodes2) j w → Neighbours H (s .nodes2) w
@@ -159,18 +157,18 @@ module _ (s : Sizes) (f g : List ℕ) (x : Both s f g) where
   -- ---- all together
 
   -- w₂ has kinds, w₃ slots, w₄ neighbours, and w₅ is related
-  module _ (w₂ w₃ w₄ w₅ : List ℕ) (o₃ : Outside 16960 29760 w₂ w₃) (o₄ : Outside 30816 178272 w₃ w₄) (o₅ : Outside 0 8192 w₄ w₅) where
+  module _ (w₂ w₃ w₄ w₅ : List ℕ) (o₃ : Outside 16960 29760 w₂ w₃) (o₄ : Outside 30816 112736 w₃ w₄) (o₅ : Outside 0 8192 w₄ w₅) where
     pub kinds-stay : KindRows H (s .nodes2) w₂ → KindRows H (s .nodes2) w₄
     kinds-stay rows k h a b = bit-byte w₄ w₂ (16384 + 32 * k) (16384 + 32 * k) h (o₄ (16384 + 32 * k + h / 8) (inl (omega arith)) ∙ o₃ (16384 + 32 * k + h / 8) (inl (omega arith))) ∙ rows k h a b
 
-    pub prepared : 178272 ≤ length w₅ → Chained w₃ 16960 21568 (labelled-into G) (9 * s .nodes) (s .edges) → Neighbours H (s .nodes2) w₄ → Related (s .nodes) w₅ → Refining G H w₅
+    pub prepared : 165152 ≤ length w₅ → Chained w₃ 16960 21568 (labelled-into G) (9 * s .nodes) (s .edges) → Neighbours H (s .nodes2) w₄ → Related (s .nodes) w₅ → Refining G H w₅
     prepared room slots near rels = record {
       room = room;
       by-slot = subst (λ (n : ℕ). Chained w₅ 16960 21568 (labelled-into G) (9 * n) (length (G .edges))) (sym (first-size s f g x)) (subst (Chained w₅ 16960 21568 (labelled-into G) (9 * s .nodes)) (sym (first-edges s f g x)) (chained-same w₃ w₅ 16960 21568 (labelled-into G) (9 * s .nodes) (s .edges)
           (λ k h. cell-agree w₅ w₃ 16960 2 k (λ q a b. past q (omega arith) (omega (arith, x .few-first-nodes)))) (λ j h. cell-agree w₅ w₃ 21568 2 j (λ q a b. past q (omega arith) (omega (arith, x .few-first-edges)))) slots));
       neighbours = subst (λ (n : ℕ). Neighbours H n w₅) (sym (second-size s f g x)) (record {
-        successors = λ k l y a b c. bit-byte w₅ w₄ (30816 + 64 * (9 * k + l)) (30816 + 64 * (9 * k + l)) y (o₅ (30816 + 64 * (9 * k + l) + y / 8) (inr (omega arith))) ∙ near .successors k l y a b c;
-        predecessors = λ k l y a b c. bit-byte w₅ w₄ (30848 + 64 * (9 * k + l)) (30848 + 64 * (9 * k + l)) y (o₅ (30848 + 64 * (9 * k + l) + y / 8) (inr (omega arith))) ∙ near .predecessors k l y a b c;
+        successors = λ k l y a b c. row-same (10 * k + l) y ∙ near .successors k l y a b c;
+        predecessors = λ k y a c. row-same (10 * k + 9) y ∙ near .predecessors k y a c;
       });
       inside = λ u h a b t.
           let r = subst T (rels u h (omega (arith, a, first-size s f g x)) b) t in
@@ -184,3 +182,6 @@ module _ (s : Sizes) (f g : List ℕ) (x : Both s f g) where
       where
         past : (q : ℕ) → 16960 ≤ q → q < 29760 → getD w₅ q 0 ≡ getD w₃ q 0
         past q a b = o₅ q (inr (omega arith)) ∙ o₄ q (inl (omega arith))
+
+        row-same : (m y : ℕ) → neighbour w₅ m y ≡ neighbour w₄ m y
+        row-same m y = bit-byte w₅ w₄ (30816 + 32 * m) (30816 + 32 * m) y (o₅ (30816 + 32 * m + y / 8) (inr (omega arith)))

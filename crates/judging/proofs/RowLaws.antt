@@ -49,6 +49,10 @@ dropped-bits row w₀ w at k all b low h m =
     ∙ lit-and (getD w₀ (at + h / 8) 0) (255 - getD row (h / 8) 0) (h % 8)
     ∙ ap₂ _&&_ (sym (row-lit w₀ at h)) (lit-not (getD row (h / 8) 0) (h % 8) (low (h / 8) (omega arith)) (omega arith) ∙ ap not (sym (own-lit row h)))
 
+pub kept-bits : (other r₀ r : List ℕ) (k : ℕ) → 32 ≤ k → Bytes (λ j. bitAnd (getD r₀ j 0) (getD other j 0)) r₀ 0 k r → (h : ℕ) → h < 256 → has-bit r 0 h ≡ (has-bit r₀ 0 h && has-bit other 0 h)
+kept-bits other r₀ r k all b h m =
+    written (λ j. bitAnd (getD r₀ j 0) (getD other j 0)) r₀ r 0 k all b h m ∙ lit-and (getD r₀ (h / 8) 0) (getD other (h / 8) 0) (h % 8) ∙ ap₂ _&&_ (sym (own-lit r₀ h)) (sym (own-lit other h))
+
 -- ---- bytes put together
 
 pub joined-more : (f : ℕ → ℕ) (any k : ℕ) → any ≡ joined f k → bitOr any (f k) ≡ joined f (k + 1)
@@ -101,12 +105,19 @@ meets-by row w at any k x is few all same low = (yes-met, no-met)
         (subst T (sym (lit-and (getD row (h / 8) 0) (getD w (at + h / 8) 0) (h % 8)))
         (and-i (lit (getD row (h / 8) 0) (h % 8)) (lit (getD w (at + h / 8) 0) (h % 8)) (subst T (own-lit row h) a) (subst T (row-lit w at h) b)))
 
--- no byte of a row has a digit
-pub blank-bits : (row : List ℕ) (any k : ℕ) → any ≡ joined (λ j. getD row j 0) k → 32 ≤ k → any ≡ 0 → (h : ℕ) → h < 256 → has-bit row 0 h ≡ false
-blank-bits row any k is all z h m =
-    own-lit row h
-    ∙ same-test (lit (getD row (h / 8) 0) (h % 8)) false
-    (λ t. subst T (lit-zero (h % 8)) (subst (λ (y : ℕ). T (lit y (h % 8))) (sym is ∙ z) (joined-i (λ j. getD row j 0) k (h / 8) (h % 8) (omega arith) t))) (λ t. absurd t)
+-- a row has a bit
+pub any-by : (w : List ℕ) (at any k x : ℕ) → any ≡ joined (λ j. getD w (at + j) 0) k → k ≤ 32 → 32 ≤ k → x ≡ any → x < 256
+    → (T (ltb 0 x) → (h : ℕ) × (h < 256) × T (has-bit w at h)) × (T (not (ltb 0 x)) → (h : ℕ) → h < 256 → has-bit w at h ≡ false)
+any-by w at any k x is few all same low = (some, none)
+  where
+    f : ℕ → ℕ
+    f j = getD w (at + j) 0
+
+    some : T (ltb 0 x) → (h : ℕ) × (h < 256) × T (has-bit w at h)
+    some t = let r = some-byte f any k x is few all same low t in (8 * r .0 + r .1, omega (arith, r .2, r .3), subst T (sym (byte-lit w at (r .0) (r .1) (r .3))) (r .4))
+
+    none : T (not (ltb 0 x)) → (h : ℕ) → h < 256 → has-bit w at h ≡ false
+    none t h m = row-lit w at h ∙ same-test (lit (f (h / 8)) (h % 8)) false (λ u. absurd (no-byte f any k x is few all same low t (h / 8) (h % 8) (omega arith) u)) (λ u. absurd u)
 
 -- a row has a bit that another has not
 pub exceeds-by : (w : List ℕ) (at less any k x : ℕ) → any ≡ joined (λ j. bitAnd (getD w (at + j) 0) (255 - getD w (less + j) 0)) k → ((j : ℕ) → j < k → getD w (less + j) 0 < 256) → k ≤ 32 → 32 ≤ k → x ≡ any → x < 256

@@ -22,7 +22,7 @@ pub mod Examples
 
 -- the published length of the work buffer
 abbrev pub compare-room : ℕ
-compare-room = 178272
+compare-room = 165152
 
 -- the paper's number and values for each case
 abbrev pub compared-answer : Compared → Answer

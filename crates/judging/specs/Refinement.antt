@@ -1,5 +1,5 @@
 -- The search for the largest simulation in a lent buffer: a row of bits for each node of the first graph, what it is still related to; beside it what the row was when it was
--- last taken; and, to look up, the first graph's edges by where they lead to and their label, and the neighbours of each node of the second graph by label.
+-- last taken; and, to look up, the first graph's edges by where they lead to and their label, and the neighbours of each node of the second graph.
 use mathlib.Core.Path.{_≡_}
 use mathlib.Core.Logic.{_⊎_}
 use mathlib.Core.Bool.{Bool, _&&_}
@@ -10,7 +10,7 @@ use lib.ListN.{length, getD}
 use Rattle.files.specs.Access.{GraphFile}
 use Rattle.files.specs.Basics.Tables.{tally}
 use Rattle.files.specs.Basics.Tests.{any, one}
-use Rattle.files.specs.Cells.{cell, has-bit}
+use Rattle.files.specs.Cells.{has-bit}
 use Rattle.files.specs.Graph.{Graph, Node, Edge, size, node, no-edge}
 use Rattle.files.specs.Record.{count}
 use Rattle.files.specs.Refusal.{nodes-of}
@@ -51,16 +51,17 @@ held w g h = has-bit w (8192 + 32 * g) h
 abbrev pub load : ℕ → List ℕ → ℕ
 load n w = tally (λ (p : ℕ). held w (p / 256) (p % 256)) (256 * n)
 
--- 1 where the row of v is noted as taken, while every row is taken whole
-abbrev pub noted : List ℕ → ℕ → ℕ
-noted w v = cell w 30272 1 v
+-- row m of neighbours has y
+abbrev pub neighbour : List ℕ → ℕ → ℕ → Bool
+neighbour w m y = has-bit w (30816 + 32 * m) y
 
--- an edge with label l leads from x to y, looked up by where it comes from, and by where it leads to
+-- an edge with label l leads from x to y, looked up by where it comes from
 abbrev pub follows : List ℕ → ℕ → ℕ → ℕ → Bool
-follows w x l y = has-bit w (30816 + 64 * (9 * x + l)) y
+follows w x l y = neighbour w (10 * x + l) y
 
-abbrev pub comes : List ℕ → ℕ → ℕ → ℕ → Bool
-comes w y l x = has-bit w (30848 + 64 * (9 * y + l)) x
+-- an edge leads from x to y, whatever its label, looked up by where it leads to
+abbrev pub comes : List ℕ → ℕ → ℕ → Bool
+comes w y x = neighbour w (10 * y + 9) x
 
 -- method and return flag as one number
 abbrev pub kind : Node → ℕ
@@ -85,6 +86,13 @@ Reaches H v h l = (d : ℕ) × (d < length (H .edges)) × ((edge H d) .from ≡ 
 pub leads-into : Graph → ℕ → ℕ → ℕ → Bool
 leads-into H h l g = any (λ (d : Edge). eqb (d .to) h && (eqb (d .label) l && eqb (d .from) g)) (H .edges)
 
+-- an edge leads from node h to node g, whatever its label
+abbrev pub Leads : Graph → ℕ → ℕ → Type 0
+Leads H h g = (d : ℕ) × (d < length (H .edges)) × ((edge H d) .from ≡ h) × ((edge H d) .to ≡ g)
+
+pub leads-to : Graph → ℕ → ℕ → Bool
+leads-to H h g = any (λ (d : Edge). eqb (d .to) h && eqb (d .from) g) (H .edges)
+
 -- the rows of kinds have the nodes below n
 abbrev pub KindRows : Graph → ℕ → List ℕ → Type 0
 KindRows H n w = (k h : ℕ) → k < 18 → h < 256 → of-kind w k h ≡ (ltb h n && eqb (kind (node H h)) k)
@@ -92,7 +100,7 @@ KindRows H n w = (k h : ℕ) → k < 18 → h < 256 → of-kind w k h ≡ (ltb h
 -- the neighbours of the nodes below n
 pub record Neighbours (H : Graph) (n : ℕ) (w : List ℕ) : Type 0 where
   pub successors : (x l y : ℕ) → x < n → l < 9 → y < 256 → follows w x l y ≡ leads-into H y l x
-  pub predecessors : (y l x : ℕ) → y < n → l < 9 → x < 256 → comes w y l x ≡ leads-into H y l x
+  pub predecessors : (y x : ℕ) → y < n → x < 256 → comes w y x ≡ leads-to H y x
 
 -- ---- a row apart
 
@@ -103,19 +111,23 @@ In r h = T (has-bit r 0 h)
 abbrev pub Within : ℕ → List ℕ → Type 0
 Within n r = (h : ℕ) → h < 256 → In r h → h < n
 
--- node v holds nodes below n only
-abbrev pub HeldInside : ℕ → List ℕ → ℕ → Type 0
-HeldInside n w v = (h : ℕ) → h < 256 → T (held w v h) → h < n
-
--- from c to c′ by adding the predecessors by label l of the nodes from a up to b that v held and that the row r has not
-pub record Handed (n : ℕ) (w : List ℕ) (v l : ℕ) (r c c′ : List ℕ) (a b : ℕ) : Type 0 where
-  pub within : Within n c′
+-- from c to c′ by adding the predecessors of the nodes from a up to b that v held and that the row r has not
+pub record LostAdded (w : List ℕ) (v : ℕ) (r c c′ : List ℕ) (a b : ℕ) : Type 0 where
   pub grown : (x : ℕ) → x < 256 → In c x → In c′ x
-  pub added : (h x : ℕ) → a ≤ h → h < b → x < 256 → T (held w v h) → (In r h → ⊥) → T (comes w h l x) → In c′ x
+  pub added : (h x : ℕ) → a ≤ h → h < b → x < 256 → T (held w v h) → (In r h → ⊥) → T (comes w h x) → In c′ x
+
+-- the row m has every node with an edge to a node that v held and that the row r has not
+abbrev pub LostMet : Graph → List ℕ → ℕ → List ℕ → List ℕ → Type 0
+LostMet H w v r m = (h x : ℕ) → h < size H → x < 256 → T (held w v h) → (In r h → ⊥) → T (leads-to H h x) → In m x
 
 -- an edge of x with label l leads into the row r
 abbrev pub Meets : List ℕ → ℕ → List ℕ → ℕ → Type 0
 Meets w l r x = (y : ℕ) × (y < 256) × In r y × T (follows w x l y)
+
+-- the row c has, of the nodes below n, those without an edge of label l
+pub record Lacking (w : List ℕ) (l n : ℕ) (c : List ℕ) : Type 0 where
+  pub without-edge : (x : ℕ) → x < 256 → In c x → (x < n) × ((y : ℕ) → y < 256 → T (follows w x l y) → ⊥)
+  pub with-edge : (x : ℕ) → x < n → (In c x → ⊥) → (y : ℕ) × (y < 256) × T (follows w x l y)
 
 -- from c to c′ by taking out, of the nodes from a up to b, those of which an edge with label l leads into the row r
 pub record Sifted (w : List ℕ) (l : ℕ) (r c c′ : List ℕ) (a b : ℕ) : Type 0 where
@@ -129,7 +141,7 @@ module _ (G H : Graph) where
 
   -- nothing of the largest simulation is lost, what is related agrees, and what is looked up stands beside it
   pub record Refining (w : List ℕ) : Type 0 where
-    pub room : 178272 ≤ length w
+    pub room : 165152 ≤ length w
     pub by-slot : Chained w 16960 21568 (labelled-into G) (9 * size G) (length (G .edges))
     pub neighbours : Neighbours H (size H) w
     pub inside : (g h : ℕ) → g < size G → h < 256 → T (rel w g h) → (h < size H) × T (alike (node G g) (node H h))
@@ -154,6 +166,10 @@ module _ (G H : Graph) where
   pub NodeMatched : List ℕ → ℕ → Type 0
   NodeMatched w v = (e h : ℕ) → e < length (G .edges) → (edge G e) .to ≡ v → h < 256 → T (rel w ((edge G e) .from) h) → Reaches H (λ (t : ℕ). T (held w v t)) h ((edge G e) .label)
 
+  -- what the sources of edges with label l are related to has an edge with that label
+  pub Leading : List ℕ → ℕ → Type 0
+  Leading w l = (e h : ℕ) → e < length (G .edges) → (edge G e) .label ≡ l → h < 256 → T (rel w ((edge G e) .from) h) → Reaches H (λ (t : ℕ). t < size H) h l
+
   -- what an edge into v with label l may lack a match for stands in the row c
   pub record Candidates (w : List ℕ) (v l : ℕ) (r c : List ℕ) : Type 0 where
     pub within : Within (size H) c
@@ -171,18 +187,12 @@ module _ (G H : Graph) where
   -- node v holds what it is related to, and the edges into it are matched by what it holds
   pub record MatchedAt (w : List ℕ) (v : ℕ) : Type 0 where
     pub holding : (h : ℕ) → h < 256 → T (rel w v h) → T (held w v h)
-    pub held-inside : HeldInside (size H) w v
     pub node-matched : NodeMatched w v
-
-  -- every node whose row is noted as taken
-  pub Noted : List ℕ → Type 0
-  Noted w = (v : ℕ) → v < size G → noted w v ≡ 1 → MatchedAt w v
 
   -- the first n nodes hold what they are related to, and the edges into them are matched by what they hold
   pub record Matching (n : ℕ) (w : List ℕ) : Type 0 where
     pub refining : Refining w
     pub holding : (v h : ℕ) → v < n → h < 256 → T (rel w v h) → T (held w v h)
-    pub held-inside : (v : ℕ) → v < n → HeldInside (size H) w v
     pub node-matched : (v : ℕ) → v < n → NodeMatched w v
 
   -- what is related is the largest simulation

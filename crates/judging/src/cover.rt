@@ -28,7 +28,7 @@ fn is_entry(first: &[u8], second: &[u8], s: Sizes, h: usize) -> bool
 
 // Whether an entry of the second graph is related to node g.
 fn is_covered(first: &[u8], second: &[u8], s: Sizes, work: &[u8], g: usize) -> bool
-    requires { ⌜ ((Both s (now first) (now second))) × ((g < s .nodes) × ((178272 ≤ length (now work)) × (Settled (decode-graph (now first)) (decode-graph (now second)) (now work)))) ⌝ }
+    requires { ⌜ ((Both s (now first) (now second))) × ((g < s .nodes) × ((165152 ≤ length (now work)) × (Settled (decode-graph (now first)) (decode-graph (now second)) (now work)))) ⌝ }
     ensures { λ t. ⌜ t ≡ covered (decode-graph (now (first .entry))) (decode-graph (now (second .entry))) g ⌝ }
 {
     let mut h = 0;
@@ -44,7 +44,7 @@ fn is_covered(first: &[u8], second: &[u8], s: Sizes, work: &[u8], g: usize) -> b
 
 // Whether node g is an entry that no entry of the second graph is related to.
 fn is_uncovered(first: &[u8], second: &[u8], s: Sizes, work: &[u8], g: usize) -> bool
-    requires { ⌜ ((Both s (now first) (now second))) × ((g < s .nodes) × ((178272 ≤ length (now work)) × (Settled (decode-graph (now first)) (decode-graph (now second)) (now work)))) ⌝ }
+    requires { ⌜ ((Both s (now first) (now second))) × ((g < s .nodes) × ((165152 ≤ length (now work)) × (Settled (decode-graph (now first)) (decode-graph (now second)) (now work)))) ⌝ }
     ensures { λ t. ⌜ t ≡ ((node (decode-graph (now (first .entry))) g) .entry && not (covered (decode-graph (now (first .entry))) (decode-graph (now (second .entry))) g)) ⌝ }
 {
     let NodeAt::Is(v) = node_at(first, g, 1) else {
@@ -56,7 +56,7 @@ fn is_uncovered(first: &[u8], second: &[u8], s: Sizes, work: &[u8], g: usize) ->
 
 // The lowest uncovered entry, or the number of nodes.
 pub(crate) fn first_uncovered(first: &[u8], second: &[u8], s: Sizes, work: &[u8]) -> usize
-    requires { ⌜ ((Both s (now first) (now second))) × ((178272 ≤ length (now work)) × (Settled (decode-graph (now first)) (decode-graph (now second)) (now work))) ⌝ }
+    requires { ⌜ ((Both s (now first) (now second))) × ((165152 ≤ length (now work)) × (Settled (decode-graph (now first)) (decode-graph (now second)) (now work))) ⌝ }
     ensures { λ t. ⌜ t ≡ uncovered (decode-graph (now (first .entry))) (decode-graph (now (second .entry))) ⌝ }
 {
     let mut g = 0;
@@ -71,7 +71,7 @@ pub(crate) fn first_uncovered(first: &[u8], second: &[u8], s: Sizes, work: &[u8]
 
 // Writes the relation, 32 bytes for each node of the first graph.
 pub(crate) fn write_relation(first: &[u8], second: &[u8], s: Sizes, work: &[u8], out: &mut [u8])
-    requires { ⌜ ((Both s (now first) (now second))) × ((178272 ≤ length (now work)) × ((Settled (decode-graph (now first)) (decode-graph (now second)) (now work)) × (32 * s .nodes ≤ length (now out)))) ⌝ }
+    requires { ⌜ ((Both s (now first) (now second))) × ((165152 ≤ length (now work)) × ((Settled (decode-graph (now first)) (decode-graph (now second)) (now work)) × (32 * s .nodes ≤ length (now out)))) ⌝ }
     ensures { λ _. ⌜ now (out .exit) ≡ relation-bytes (decode-graph (now (first .entry))) (decode-graph (now (second .entry))) ++ drop (length (relation-bytes (decode-graph (now (first .entry))) (decode-graph (now (second .entry))))) (now (out .entry)) ⌝ }
 {
     let mut g = 0;

@@ -1,5 +1,6 @@
 // What a row of the relation hands on. Node v of the first graph has a row; an edge into v with some label is matched, for a node x, where an edge of x with that label leads
-// into the row. `hand_on` states that all edges into v are matched by the row once it is handed on: candidates are found, those that are matched are sifted out, the rest is dropped.
+// into the row. `hand_on` states that all edges into v are matched by the row once it is handed on: nodes that may have lost their match are found, those that have another are
+// sifted out, the rest is dropped.
 ghost use mathlib.Core.Path.{_≡_};
 ghost use mathlib.Core.Bool.{not};
 ghost use Prim.Native.Nat.{ℕ, _+_, _*_, _-_, _≤_, _<_};
@@ -10,11 +11,12 @@ ghost use Rattle.files.specs.Cells.{has-bit};
 ghost use Rattle.files.specs.Decode.{decode-graph};
 ghost use Rattle.files.specs.Record.{count};
 ghost use Rattle.files.specs.Refusal.{nodes-of};
-ghost use Rattle.judging.specs.Refinement.{Both, rel, edge, labelled-into, Within, Handed, Sifted, HeldInside, Candidates, Contained, Refining, Shrank, NodeMatched, LabelMatched};
+ghost use Rattle.judging.specs.Refinement.{Both, rel, edge, labelled-into, Within, LostAdded, Sifted, LostMet, Contained, Refining, Shrank, NodeMatched, LabelMatched};
 ghost use Rattle.judging.specs.Simulation.{related};
 use crate::rows::add_row;
+use crate::rows::any_at;
 use crate::rows::drop_row;
-use crate::rows::is_blank;
+use crate::rows::keep_row;
 use crate::rows::meets;
 use crate::rows::without;
 use crate::sizes::Sizes;
@@ -50,65 +52,36 @@ fn add_sources(first: &[u8], second: &[u8], s: Sizes, work: &[u8], slot: usize, 
     }
 }
 
-// Adds the predecessors of node h by this label, where v held h and the row has it no longer.
-fn add_lost_at(
-    first: &[u8],
-    second: &[u8],
-    s: Sizes,
-    work: &[u8],
-    v: usize,
-    label: usize,
-    row: &[u8],
-    gone: &mut [u8],
-    h: usize,
-)
-    requires { ⌜ ((32 ≤ length (now row)) × (32 ≤ length (now gone))) × ((Both s (now first) (now second)) × ((v < s .nodes) × ((label < 9) × ((h < 256) × ((Refining (decode-graph (now first)) (decode-graph (now second)) (now work)) × ((HeldInside (s .nodes2) (now work) v) × (Within (s .nodes2) (now gone)))))))) ⌝ }
-    ensures { λ _. ⌜ Handed (s .nodes2) (now (work .entry)) v label (now (row .entry)) (now (gone .entry)) (now (gone .exit)) h (h + 1) ⌝ }
+// Adds the predecessors of node h, where v held h and the row has it no longer.
+fn add_lost_at(work: &[u8], v: usize, row: &[u8], met: &mut [u8], h: usize)
+    requires { ⌜ ((32 ≤ length (now row)) × (32 ≤ length (now met))) × ((165152 ≤ length (now work)) × ((v < 256) × (h < 256))) ⌝ }
+    ensures { λ _. ⌜ LostAdded (now (work .entry)) v (now (row .entry)) (now (met .entry)) (now (met .exit)) h (h + 1) ⌝ }
 {
     if has_bit(work, Sizes::HELD + LINE * v, h) & !has_bit(row, 0, h) {
         add_row(
-            gone,
+            met,
             work,
-            Sizes::PREDECESSORS + Sizes::SLOT * (9 * h + label),
+            Sizes::NEIGHBOURS + LINE * (Sizes::ROWS * h + Sizes::BEFORE),
         );
     }
 }
 
 // The same for the eight nodes of byte k.
-fn add_lost_byte(
-    first: &[u8],
-    second: &[u8],
-    s: Sizes,
-    work: &[u8],
-    v: usize,
-    label: usize,
-    row: &[u8],
-    gone: &mut [u8],
-    k: usize,
-)
-    requires { ⌜ ((32 ≤ length (now row)) × (32 ≤ length (now gone))) × ((Both s (now first) (now second)) × ((v < s .nodes) × ((label < 9) × ((k < 32) × ((Refining (decode-graph (now first)) (decode-graph (now second)) (now work)) × ((HeldInside (s .nodes2) (now work) v) × (Within (s .nodes2) (now gone)))))))) ⌝ }
-    ensures { λ _. ⌜ Handed (s .nodes2) (now (work .entry)) v label (now (row .entry)) (now (gone .entry)) (now (gone .exit)) (8 * k) (8 * k + 8) ⌝ }
+fn add_lost_byte(work: &[u8], v: usize, row: &[u8], met: &mut [u8], k: usize)
+    requires { ⌜ ((32 ≤ length (now row)) × (32 ≤ length (now met))) × ((165152 ≤ length (now work)) × ((v < 256) × (k < 32))) ⌝ }
+    ensures { λ _. ⌜ LostAdded (now (work .entry)) v (now (row .entry)) (now (met .entry)) (now (met .exit)) (8 * k) (8 * k + 8) ⌝ }
 {
     let mut i = 0;
     while i < 8 {
-        add_lost_at(first, second, s, work, v, label, row, gone, 8 * k + i);
+        add_lost_at(work, v, row, met, 8 * k + i);
         i += 1;
     }
 }
 
 // The same for all nodes; a byte in which nothing was lost is passed over.
-fn add_lost(
-    first: &[u8],
-    second: &[u8],
-    s: Sizes,
-    work: &[u8],
-    v: usize,
-    label: usize,
-    row: &[u8],
-    gone: &mut [u8],
-)
-    requires { ⌜ ((32 ≤ length (now row)) × (32 ≤ length (now gone))) × ((Both s (now first) (now second)) × ((v < s .nodes) × ((label < 9) × ((Refining (decode-graph (now first)) (decode-graph (now second)) (now work)) × ((HeldInside (s .nodes2) (now work) v) × (Within (s .nodes2) (now gone))))))) ⌝ }
-    ensures { λ _. ⌜ Handed (s .nodes2) (now (work .entry)) v label (now (row .entry)) (now (gone .entry)) (now (gone .exit)) 0 256 ⌝ }
+fn add_lost(work: &[u8], v: usize, row: &[u8], met: &mut [u8])
+    requires { ⌜ ((32 ≤ length (now row)) × (32 ≤ length (now met))) × ((165152 ≤ length (now work)) × (v < 256)) ⌝ }
+    ensures { λ _. ⌜ LostAdded (now (work .entry)) v (now (row .entry)) (now (met .entry)) (now (met .exit)) 0 256 ⌝ }
 {
     let mut k = 0;
     while k < LINE {
@@ -117,17 +90,21 @@ fn add_lost(
         if without(work[Sizes::HELD + LINE * v + at], row[at]) == 0 {
             continue;
         }
-        add_lost_byte(first, second, s, work, v, label, row, gone, at);
+        add_lost_byte(work, v, row, met, at);
     }
 }
 
 // Takes node x out, if an edge of it with this label leads into the row.
 fn sift_at(work: &[u8], label: usize, row: &[u8], gone: &mut [u8], x: usize)
-    requires { ⌜ ((32 ≤ length (now row)) × (32 ≤ length (now gone))) × ((178272 ≤ length (now work)) × ((label < 9) × (x < 256))) ⌝ }
+    requires { ⌜ ((32 ≤ length (now row)) × (32 ≤ length (now gone))) × ((165152 ≤ length (now work)) × ((label < 9) × (x < 256))) ⌝ }
     ensures { λ _. ⌜ Sifted (now (work .entry)) label (now (row .entry)) (now (gone .entry)) (now (gone .exit)) x (x + 1) ⌝ }
 {
     if has_bit(gone, 0, x) {
-        if meets(row, work, Sizes::SUCCESSORS + Sizes::SLOT * (9 * x + label)) {
+        if meets(
+            row,
+            work,
+            Sizes::NEIGHBOURS + LINE * (Sizes::ROWS * x + label),
+        ) {
             drop_bit(gone, 0, x);
         }
     }
@@ -135,7 +112,7 @@ fn sift_at(work: &[u8], label: usize, row: &[u8], gone: &mut [u8], x: usize)
 
 // The same for the eight nodes of byte k.
 fn sift_byte(work: &[u8], label: usize, row: &[u8], gone: &mut [u8], k: usize)
-    requires { ⌜ ((32 ≤ length (now row)) × (32 ≤ length (now gone))) × ((178272 ≤ length (now work)) × ((label < 9) × (k < 32))) ⌝ }
+    requires { ⌜ ((32 ≤ length (now row)) × (32 ≤ length (now gone))) × ((165152 ≤ length (now work)) × ((label < 9) × (k < 32))) ⌝ }
     ensures { λ _. ⌜ Sifted (now (work .entry)) label (now (row .entry)) (now (gone .entry)) (now (gone .exit)) (8 * k) (8 * k + 8) ⌝ }
 {
     let mut i = 0;
@@ -147,7 +124,7 @@ fn sift_byte(work: &[u8], label: usize, row: &[u8], gone: &mut [u8], k: usize)
 
 // The same for all nodes; a byte without any is passed over.
 fn sift(work: &[u8], label: usize, row: &[u8], gone: &mut [u8])
-    requires { ⌜ ((32 ≤ length (now row)) × (32 ≤ length (now gone))) × ((178272 ≤ length (now work)) × (label < 9)) ⌝ }
+    requires { ⌜ ((32 ≤ length (now row)) × (32 ≤ length (now gone))) × ((165152 ≤ length (now work)) × (label < 9)) ⌝ }
     ensures { λ _. ⌜ Sifted (now (work .entry)) label (now (row .entry)) (now (gone .entry)) (now (gone .exit)) 0 256 ⌝ }
 {
     let mut k = 0;
@@ -162,7 +139,14 @@ fn sift(work: &[u8], label: usize, row: &[u8], gone: &mut [u8])
 }
 
 // Drops a row from what the sources of a slot's edges are related to.
-fn drop_from(first: &[u8], second: &[u8], s: Sizes, work: &mut [u8], slot: usize, gone: &[u8])
+pub(crate) fn drop_from(
+    first: &[u8],
+    second: &[u8],
+    s: Sizes,
+    work: &mut [u8],
+    slot: usize,
+    gone: &[u8],
+)
     requires { ⌜ (32 ≤ length (now gone)) × ((Both s (now first) (now second)) × ((slot < 9 * s .nodes) × ((Refining (decode-graph (now first)) (decode-graph (now second)) (now work)) × ((e h : ℕ) → e < s .edges → T (labelled-into (decode-graph (now first)) slot e) → h < 256 → T (has-bit (now gone) 0 h) → T (related (decode-graph (now first)) (decode-graph (now second)) ((edge (decode-graph (now first)) e) .from) h) → ⊥)))) ⌝ }
     ensures { λ _. ⌜ (Shrank (decode-graph (now (first .entry))) (decode-graph (now (second .entry))) (now (work .entry)) (now (work .exit))) × ((e h : ℕ) → e < s .edges → T (labelled-into (decode-graph (now (first .entry))) slot e) → h < 256 → T (rel (now (work .exit)) ((edge (decode-graph (now (first .entry))) e) .from) h) → T (has-bit (now (gone .entry)) 0 h) → ⊥) ⌝ }
 {
@@ -175,29 +159,7 @@ fn drop_from(first: &[u8], second: &[u8], s: Sizes, work: &mut [u8], slot: usize
     }
 }
 
-// Candidates that may have no match by this label: all that the sources are related to, or those with an edge into what v has lost.
-fn candidates(
-    first: &[u8],
-    second: &[u8],
-    s: Sizes,
-    work: &[u8],
-    v: usize,
-    label: usize,
-    row: &[u8],
-    gone: &mut [u8],
-    all: bool,
-)
-    requires { ⌜ ((32 ≤ length (now row)) × (32 ≤ length (now gone))) × ((Both s (now first) (now second)) × ((v < s .nodes) × ((label < 9) × ((Refining (decode-graph (now first)) (decode-graph (now second)) (now work)) × ((T (not all) → (NodeMatched (decode-graph (now first)) (decode-graph (now second)) (now work) v) × (HeldInside (s .nodes2) (now work) v)) × (Within (s .nodes2) (now gone))))))) ⌝ }
-    ensures { λ _. ⌜ Candidates (decode-graph (now (first .entry))) (decode-graph (now (second .entry))) (now (work .entry)) v label (now (row .entry)) (now (gone .exit)) ⌝ }
-{
-    if all {
-        add_sources(first, second, s, work, 9 * v + label, gone);
-        return;
-    }
-    add_lost(first, second, s, work, v, label, row, gone);
-}
-
-// Hands on the row of node v by one label.
+// Hands on the row of node v by one label: what the sources are related to may have lost its match where it has an edge into what v has lost.
 fn hand_on_by(
     first: &[u8],
     second: &[u8],
@@ -206,9 +168,9 @@ fn hand_on_by(
     v: usize,
     label: usize,
     row: &[u8],
-    all: bool,
+    met: &[u8],
 )
-    requires { ⌜ (32 ≤ length (now row)) × ((Both s (now first) (now second)) × ((v < s .nodes) × ((label < 9) × ((Refining (decode-graph (now first)) (decode-graph (now second)) (now work)) × ((T (not all) → (NodeMatched (decode-graph (now first)) (decode-graph (now second)) (now work) v) × (HeldInside (s .nodes2) (now work) v)) × (Contained (decode-graph (now first)) (decode-graph (now second)) v (now row))))))) ⌝ }
+    requires { ⌜ ((32 ≤ length (now row)) × (32 ≤ length (now met))) × ((Both s (now first) (now second)) × ((v < s .nodes) × ((label < 9) × ((Refining (decode-graph (now first)) (decode-graph (now second)) (now work)) × (((NodeMatched (decode-graph (now first)) (decode-graph (now second)) (now work) v) × (LostMet (decode-graph (now second)) (now work) v (now row) (now met))) × (Contained (decode-graph (now first)) (decode-graph (now second)) v (now row))))))) ⌝ }
     ensures { λ _. ⌜ (Shrank (decode-graph (now (first .entry))) (decode-graph (now (second .entry))) (now (work .entry)) (now (work .exit))) × (LabelMatched (decode-graph (now (first .entry))) (decode-graph (now (second .entry))) (now (work .exit)) v label (now (row .entry))) ⌝ }
 {
     let slot = 9 * v + label;
@@ -216,30 +178,25 @@ fn hand_on_by(
         return;
     }
     let mut gone = [0u8; LINE];
-    candidates(first, second, s, work, v, label, row, &mut gone, all);
+    add_sources(first, second, s, work, slot, &mut gone);
+    keep_row(&mut gone, met);
     sift(work, label, row, &mut gone);
-    if is_blank(&gone) {
+    if !any_at(&gone, 0) {
         return;
     }
     drop_from(first, second, s, work, slot, &gone);
 }
 
 // Hands on the row of node v by every label.
-pub(crate) fn hand_on(
-    first: &[u8],
-    second: &[u8],
-    s: Sizes,
-    work: &mut [u8],
-    v: usize,
-    row: &[u8],
-    all: bool,
-)
-    requires { ⌜ (32 ≤ length (now row)) × ((Both s (now first) (now second)) × ((v < s .nodes) × ((Refining (decode-graph (now first)) (decode-graph (now second)) (now work)) × ((T (not all) → (NodeMatched (decode-graph (now first)) (decode-graph (now second)) (now work) v) × (HeldInside (s .nodes2) (now work) v)) × (Contained (decode-graph (now first)) (decode-graph (now second)) v (now row)))))) ⌝ }
+pub(crate) fn hand_on(first: &[u8], second: &[u8], s: Sizes, work: &mut [u8], v: usize, row: &[u8])
+    requires { ⌜ (32 ≤ length (now row)) × ((Both s (now first) (now second)) × ((v < s .nodes) × ((Refining (decode-graph (now first)) (decode-graph (now second)) (now work)) × ((NodeMatched (decode-graph (now first)) (decode-graph (now second)) (now work) v) × (Contained (decode-graph (now first)) (decode-graph (now second)) v (now row)))))) ⌝ }
     ensures { λ _. ⌜ (Shrank (decode-graph (now (first .entry))) (decode-graph (now (second .entry))) (now (work .entry)) (now (work .exit))) × ((l : ℕ) → l < 9 → LabelMatched (decode-graph (now (first .entry))) (decode-graph (now (second .entry))) (now (work .exit)) v l (now (row .entry))) ⌝ }
 {
+    let mut met = [0u8; LINE];
+    add_lost(work, v, row, &mut met);
     let mut label = 0;
     while label < 9 {
-        hand_on_by(first, second, s, work, v, label, row, all);
+        hand_on_by(first, second, s, work, v, label, row, &met);
         label += 1;
     }
 }

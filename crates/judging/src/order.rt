@@ -24,7 +24,7 @@ struct Place {
 
 // Leaves the node, for the one from which it was met; a root was met from itself.
 fn leave(first: &[u8], second: &[u8], s: Sizes, work: &mut [u8], w: Place) -> Place
-    requires { ⌜ (Both s (now first) (now second)) × ((w .node < s .nodes) × (178272 ≤ length (now work))) ⌝ }
+    requires { ⌜ (Both s (now first) (now second)) × ((w .node < s .nodes) × (165152 ≤ length (now work))) ⌝ }
     ensures { λ r. ⌜ (r .node < s .nodes) × (Outside 29760 30816 (now (work .entry)) (now (work .exit))) ⌝ }
 {
     let at = w.node;
@@ -47,7 +47,7 @@ fn leave(first: &[u8], second: &[u8], s: Sizes, work: &mut [u8], w: Place) -> Pl
 
 // Goes along the next edge of the node, or leaves it.
 fn step(first: &[u8], second: &[u8], s: Sizes, work: &mut [u8], w: Place) -> Place
-    requires { ⌜ (Both s (now first) (now second)) × ((w .node < s .nodes) × (178272 ≤ length (now work))) ⌝ }
+    requires { ⌜ (Both s (now first) (now second)) × ((w .node < s .nodes) × (165152 ≤ length (now work))) ⌝ }
     ensures { λ r. ⌜ (r .node < s .nodes) × (Outside 29760 30816 (now (work .entry)) (now (work .exit))) ⌝ }
 {
     let at = w.node;
@@ -83,7 +83,7 @@ fn walk_from(
     root: usize,
     left: usize,
 ) -> usize
-    requires { ⌜ (Both s (now first) (now second)) × ((root < s .nodes) × (178272 ≤ length (now work))) ⌝ }
+    requires { ⌜ (Both s (now first) (now second)) × ((root < s .nodes) × (165152 ≤ length (now work))) ⌝ }
     ensures { λ _. ⌜ Outside 29760 30816 (now (work .entry)) (now (work .exit)) ⌝ }
 {
     let mut w = Place {
@@ -104,7 +104,7 @@ fn walk_from(
 
 // Walks from a root that was not met. How many nodes are left by then.
 fn visit(first: &[u8], second: &[u8], s: Sizes, work: &mut [u8], root: usize, left: usize) -> usize
-    requires { ⌜ (Both s (now first) (now second)) × ((root < s .nodes) × (178272 ≤ length (now work))) ⌝ }
+    requires { ⌜ (Both s (now first) (now second)) × ((root < s .nodes) × (165152 ≤ length (now work))) ⌝ }
     ensures { λ _. ⌜ Outside 29760 30816 (now (work .entry)) (now (work .exit)) ⌝ }
 {
     if has_bit(work, Sizes::SEEN, root) {
@@ -117,7 +117,7 @@ fn visit(first: &[u8], second: &[u8], s: Sizes, work: &mut [u8], root: usize, le
 
 // The first edge of each node is its next one.
 fn put_cursors(first: &[u8], second: &[u8], s: Sizes, work: &mut [u8])
-    requires { ⌜ (Both s (now first) (now second)) × (178272 ≤ length (now work)) ⌝ }
+    requires { ⌜ (Both s (now first) (now second)) × (165152 ≤ length (now work)) ⌝ }
     ensures { λ _. ⌜ Outside 29760 30816 (now (work .entry)) (now (work .exit)) ⌝ }
 {
     let mut left = s.edges;
@@ -130,7 +130,7 @@ fn put_cursors(first: &[u8], second: &[u8], s: Sizes, work: &mut [u8])
 
 // Walks from every node that was not met.
 pub(crate) fn put_in_order(first: &[u8], second: &[u8], s: Sizes, work: &mut [u8])
-    requires { ⌜ (Both s (now first) (now second)) × (178272 ≤ length (now work)) ⌝ }
+    requires { ⌜ (Both s (now first) (now second)) × (165152 ≤ length (now work)) ⌝ }
     ensures { λ _. ⌜ Outside 29760 30816 (now (work .entry)) (now (work .exit)) ⌝ }
 {
     put_cursors(first, second, s, work);

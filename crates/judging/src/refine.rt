@@ -1,80 +1,108 @@
-// The largest simulation: every row is handed on whole once, in order, then, until no row has lost anything since it was last taken, only what it has lost. The order in which rows are
+// The largest simulation: every node holds the whole second graph at first, and what lacks a label is dropped; then, until no row has lost anything since it was last taken, what it has lost is handed on. The order in which rows are
 // taken changes no result. `refine` states that at the end the relation is the largest simulation.
 ghost use mathlib.Core.Path.{_≡_};
-ghost use mathlib.Core.Logic.{_⊎_};
 ghost use mathlib.Core.Bool.{not};
 ghost use Prim.Native.Nat.{ℕ, _≤_, _<_};
-ghost use lib.Dec.{T};
+ghost use lib.Dec.{T, ltb};
 ghost use lib.ListN.{length};
 ghost use Rattle.files.specs.Decode.{decode-graph};
-ghost use Rattle.judging.specs.Refinement.{Both, rel, held, load, HeldInside, Refining, NodeMatched, Took, noted, Noted, Matching, Settled};
+ghost use Rattle.files.specs.Cells.{has-bit};
+ghost use Rattle.judging.specs.Chains.{Outside};
+ghost use Rattle.judging.specs.Refinement.{Both, rel, held, load, Lacking, Refining, Shrank, Leading, NodeMatched, Took, Matching, Settled};
+use crate::matches::drop_from;
 use crate::matches::hand_on;
 use crate::order::put_in_order;
 use crate::relation::prepare;
+use crate::rows::any_at;
 use crate::rows::exceeds;
 use crate::rows::put_row;
 use crate::rows::row_at;
 use crate::sizes::Sizes;
-use files::cells::clear;
 use files::cells::get8;
-use files::cells::put8;
+use files::cells::put_bit;
 use files::encode::LINE;
 
-// Takes the row of node v: hands it on, whole or what it has lost, and holds it.
-fn take(first: &[u8], second: &[u8], s: Sizes, work: &mut [u8], v: usize, all: bool)
-    requires { ⌜ (Both s (now first) (now second)) × ((v < s .nodes) × ((Refining (decode-graph (now first)) (decode-graph (now second)) (now work)) × (T (not all) → (NodeMatched (decode-graph (now first)) (decode-graph (now second)) (now work) v) × (HeldInside (s .nodes2) (now work) v)))) ⌝ }
+// Takes the row of node v: hands on what it has lost, and holds it.
+fn take(first: &[u8], second: &[u8], s: Sizes, work: &mut [u8], v: usize)
+    requires { ⌜ (Both s (now first) (now second)) × ((v < s .nodes) × ((Refining (decode-graph (now first)) (decode-graph (now second)) (now work)) × (NodeMatched (decode-graph (now first)) (decode-graph (now second)) (now work) v))) ⌝ }
     ensures { λ _. ⌜ Took (decode-graph (now (first .entry))) (decode-graph (now (second .entry))) v (now (work .entry)) (now (work .exit)) ⌝ }
 {
     let row = row_at(work, LINE * v);
-    hand_on(first, second, s, work, v, &row, all);
+    hand_on(first, second, s, work, v, &row);
     put_row(work, Sizes::HELD + LINE * v, &row);
 }
 
-// Takes the row of node v whole, and notes it.
-fn take_noted(first: &[u8], second: &[u8], s: Sizes, work: &mut [u8], v: usize)
-    requires { ⌜ (Both s (now first) (now second)) × ((v < s .nodes) × ((Refining (decode-graph (now first)) (decode-graph (now second)) (now work)) × (Noted (decode-graph (now first)) (decode-graph (now second)) (now work)))) ⌝ }
-    ensures { λ _. ⌜ (Refining (decode-graph (now (first .entry))) (decode-graph (now (second .entry))) (now (work .exit))) × ((Noted (decode-graph (now (first .entry))) (decode-graph (now (second .entry))) (now (work .exit))) × ((u : ℕ) → (u ≡ v) ⊎ (noted (now (work .entry)) u ≡ 1) → noted (now (work .exit)) u ≡ 1)) ⌝ }
+// The nodes of the second graph without an edge of this label.
+fn lacking(s: Sizes, work: &[u8], label: usize) -> [u8; LINE]
+    requires { ⌜ (165152 ≤ length (now work)) × ((s .nodes2 ≤ 256) × (label < 9)) ⌝ }
+    ensures { λ r. ⌜ (length r ≡ 32) × (Lacking (now (work .entry)) label (s .nodes2) r) ⌝ }
 {
-    take(first, second, s, work, v, true);
-    put8(work, Sizes::PARENTS, v, 1);
+    let mut row = [0u8; LINE];
+    let mut x = 0;
+    while x < s.nodes2 {
+        if !any_at(work, Sizes::NEIGHBOURS + LINE * (Sizes::ROWS * x + label)) {
+            put_bit(&mut row, 0, x);
+        }
+        x += 1;
+    }
+    row
 }
 
-// Takes the rows of the nodes that the walk lists whole, in its order: successors first, since what a row loses later must be handed on once more.
-fn match_listed(first: &[u8], second: &[u8], s: Sizes, work: &mut [u8])
-    requires { ⌜ (Both s (now first) (now second)) × (Refining (decode-graph (now first)) (decode-graph (now second)) (now work)) ⌝ }
-    ensures { λ _. ⌜ (Refining (decode-graph (now (first .entry))) (decode-graph (now (second .entry))) (now (work .exit))) × (Noted (decode-graph (now (first .entry))) (decode-graph (now (second .entry))) (now (work .exit))) ⌝ }
+// Drops the nodes without an edge of this label from the rows of all nodes with one.
+fn drop_lacking_by(first: &[u8], second: &[u8], s: Sizes, work: &mut [u8], label: usize)
+    requires { ⌜ (Both s (now first) (now second)) × ((label < 9) × (Refining (decode-graph (now first)) (decode-graph (now second)) (now work))) ⌝ }
+    ensures { λ _. ⌜ (Shrank (decode-graph (now (first .entry))) (decode-graph (now (second .entry))) (now (work .entry)) (now (work .exit))) × (Leading (decode-graph (now (first .entry))) (decode-graph (now (second .entry))) (now (work .exit)) label) ⌝ }
 {
-    clear(&mut work[Sizes::PARENTS..Sizes::ORDER]);
-    let mut i = 0;
-    while i < s.nodes {
-        let v = get8(work, Sizes::ORDER, i) as usize;
-        i += 1;
-        if s.nodes <= v {
-            continue;
-        }
-        take_noted(first, second, s, work, v);
+    let gone = lacking(s, work, label);
+    let mut v = 0;
+    while v < s.nodes {
+        drop_from(first, second, s, work, 9 * v + label, &gone);
+        v += 1;
     }
 }
 
-// Takes every row whole that is not noted.
-fn match_all(first: &[u8], second: &[u8], s: Sizes, work: &mut [u8])
-    requires { ⌜ (Both s (now first) (now second)) × ((Refining (decode-graph (now first)) (decode-graph (now second)) (now work)) × (Noted (decode-graph (now first)) (decode-graph (now second)) (now work))) ⌝ }
-    ensures { λ _. ⌜ Matching (decode-graph (now (first .entry))) (decode-graph (now (second .entry))) (s .nodes) (now (work .exit)) ⌝ }
+// The same for every label: what is left is matched somewhere in the second graph.
+fn drop_lacking(first: &[u8], second: &[u8], s: Sizes, work: &mut [u8])
+    requires { ⌜ (Both s (now first) (now second)) × (Refining (decode-graph (now first)) (decode-graph (now second)) (now work)) ⌝ }
+    ensures { λ _. ⌜ (Shrank (decode-graph (now (first .entry))) (decode-graph (now (second .entry))) (now (work .entry)) (now (work .exit))) × ((l : ℕ) → l < 9 → Leading (decode-graph (now (first .entry))) (decode-graph (now (second .entry))) (now (work .exit)) l) ⌝ }
 {
+    let mut label = 0;
+    while label < 9 {
+        drop_lacking_by(first, second, s, work, label);
+        label += 1;
+    }
+}
+
+// The row of all nodes of the second graph.
+fn everything(s: Sizes) -> [u8; LINE]
+    requires { ⌜ s .nodes2 ≤ 256 ⌝ }
+    ensures { λ r. ⌜ (length r ≡ 32) × ((h : ℕ) → h < 256 → has-bit r 0 h ≡ ltb h (s .nodes2)) ⌝ }
+{
+    let mut row = [0u8; LINE];
+    let mut x = 0;
+    while x < s.nodes2 {
+        put_bit(&mut row, 0, x);
+        x += 1;
+    }
+    row
+}
+
+// Holds all nodes of the second graph for every node of the first.
+fn hold_everything(first: &[u8], second: &[u8], s: Sizes, work: &mut [u8])
+    requires { ⌜ (Both s (now first) (now second)) × (165152 ≤ length (now work)) ⌝ }
+    ensures { λ _. ⌜ ((v h : ℕ) → v < s .nodes → h < 256 → held (now (work .exit)) v h ≡ ltb h (s .nodes2)) × (Outside 8192 16384 (now (work .entry)) (now (work .exit))) ⌝ }
+{
+    let row = everything(s);
     let mut v = 0;
     while v < s.nodes {
-        let at = v;
+        put_row(work, Sizes::HELD + LINE * v, &row);
         v += 1;
-        if get8(work, Sizes::PARENTS, at) == 1 {
-            continue;
-        }
-        take_noted(first, second, s, work, at);
     }
 }
 
 // Whether node v has lost anything since its row was last taken.
 fn has_lost(first: &[u8], second: &[u8], s: Sizes, work: &[u8], v: usize) -> bool
-    requires { ⌜ (Both s (now first) (now second)) × ((v < s .nodes) × (178272 ≤ length (now work))) ⌝ }
+    requires { ⌜ (Both s (now first) (now second)) × ((v < s .nodes) × (165152 ≤ length (now work))) ⌝ }
     ensures { λ r. ⌜ (T r → (h : ℕ) × (h < 256) × T (held (now (work .entry)) v h) × (T (rel (now (work .entry)) v h) → ⊥)) × (T (not r) → (h : ℕ) → h < 256 → T (held (now (work .entry)) v h) → T (rel (now (work .entry)) v h)) ⌝ }
 {
     exceeds(work, Sizes::HELD + LINE * v, LINE * v)
@@ -86,7 +114,7 @@ fn settle_node(first: &[u8], second: &[u8], s: Sizes, work: &mut [u8], v: usize)
     ensures { λ _. ⌜ (Matching (decode-graph (now (first .entry))) (decode-graph (now (second .entry))) (s .nodes) (now (work .exit))) × (load (s .nodes) (now (work .exit)) ≤ load (s .nodes) (now (work .entry))) ⌝ }
 {
     while has_lost(first, second, s, work, v) {
-        take(first, second, s, work, v, false);
+        take(first, second, s, work, v);
     }
 }
 
@@ -108,7 +136,7 @@ fn sweep(first: &[u8], second: &[u8], s: Sizes, work: &mut [u8])
 
 // The lowest node that has lost anything, or the number of nodes.
 fn lowest_unsettled(first: &[u8], second: &[u8], s: Sizes, work: &[u8]) -> usize
-    requires { ⌜ (Both s (now first) (now second)) × (178272 ≤ length (now work)) ⌝ }
+    requires { ⌜ (Both s (now first) (now second)) × (165152 ≤ length (now work)) ⌝ }
     ensures { λ r. ⌜ (r < s .nodes → (h : ℕ) × (h < 256) × T (held (now (work .entry)) r h) × (T (rel (now (work .entry)) r h) → ⊥)) × (s .nodes ≤ r → (v h : ℕ) → v < s .nodes → h < 256 → T (held (now (work .entry)) v h) → T (rel (now (work .entry)) v h)) ⌝ }
 {
     let mut v = 0;
@@ -129,7 +157,7 @@ fn settle(first: &[u8], second: &[u8], s: Sizes, work: &mut [u8])
     sweep(first, second, s, work);
     let mut v = lowest_unsettled(first, second, s, work);
     while v < s.nodes {
-        take(first, second, s, work, v, false);
+        take(first, second, s, work, v);
         sweep(first, second, s, work);
         v = lowest_unsettled(first, second, s, work);
     }
@@ -137,12 +165,12 @@ fn settle(first: &[u8], second: &[u8], s: Sizes, work: &mut [u8])
 
 // The largest simulation, whatever the buffer held.
 pub(crate) fn refine(first: &[u8], second: &[u8], s: Sizes, work: &mut [u8])
-    requires { ⌜ (Both s (now first) (now second)) × (178272 ≤ length (now work)) ⌝ }
+    requires { ⌜ (Both s (now first) (now second)) × (165152 ≤ length (now work)) ⌝ }
     ensures { λ _. ⌜ Settled (decode-graph (now (first .entry))) (decode-graph (now (second .entry))) (now (work .exit)) ⌝ }
 {
     prepare(first, second, s, work);
     put_in_order(first, second, s, work);
-    match_listed(first, second, s, work);
-    match_all(first, second, s, work);
+    hold_everything(first, second, s, work);
+    drop_lacking(first, second, s, work);
     settle(first, second, s, work);
 }

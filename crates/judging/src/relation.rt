@@ -1,5 +1,5 @@
 // The relation at first, and what the search looks up beside it: the second graph's nodes by method and return flag, a row of bits each; the edges of the first graph by
-// where they lead to and their label, as chains; the neighbours of each node of the second graph by label, as rows of bits. `prepare` states that all of it stands in the buffer.
+// where they lead to and their label, as chains; the neighbours of each node of the second graph, as rows of bits. `prepare` states that all of it stands in the buffer.
 ghost use mathlib.Core.Path.{_≡_};
 ghost use mathlib.Core.Bool.{_&&_};
 ghost use Prim.Native.Nat.{ℕ, _+_, _*_, _≤_, _<_};
@@ -41,7 +41,7 @@ fn kind_of(graph: &[u8], g: usize) -> usize
 
 // Puts the second graph's nodes into the rows of their kinds.
 fn put_kinds(first: &[u8], second: &[u8], s: Sizes, work: &mut [u8])
-    requires { ⌜ (Both s (now first) (now second)) × ((178272 ≤ length (now work)) × ((q : ℕ) → 16384 ≤ q → q < 16960 → getD (now work) q 0 ≡ 0)) ⌝ }
+    requires { ⌜ (Both s (now first) (now second)) × ((165152 ≤ length (now work)) × ((q : ℕ) → 16384 ≤ q → q < 16960 → getD (now work) q 0 ≡ 0)) ⌝ }
     ensures { λ _. ⌜ (KindRows (decode-graph (now (second .entry))) (s .nodes2) (now (work .exit))) × (Outside 16384 16960 (now (work .entry)) (now (work .exit))) ⌝ }
 {
     let mut h = 0;
@@ -54,7 +54,7 @@ fn put_kinds(first: &[u8], second: &[u8], s: Sizes, work: &mut [u8])
 
 // Relates every node of the first graph to all of its kind.
 fn relate(first: &[u8], second: &[u8], s: Sizes, work: &mut [u8])
-    requires { ⌜ (Both s (now first) (now second)) × ((178272 ≤ length (now work)) × (KindRows (decode-graph (now second)) (s .nodes2) (now work))) ⌝ }
+    requires { ⌜ (Both s (now first) (now second)) × ((165152 ≤ length (now work)) × (KindRows (decode-graph (now second)) (s .nodes2) (now work))) ⌝ }
     ensures { λ _. ⌜ ((g h : ℕ) → g < s .nodes → h < 256 → rel (now (work .exit)) g h ≡ (ltb h (s .nodes2) && alike (node (decode-graph (now (first .entry))) g) (node (decode-graph (now (second .entry))) h))) × (Outside 0 8192 (now (work .entry)) (now (work .exit))) ⌝ }
 {
     let mut g = 0;
@@ -79,7 +79,7 @@ fn slot_of(first: &[u8], second: &[u8], s: Sizes, e: usize) -> usize
 
 // Links every edge of the first graph to its slot.
 fn link_slots(first: &[u8], second: &[u8], s: Sizes, work: &mut [u8])
-    requires { ⌜ (Both s (now first) (now second)) × ((178272 ≤ length (now work)) × ((q : ℕ) → 16960 ≤ q → q < 21568 → getD (now work) q 0 ≡ 0)) ⌝ }
+    requires { ⌜ (Both s (now first) (now second)) × ((165152 ≤ length (now work)) × ((q : ℕ) → 16960 ≤ q → q < 21568 → getD (now work) q 0 ≡ 0)) ⌝ }
     ensures { λ _. ⌜ (Chained (now (work .exit)) 16960 21568 (labelled-into (decode-graph (now (first .entry)))) (9 * s .nodes) (s .edges)) × (Outside 16960 29760 (now (work .entry)) (now (work .exit))) ⌝ }
 {
     let mut e = 0;
@@ -92,8 +92,8 @@ fn link_slots(first: &[u8], second: &[u8], s: Sizes, work: &mut [u8])
 
 // Puts edge j of the second graph into the successors of where it comes from and the predecessors of where it leads to.
 fn put_edge(first: &[u8], second: &[u8], s: Sizes, work: &mut [u8], j: usize)
-    requires { ⌜ (Both s (now first) (now second)) × ((j < s .edges2) × (178272 ≤ length (now work))) ⌝ }
-    ensures { λ _. ⌜ now (work .exit) ≡ put-bit (put-bit (now (work .entry)) (30816 + 64 * (9 * (edge (decode-graph (now (second .entry))) j) .from + (edge (decode-graph (now (second .entry))) j) .label)) ((edge (decode-graph (now (second .entry))) j) .to)) (30848 + 64 * (9 * (edge (decode-graph (now (second .entry))) j) .to + (edge (decode-graph (now (second .entry))) j) .label)) ((edge (decode-graph (now (second .entry))) j) .from) ⌝ }
+    requires { ⌜ (Both s (now first) (now second)) × ((j < s .edges2) × (165152 ≤ length (now work))) ⌝ }
+    ensures { λ _. ⌜ now (work .exit) ≡ put-bit (put-bit (now (work .entry)) (30816 + 32 * (10 * (edge (decode-graph (now (second .entry))) j) .from + (edge (decode-graph (now (second .entry))) j) .label)) ((edge (decode-graph (now (second .entry))) j) .to)) (30816 + 32 * (10 * (edge (decode-graph (now (second .entry))) j) .to + 9)) ((edge (decode-graph (now (second .entry))) j) .from) ⌝ }
 {
     let EdgeAt::Is(x) = edge_at(second, s.nodes2, j, 0) else {
         return;
@@ -101,20 +101,20 @@ fn put_edge(first: &[u8], second: &[u8], s: Sizes, work: &mut [u8], j: usize)
     let label = x.label as usize;
     put_bit(
         work,
-        Sizes::SUCCESSORS + Sizes::SLOT * (9 * x.from + label),
+        Sizes::NEIGHBOURS + LINE * (Sizes::ROWS * x.from + label),
         x.to,
     );
     put_bit(
         work,
-        Sizes::PREDECESSORS + Sizes::SLOT * (9 * x.to + label),
+        Sizes::NEIGHBOURS + LINE * (Sizes::ROWS * x.to + Sizes::BEFORE),
         x.from,
     );
 }
 
 // Puts all edges of the second graph.
 fn put_edges(first: &[u8], second: &[u8], s: Sizes, work: &mut [u8])
-    requires { ⌜ (Both s (now first) (now second)) × ((178272 ≤ length (now work)) × ((q : ℕ) → 30816 ≤ q → q < 30816 + 576 * s .nodes2 → getD (now work) q 0 ≡ 0)) ⌝ }
-    ensures { λ _. ⌜ (Neighbours (decode-graph (now (second .entry))) (s .nodes2) (now (work .exit))) × (Outside 30816 178272 (now (work .entry)) (now (work .exit))) ⌝ }
+    requires { ⌜ (Both s (now first) (now second)) × ((165152 ≤ length (now work)) × ((q : ℕ) → 30816 ≤ q → q < 30816 + 320 * s .nodes2 → getD (now work) q 0 ≡ 0)) ⌝ }
+    ensures { λ _. ⌜ (Neighbours (decode-graph (now (second .entry))) (s .nodes2) (now (work .exit))) × (Outside 30816 112736 (now (work .entry)) (now (work .exit))) ⌝ }
 {
     let mut j = 0;
     while j < s.edges2 {
@@ -125,10 +125,10 @@ fn put_edges(first: &[u8], second: &[u8], s: Sizes, work: &mut [u8])
 
 // All that the search starts from, whatever the buffer held.
 pub(crate) fn prepare(first: &[u8], second: &[u8], s: Sizes, work: &mut [u8])
-    requires { ⌜ (Both s (now first) (now second)) × (178272 ≤ length (now work)) ⌝ }
+    requires { ⌜ (Both s (now first) (now second)) × (165152 ≤ length (now work)) ⌝ }
     ensures { λ _. ⌜ Refining (decode-graph (now (first .entry))) (decode-graph (now (second .entry))) (now (work .exit)) ⌝ }
 {
-    clear(&mut work[Sizes::KINDS..Sizes::SUCCESSORS + 9 * Sizes::SLOT * s.nodes2]);
+    clear(&mut work[Sizes::KINDS..Sizes::NEIGHBOURS + Sizes::ROWS * LINE * s.nodes2]);
     put_kinds(first, second, s, work);
     link_slots(first, second, s, work);
     put_edges(first, second, s, work);

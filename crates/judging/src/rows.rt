@@ -81,18 +81,18 @@ pub(crate) fn meets(row: &[u8], work: &[u8], at: usize) -> bool
     wide(any) > 0
 }
 
-// Whether a row has no bit.
-pub(crate) fn is_blank(row: &[u8]) -> bool
-    requires { ⌜ 32 ≤ length (now row) ⌝ }
-    ensures { λ r. ⌜ (T r → (h : ℕ) → h < 256 → has-bit (now (row .entry)) 0 h ≡ false) ⌝ }
+// Whether the row from `at` on has a bit.
+pub(crate) fn any_at(work: &[u8], at: usize) -> bool
+    requires { ⌜ at + 32 ≤ length (now work) ⌝ }
+    ensures { λ r. ⌜ (T r → (h : ℕ) × (h < 256) × T (has-bit (now (work .entry)) at h)) × (T (not r) → (h : ℕ) → h < 256 → has-bit (now (work .entry)) at h ≡ false) ⌝ }
 {
     let mut any = 0;
     let mut k = 0;
     while k < LINE {
-        any = any | row[k];
+        any = any | work[at + k];
         k += 1;
     }
-    any == 0
+    wide(any) > 0
 }
 
 // Whether the row from `at` on has a bit that the row from `less` on has not.
@@ -107,4 +107,16 @@ pub(crate) fn exceeds(work: &[u8], at: usize, less: usize) -> bool
         k += 1;
     }
     wide(any) > 0
+}
+
+// Keeps of a row what another has too.
+pub(crate) fn keep_row(row: &mut [u8], other: &[u8])
+    requires { ⌜ (32 ≤ length (now row)) × (32 ≤ length (now other)) ⌝ }
+    ensures { λ _. ⌜ ((h : ℕ) → h < 256 → has-bit (now (row .exit)) 0 h ≡ (has-bit (now (row .entry)) 0 h && has-bit (now (other .entry)) 0 h)) ⌝ }
+{
+    let mut k = 0;
+    while k < LINE {
+        row[k] = row[k] & other[k];
+        k += 1;
+    }
 }

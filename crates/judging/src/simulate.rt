@@ -20,7 +20,7 @@ use files::refusal::Refusal;
 
 // The verdict on two accepted graphs.
 fn contrast(first: &[u8], second: &[u8], s: Sizes, out: &mut [u8], work: &mut [u8]) -> Compared
-    requires { ⌜ ((Both s (now first) (now second))) × (178272 ≤ length (now work)) ⌝ }
+    requires { ⌜ ((Both s (now first) (now second))) × (165152 ≤ length (now work)) ⌝ }
     ensures { λ t. ⌜ Answers (from-relation (now (first .entry)) (now (second .entry)) (length (now (out .entry)))) (now (out .entry)) (now (out .exit)) (compared-answer t) ⌝ }
 {
     if out.len() < LINE * s.nodes {
@@ -43,7 +43,7 @@ fn compare_files(
     work: &mut [u8],
     limits: Limits,
 ) -> Compared
-    requires { ⌜ (Strides limits) × (178272 ≤ length (now work)) ⌝ }
+    requires { ⌜ (Strides limits) × (165152 ≤ length (now work)) ⌝ }
     ensures { λ t. ⌜ Answers (from-first limits (now (first .entry)) (now (second .entry)) (length (now (out .entry)))) (now (out .entry)) (now (out .exit)) (compared-answer t) ⌝ }
 {
     let counted = check_graph(second, 2, limits);

@@ -19,7 +19,7 @@ impl Sizes {
 
     pub const NEXTS: usize = 21568;
 
-    // The walk that puts the first graph's nodes in order: the next edge of each node, the node from which it was met, the nodes as they are left, and which were met. While every row is taken whole, a node that was is noted among the second.
+    // The walk that puts the first graph's nodes in order: the next edge of each node, the node from which it was met, the nodes as they are left, and which were met.
     pub const CURSORS: usize = 29760;
 
     pub const PARENTS: usize = 30272;
@@ -28,13 +28,13 @@ impl Sizes {
 
     pub const SEEN: usize = 30784;
 
-    // Slot 9 * x + l of the second graph: where edges of node x with label l lead to, then where those that lead to x with label l come from.
-    pub const SUCCESSORS: usize = 30816;
+    // Ten rows for each node of the second graph: where its edges lead to, a row for each label, and last where the edges that lead to it come from.
+    pub const NEIGHBOURS: usize = 30816;
 
-    pub const PREDECESSORS: usize = 30848;
+    pub const ROWS: usize = 10;
 
-    pub const SLOT: usize = 64;
+    pub const BEFORE: usize = 9;
 
-    // The published length of the buffer.
-    pub const ROOM: usize = 178272;
+    // The published length of the buffer. The parts above end at 112736; callers hold buffers of the length that was published first (docs/DECISIONS.md).
+    pub const ROOM: usize = 165152;
 }

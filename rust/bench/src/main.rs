@@ -20,7 +20,8 @@ const NOTE: &str = "\
 Median of batches in turn, warm, one thread, the same bytes.
 proved: the output is as long as the result, work buffers as published; the call clears each of them whole, and the time includes that. Joining and showing
 have none, the composed verdict has two.
-second: takes its memory from the allocator in every call and clears nothing afterwards.";
+second: takes its memory from the allocator in every call and clears nothing afterwards.
+clearing: filling work buffers of the same lengths with zeros, once, and nothing else. rest: the ratio without it.";
 
 fn main() -> io::Result<()> {
     println!("{NOTE}");

@@ -10,7 +10,10 @@ const BATCHES: usize = 9;
 const BATCH: Duration = Duration::from_millis(10);
 
 pub fn print_header(call: &str) {
-    println!("\n{call:36} {:28} {:>11} {:>11} {:>7}", "answer", "proved", "second", "ratio");
+    println!(
+        "\n{call:36} {:28} {:>11} {:>11} {:>7} {:>11} {:>7}",
+        "answer", "proved", "second", "ratio", "clearing", "rest"
+    );
 }
 
 /// Runs all inputs of the row one after the other; the time is that of all of them together.
@@ -23,20 +26,29 @@ pub fn print_line(call: &Call, row: &Timed) {
     let mut buffers = work_buffers(call);
     let mut work: Vec<&mut [u8]> = buffers.iter_mut().map(Vec::as_mut_slice).collect();
     let mut out: Vec<Vec<u8>> = row.inputs.iter().map(|input| vec![0; need(call, input)]).collect();
-    let proved = || {
+    let mut cleared = work_buffers(call);
+    let proved = &mut || {
         for (input, out) in row.inputs.iter().zip(&mut out) {
             black_box((call.proved)(black_box(input), out, &mut work));
         }
     };
-    let second = || {
+    let second = &mut || {
         for input in &row.inputs {
             black_box(call.result(black_box(input)));
         }
     };
-    let [proved, second] = medians(proved, second);
-    let ratio = proved / second;
-    let (proved, second) = (in_units(proved), in_units(second));
-    println!("{:36} {answer:28} {proved:>11} {second:>11} {ratio:>7.2}", row.name);
+    let clearing = &mut || {
+        for _ in &row.inputs {
+            black_box(&mut cleared).iter_mut().for_each(|buffer| buffer.fill(0));
+        }
+    };
+    let [proved, second, clearing] = medians([proved, second, clearing]);
+    let (ratio, rest) = (proved / second, (proved - clearing) / second);
+    let (proved, second, clearing) = (in_units(proved), in_units(second), in_units(clearing));
+    println!(
+        "{:36} {answer:28} {proved:>11} {second:>11} {ratio:>7.2} {clearing:>11} {rest:>7.2}",
+        row.name
+    );
 }
 
 fn work_buffers(call: &Call) -> Vec<Vec<u8>> {
@@ -63,12 +75,13 @@ fn agreed(call: &Call, input: &Input) -> String {
 }
 
 /// Seconds for one run of each, the median over the batches.
-fn medians(mut proved: impl FnMut(), mut second: impl FnMut()) -> [f64; 2] {
-    let runs = [runs_in_a_batch(&mut proved), runs_in_a_batch(&mut second)];
-    let mut times = [Vec::new(), Vec::new()];
+fn medians<const N: usize>(mut calls: [&mut dyn FnMut(); N]) -> [f64; N] {
+    let runs: Vec<u32> = calls.iter_mut().map(|call| runs_in_a_batch(call)).collect();
+    let mut times = [(); N].map(|()| Vec::new());
     for _ in 0..BATCHES {
-        times[0].push(batch_time(&mut proved, runs[0]));
-        times[1].push(batch_time(&mut second, runs[1]));
+        for ((call, &runs), times) in calls.iter_mut().zip(&runs).zip(&mut times) {
+            times.push(batch_time(call, runs));
+        }
     }
     times.map(|mut times| {
         times.sort_by(f64::total_cmp);
@@ -77,7 +90,7 @@ fn medians(mut proved: impl FnMut(), mut second: impl FnMut()) -> [f64; 2] {
 }
 
 /// Doubles the runs until they fill a batch, which also warms them up.
-fn runs_in_a_batch(call: &mut impl FnMut()) -> u32 {
+fn runs_in_a_batch(call: &mut dyn FnMut()) -> u32 {
     let mut runs = 1;
     while batch_time(call, runs) * f64::from(runs) < BATCH.as_secs_f64() {
         runs *= 2;
@@ -86,7 +99,7 @@ fn runs_in_a_batch(call: &mut impl FnMut()) -> u32 {
 }
 
 /// Seconds for one of so many runs.
-fn batch_time(call: &mut impl FnMut(), runs: u32) -> f64 {
+fn batch_time(call: &mut dyn FnMut(), runs: u32) -> f64 {
     let start = Instant::now();
     for _ in 0..runs {
         call();

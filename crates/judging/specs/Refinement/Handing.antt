@@ -9,51 +9,45 @@ use native.Mathlib.Omega.{arith}
 use lib.Dec.{T, T-not}
 use lib.ListN.{length, getD}
 use Rattle.files.specs.Basics.Lists.{index-i, index-e}
-use Rattle.files.specs.Basics.Tests.{and-l, and-r, or-e, or-l, or-r, eq-eqb}
+use Rattle.files.specs.Basics.Tests.{and-i, and-l, and-r, or-e, or-l, or-r, eq-eqb}
 use Rattle.files.specs.Cells.{has-bit, drop-bit}
 use Rattle.files.specs.Cells.Laws.{bit-byte, cell-agree, drop-same, drop-other}
 use Rattle.files.specs.Graph.{Graph, Edge, size, no-edge, Flow}
 use Rattle.judging.specs.Chains.{Outside}
 use Rattle.judging.specs.Chains.Laws.{chained-same}
-use Rattle.judging.specs.Refinement.{rel, held, edge, comes, labelled-into, Reaches, Neighbours, In, Within, HeldInside, Handed, Meets, Sifted, Refining, Shrank, Contained, LabelMatched, NodeMatched, Candidates}
-use Rattle.judging.specs.Refinement.Preparing.{leads-into-i, leads-into-e}
+use Rattle.judging.specs.Refinement.{rel, held, edge, neighbour, follows, comes, labelled-into, Reaches, Neighbours, In, Within, LostAdded, LostMet, Meets, Sifted, Refining, Shrank, Contained, LabelMatched, NodeMatched, Leading, Candidates}
+use Rattle.judging.specs.Refinement.Preparing.{leads-into-i, leads-into-e, leads-to-i}
 use Rattle.judging.specs.Refinement.Files.{from-in, to-in}
 use Rattle.judging.specs.Simulation.{related}
 use Rattle.judging.specs.Simulation.Laws.{related-e, related-simulation}
 
 -- ---- predecessors of what was lost
 
-module _ (n : ℕ) (w : List ℕ) (v l : ℕ) (r : List ℕ) where
-  pub handed-none : (c : List ℕ) (a : ℕ) → Within n c → Handed n w v l r c c a a
-  handed-none c a i = record { within = i; grown = λ x b t. t; added = λ h x p q b. absurd (omega arith) }
+module _ (w : List ℕ) (v : ℕ) (r : List ℕ) where
+  pub lost-none : (c : List ℕ) (a : ℕ) → LostAdded w v r c c a a
+  lost-none c a = record { grown = λ x b t. t; added = λ h x p q b. absurd (omega arith) }
 
-  pub handed-on : (c c′ c″ : List ℕ) (a b d : ℕ) → Handed n w v l r c c′ a b → Handed n w v l r c′ c″ b d → Handed n w v l r c c″ a d
-  handed-on c c′ c″ a b d x y = record { within = y .within; grown = λ k m t. y .grown k m (x .grown k m t); added = λ h k p q m s f t. go h k p q m s f t (decLt h b) }
+  pub lost-on : (c c′ c″ : List ℕ) (a b d : ℕ) → LostAdded w v r c c′ a b → LostAdded w v r c′ c″ b d → LostAdded w v r c c″ a d
+  lost-on c c′ c″ a b d x y = record { grown = λ k m t. y .grown k m (x .grown k m t); added = λ h k p q m s f t. go h k p q m s f t (decLt h b) }
     where
-      go : (h k : ℕ) → a ≤ h → h < d → k < 256 → T (held w v h) → (In r h → ⊥) → T (comes w h l k) → Dec (h < b) → In c″ k
+      go : (h k : ℕ) → a ≤ h → h < d → k < 256 → T (held w v h) → (In r h → ⊥) → T (comes w h k) → Dec (h < b) → In c″ k
       go h k p q m s f t (yes z) = y .grown k m (x .added h k p z m s f t)
       go h k p q m s f t (no z) = y .added h k (omega arith) q m s f t
 
   -- nothing was lost from b up to d
-  pub handed-over : (c c′ : List ℕ) (a b d : ℕ) → ((h : ℕ) → b ≤ h → h < d → T (held w v h) → (In r h → ⊥) → ⊥) → Handed n w v l r c c′ a b → Handed n w v l r c c′ a d
-  handed-over c c′ a b d none x = record { within = x .within; grown = x .grown; added = λ h k p q m s f t. go h k p q m s f t (decLt h b) }
+  pub lost-over : (c c′ : List ℕ) (a b d : ℕ) → ((h : ℕ) → b ≤ h → h < d → T (held w v h) → (In r h → ⊥) → ⊥) → LostAdded w v r c c′ a b → LostAdded w v r c c′ a d
+  lost-over c c′ a b d none x = record { grown = x .grown; added = λ h k p q m s f t. go h k p q m s f t (decLt h b) }
     where
-      go : (h k : ℕ) → a ≤ h → h < d → k < 256 → T (held w v h) → (In r h → ⊥) → T (comes w h l k) → Dec (h < b) → In c′ k
+      go : (h k : ℕ) → a ≤ h → h < d → k < 256 → T (held w v h) → (In r h → ⊥) → T (comes w h k) → Dec (h < b) → In c′ k
       go h k p q m s f t (yes z) = x .added h k p z m s f t
       go h k p q m s f t (no z) = absurd (none h (omega arith) q s f)
 
   -- the predecessors of one node
-  pub handed-one : (H : Graph) → Neighbours H n w → ((d : ℕ) → d < length (H .edges) → (edge H d) .from < n) → (c c′ : List ℕ) (h : ℕ) → h < n → l < 9 → Within n c
-      → ((x : ℕ) → x < 256 → has-bit c′ 0 x ≡ (has-bit c 0 x || comes w h l x)) → Handed n w v l r c c′ h (h + 1)
-  handed-one H near sources c c′ h hn hl i bits = record {
-    within = λ x b t. go x b (or-e (has-bit c 0 x) (comes w h l x) (subst T (bits x b) t));
-    grown = λ x b t. subst T (sym (bits x b)) (or-l (has-bit c 0 x) (comes w h l x) t);
-    added = λ k x p q b s f t. subst T (sym (bits x b)) (or-r (has-bit c 0 x) (comes w h l x) (let e : k ≡ h = omega arith in subst (λ (m : ℕ). T (comes w m l x)) e t));
+  pub lost-one : (c c′ : List ℕ) (h : ℕ) → ((x : ℕ) → x < 256 → has-bit c′ 0 x ≡ (has-bit c 0 x || comes w h x)) → LostAdded w v r c c′ h (h + 1)
+  lost-one c c′ h bits = record {
+    grown = λ x b t. subst T (sym (bits x b)) (or-l (has-bit c 0 x) (comes w h x) t);
+    added = λ k x p q b s f t. subst T (sym (bits x b)) (or-r (has-bit c 0 x) (comes w h x) (let e : k ≡ h = omega arith in subst (λ (m : ℕ). T (comes w m x)) e t));
   }
-    where
-      go : (x : ℕ) → x < 256 → In c x ⊎ T (comes w h l x) → x < n
-      go x b (inl t) = i x b t
-      go x b (inr t) = let d = leads-into-e H h l x (subst T (near .predecessors h l x hn hl b) t) in subst (λ (m : ℕ). m < n) (d .2) (sources (d .0) (d .1))
 
 -- ---- sifting
 
@@ -161,12 +155,15 @@ module _ (G H : Graph) (fl : Flow G) (fk : Flow H) (fg : size G ≤ 256) (fh : s
     room = omega (arith, long, x .room);
     by-slot = chained-same w w′ 16960 21568 (labelled-into G) (9 * size G) (length (G .edges)) (λ k h. cell-agree w′ w 16960 2 k (λ q a b. past q (omega arith) (inl (omega arith)))) (λ j h. cell-agree w′ w 21568 2 j (λ q a b. past q (omega arith) (inl (omega arith)))) (x .by-slot);
     neighbours = record {
-      successors = λ k l y a b c. bit-byte w′ w (30816 + 64 * (9 * k + l)) (30816 + 64 * (9 * k + l)) y (past (30816 + 64 * (9 * k + l) + y / 8) (omega arith) (inr (omega arith))) ∙ x .neighbours .successors k l y a b c;
-      predecessors = λ k l y a b c. bit-byte w′ w (30848 + 64 * (9 * k + l)) (30848 + 64 * (9 * k + l)) y (past (30848 + 64 * (9 * k + l) + y / 8) (omega arith) (inr (omega arith))) ∙ x .neighbours .predecessors k l y a b c;
+      successors = λ k l y a b c. row-same (10 * k + l) y ∙ x .neighbours .successors k l y a b c;
+      predecessors = λ k y a c. row-same (10 * k + 9) y ∙ x .neighbours .predecessors k y a c;
     };
     inside = λ g h a b t. x .inside g h a b (less g h a b t);
     contains = all;
   }
+    where
+      row-same : (m y : ℕ) → neighbour w′ m y ≡ neighbour w m y
+      row-same m y = bit-byte w′ w (30816 + 32 * m) (30816 + 32 * m) y (past (30816 + 32 * m + y / 8) (omega arith) (inr (omega arith)))
 
   -- and so does putting the nodes in order
   pub order-beside : (w w′ : List ℕ) → Outside 29760 30816 w w′ → length w′ ≡ length w → Refining G H w → Refining G H w′
@@ -257,33 +254,31 @@ module _ (G H : Graph) (fl : Flow G) (fk : Flow H) (fg : size G ≤ 256) (fh : s
 
   -- ---- candidates
 
-  -- by what the sources are related to
-  pub candidates-all : (w : List ℕ) (v l : ℕ) (r c : List ℕ) → Within (size H) c
-      → ((e h : ℕ) → e < length (G .edges) → T (labelled-into G (9 * v + l) e) → h < 256 → T (rel w ((edge G e) .from) h) → In c h) → Candidates G H w v l r c
-  candidates-all w v l r c i f = record { within = i; complete = λ e h he to-is label-is b t. inl (f e h he (same e to-is label-is) b t) }
-    where
-      same : (e : ℕ) → (edge G e) .to ≡ v → (edge G e) .label ≡ l → T (labelled-into G (9 * v + l) e)
-      same e a b = eq-eqb (9 * (edge G e) .to + (edge G e) .label) (9 * v + l) (omega arith)
+  -- what has an edge to what v has lost, by the rows of predecessors
+  pub lost-met : (w : List ℕ) (v : ℕ) (r c m : List ℕ) → Refining G H w → LostAdded w v r c m 0 256 → LostMet H w v r m
+  lost-met w v r c m x y h k hh hk t f u = y .added h k (omega arith) (omega arith) hk t f (subst T (sym (x .neighbours .predecessors h k hh hk)) u)
 
-  -- by what v has lost
-  pub candidates-lost : (w : List ℕ) (v l : ℕ) (r c c′ : List ℕ) → l < 9 → Refining G H w → NodeMatched G H w v → HeldInside (size H) w v → Handed (size H) w v l r c c′ 0 256 → Candidates G H w v l r c′
+  pub lost-kept : (w w′ : List ℕ) (v : ℕ) (r m : List ℕ) → v < size G → Shrank G H w w′ → LostMet H w v r m → LostMet H w′ v r m
+  lost-kept w w′ v r m hv y z h k hh hk t = z h k hh hk (subst T (y .held-kept v h hv (omega arith)) t)
+
+  -- what the sources are related to, as far as it has an edge to what v has lost
+  pub candidates-met : (w : List ℕ) (v l : ℕ) (r m a c : List ℕ) → NodeMatched G H w v → LostMet H w v r m → Within (size H) a
+      → ((e h : ℕ) → e < length (G .edges) → T (labelled-into G (9 * v + l) e) → h < 256 → T (rel w ((edge G e) .from) h) → In a h) → ((h : ℕ) → h < 256 → has-bit c 0 h ≡ (has-bit a 0 h && has-bit m 0 h)) → Candidates G H w v l r c
   unfolding NodeMatched
-  candidates-lost w v l r c c′ hl x m i y = record { within = y .within; complete = λ e h he to-is label-is b t. go e h he label-is b (m e h he to-is b t) }
+  candidates-met w v l r m a c matched met i sources bits = record {
+    within = λ h b t. i h b (and-l (has-bit a 0 h) (has-bit m 0 h) (subst T (bits h b) t));
+    complete = λ e h he to-is label-is b t. go e h label-is b (sources e h he (eq-eqb (9 * (edge G e) .to + (edge G e) .label) (9 * v + l) (omega arith)) b t) (matched e h he to-is b t);
+  }
     where
-      go : (e h : ℕ) → e < length (G .edges) → (edge G e) .label ≡ l → h < 256 → Reaches H (λ (t : ℕ). T (held w v t)) h ((edge G e) .label) → In c′ h ⊎ Reaches H (In r) h l
-      go e h he label-is b d = split (has-bit r 0 to) refl
+      go : (e h : ℕ) → (edge G e) .label ≡ l → h < 256 → In a h → Reaches H (λ (t : ℕ). T (held w v t)) h ((edge G e) .label) → In c h ⊎ Reaches H (In r) h l
+      go e h label-is b p d = split (has-bit r 0 to) refl
         where
           to : ℕ
           to = (edge H (d .0)) .to
 
-          low : to < size H
-          low = to-in H fk (d .0) (d .1)
-
-          split : (p : Bool) → has-bit r 0 to ≡ p → In c′ h ⊎ Reaches H (In r) h l
+          split : (q : Bool) → has-bit r 0 to ≡ q → In c h ⊎ Reaches H (In r) h l
           split true q = inr (d .0, d .1, d .2, d .3 ∙ label-is, subst T (sym q) tt)
-          split false q =
-              inl (y .added to h (omega arith) (omega (arith, low)) b (d .4) (λ t. subst T q t)
-              (subst T (sym (x .neighbours .predecessors to l h low hl b)) (leads-into-i H to l h (d .0, d .1, d .2, d .3 ∙ label-is, refl))))
+          split false q = inl (subst T (sym (bits h b)) (and-i (has-bit a 0 h) (has-bit m 0 h) p (met to h (to-in H fk (d .0) (d .1)) b (d .4) (λ t. subst T q t) (leads-to-i H to h (d .0, d .1, d .2, refl)))))
 
   -- what v holds, and the matches by it, stay
   pub node-kept : (w w′ : List ℕ) (v : ℕ) → v < size G → Shrank G H w w′ → NodeMatched G H w v → NodeMatched G H w′ v
@@ -292,3 +287,29 @@ module _ (G H : Graph) (fl : Flow G) (fk : Flow H) (fg : size G ≤ 256) (fh : s
       let d = m e h he to-is b (y .rel-less ((edge G e) .from) h (from-in G fl e he) b t) in
       let z = to-in H fk (d .0) (d .1) in
       (d .0, d .1, d .2, d .3, subst T (sym (y .held-kept v ((edge H (d .0)) .to) hv (omega (arith, z)))) (d .4))
+
+  -- ---- nodes without an edge of a label
+
+  -- a node without an edge of label l is related to no source of such an edge
+  pub lacking-apart : (w : List ℕ) → Refining G H w → (l h : ℕ) → l < 9 → ((y : ℕ) → y < 256 → T (follows w h l y) → ⊥) → (e : ℕ) → e < length (G .edges) → (edge G e) .label ≡ l → T (related G H ((edge G e) .from) h) → ⊥
+  lacking-apart w x l h hl none e he label-is t =
+      let s = related-simulation G H fl fk in
+      let a = s .matched ((edge G e) .from) h t (edge G e) (index-e no-edge (G .edges) e he) refl in
+      let d = index-i no-edge (H .edges) (a .0) (a .1) in
+      let b : (edge H (d .0)) .to < size H = to-in H fk (d .0) (d .1) in
+      none ((edge H (d .0)) .to) (omega (arith, b)) (subst T (sym (x .neighbours .successors h l ((edge H (d .0)) .to) ((related-e G H fl fk ((edge G e) .from) h t) .1) hl (omega (arith, b))))
+      (leads-into-i H ((edge H (d .0)) .to) l h (d .0, d .1, ap (λ (y : Edge). y .from) (d .2) ∙ a .2, ap (λ (y : Edge). y .label) (d .2) ∙ a .3 ∙ label-is, refl)))
+
+  -- once they are dropped, what is left has such an edge
+  pub leading-by : (w w′ c : List ℕ) (l : ℕ) → l < 9 → Refining G H w → Shrank G H w w′ → ((h : ℕ) → h < size H → (In c h → ⊥) → (y : ℕ) × (y < 256) × T (follows w h l y))
+      → ((e h : ℕ) → e < length (G .edges) → (edge G e) .label ≡ l → h < 256 → T (rel w′ ((edge G e) .from) h) → In c h → ⊥) → Leading G H w′ l
+  unfolding Leading
+  leading-by w w′ c l hl r y has none e h he label-is b t =
+      let low : h < size H = (y .refining .inside ((edge G e) .from) h (from-in G fl e he) b t) .0 in
+      let k = has h low (none e h he label-is b t) in
+      let d = leads-into-e H (k .0) l h (subst T (r .neighbours .successors h l (k .0) low hl (k .1)) (k .2)) in
+      (d .0, d .1, d .2, d .3, to-in H fk (d .0) (d .1))
+
+  pub leading-kept : (w w′ : List ℕ) (l : ℕ) → Shrank G H w w′ → Leading G H w l → Leading G H w′ l
+  unfolding Leading
+  leading-kept w w′ l y x e h he label-is b t = x e h he label-is b (y .rel-less ((edge G e) .from) h (from-in G fl e he) b t)

@@ -15,7 +15,7 @@ use Rattle.files.specs.Cells.{has-bit, put-bit}
 use Rattle.files.specs.Cells.Laws.{bit-byte, bit-same, bit-other, bit-outside, length-put-bit}
 use Rattle.files.specs.Graph.{Graph, Node, Edge, node, no-edge}
 use Rattle.judging.specs.Chains.{Outside}
-use Rattle.judging.specs.Refinement.{kind, of-kind, edge, follows, comes, leads-into, Reaches, KindRows, Neighbours}
+use Rattle.judging.specs.Refinement.{kind, of-kind, edge, neighbour, follows, comes, leads-into, leads-to, Reaches, Leads, KindRows, Neighbours}
 use Rattle.judging.specs.Simulation.{alike}
 use Rattle.judging.specs.Simulation.Laws.{alike-e, alike-i}
 
@@ -119,57 +119,71 @@ leads-into-e H h l g t = go (any-e (leads h l g) (H .edges) t)
           eqb→eq (d .to) h (and-l (eqb (d .to) h) (eqb (d .label) l && eqb (d .from) g) s),
         )
 
+pub leads-to-i : (H : Graph) (h g : ℕ) → Leads H g h → T (leads-to H h g)
+unfolding leads-to
+leads-to-i H h g r =
+    let d = edge H (r .0) in
+    any-i (λ (e : Edge). eqb (e .to) h && eqb (e .from) g) (H .edges) d (index-e no-edge (H .edges) (r .0) (r .1)) (and-i (eqb (d .to) h) (eqb (d .from) g) (T-eqb (d .to) h (r .3)) (T-eqb (d .from) g (r .2)))
+
+leads-to-e : (H : Graph) (h g : ℕ) → T (leads-to H h g) → Leads H g h
+unfolding leads-to
+leads-to-e H h g t = go (any-e (λ (e : Edge). eqb (e .to) h && eqb (e .from) g) (H .edges) t)
+  where
+    go : (d : Edge) × List·Memᴰ d (H .edges) × T (eqb (d .to) h && eqb (d .from) g) → Leads H g h
+    go a =
+        let i = index-i no-edge (H .edges) (a .0) (a .1) in
+        let d = edge H (i .0) in
+        let s : T (eqb (d .to) h && eqb (d .from) g) = subst (λ (z : Edge). T (eqb (z .to) h && eqb (z .from) g)) (sym (i .2)) (a .2) in
+        (i .0, i .1, eqb→eq (d .from) g (and-r (eqb (d .to) h) (eqb (d .from) g) s), eqb→eq (d .to) h (and-l (eqb (d .to) h) (eqb (d .from) g) s))
+
 -- the edges below j are put, and nothing else, for the nodes below n
 pub record Putting (H : Graph) (n j : ℕ) (w : List ℕ) : Type 0 where
   pub after-sound : (x l y : ℕ) → x < n → l < 9 → y < 256 → T (follows w x l y) → Reaches H (λ (t : ℕ). t ≡ y) x l
-  pub before-sound : (y l x : ℕ) → y < n → l < 9 → x < 256 → T (comes w y l x) → Reaches H (λ (t : ℕ). t ≡ y) x l
+  pub before-sound : (y x : ℕ) → y < n → x < 256 → T (comes w y x) → Leads H x y
   pub after-full : (d : ℕ) → d < j → T (follows w ((edge H d) .from) ((edge H d) .label) ((edge H d) .to))
-  pub before-full : (d : ℕ) → d < j → T (comes w ((edge H d) .to) ((edge H d) .label) ((edge H d) .from))
+  pub before-full : (d : ℕ) → d < j → T (comes w ((edge H d) .to) ((edge H d) .from))
 
-pub putting-none : (H : Graph) (n : ℕ) (w : List ℕ) → ((x l y : ℕ) → x < n → l < 9 → y < 256 → follows w x l y ≡ false) → ((y l x : ℕ) → y < n → l < 9 → x < 256 → comes w y l x ≡ false) → Putting H n 0 w
-putting-none H n w f g = record {
-  after-sound = λ x l y a b c t. absurd (subst T (f x l y a b c) t);
-  before-sound = λ y l x a b c t. absurd (subst T (g y l x a b c) t);
+pub putting-none : (H : Graph) (n : ℕ) (w : List ℕ) → ((m y : ℕ) → m < 10 * n → y < 256 → neighbour w m y ≡ false) → Putting H n 0 w
+putting-none H n w f = record {
+  after-sound = λ x l y a b c t. absurd (subst T (f (10 * x + l) y (omega arith) c) t);
+  before-sound = λ y x a c t. absurd (subst T (f (10 * y + 9) x (omega arith) c) t);
   after-full = λ d h. absurd (omega arith);
   before-full = λ d h. absurd (omega arith);
 }
 
 -- a bit of row m, put or there before
-module _ (w : List ℕ) (base m h : ℕ) (fits : base + 64 * m + h / 8 < length w) (small : h < 256) where
+module _ (w : List ℕ) (m h : ℕ) (fits : 30816 + 32 * m + h / 8 < length w) (small : h < 256) where
   abbrev more : List ℕ
-  more = put-bit w (base + 64 * m) h
+  more = put-bit w (30816 + 32 * m) h
 
-  side : (m k : ℕ) → (m ≡ k → ⊥) → (base + 64 * m + 32 ≤ base + 64 * k) ⊎ (base + 64 * k + 32 ≤ base + 64 * m)
-  side m k f = go (decLt m k)
+  side : (k : ℕ) → (m ≡ k → ⊥) → (30816 + 32 * m + 32 ≤ 30816 + 32 * k) ⊎ (30816 + 32 * k + 32 ≤ 30816 + 32 * m)
+  side k f = go (decLt m k)
     where
-      go : Dec (m < k) → (base + 64 * m + 32 ≤ base + 64 * k) ⊎ (base + 64 * k + 32 ≤ base + 64 * m)
+      go : Dec (m < k) → (30816 + 32 * m + 32 ≤ 30816 + 32 * k) ⊎ (30816 + 32 * k + 32 ≤ 30816 + 32 * m)
       go (yes l) = inl (omega arith)
       go (no l) = inr (omega arith)
 
-  pub put-e : (k g : ℕ) → g < 256 → T (has-bit more (base + 64 * k) g) → ((m ≡ k) × (h ≡ g)) ⊎ T (has-bit w (base + 64 * k) g)
+  put-e : (k g : ℕ) → g < 256 → T (neighbour more k g) → ((m ≡ k) × (h ≡ g)) ⊎ T (neighbour w k g)
   put-e k g b t = go (ℕ-discrete m k) (ℕ-discrete h g)
     where
-      go : Dec (m ≡ k) → Dec (h ≡ g) → ((m ≡ k) × (h ≡ g)) ⊎ T (has-bit w (base + 64 * k) g)
+      go : Dec (m ≡ k) → Dec (h ≡ g) → ((m ≡ k) × (h ≡ g)) ⊎ T (neighbour w k g)
       go (yes e) (yes d) = inl (e, d)
-      go (yes e) (no f) = inr (subst (λ (n : ℕ). T (has-bit w (base + 64 * n) g)) e (subst T (bit-other w (base + 64 * m) h g f) (subst (λ (n : ℕ). T (has-bit more (base + 64 * n) g)) (sym e) t)))
-      go (no f) d = inr (subst T (put-apart w (base + 64 * m) h (base + 64 * k) g small b (side m k f)) t)
+      go (yes e) (no f) = inr (subst (λ (n : ℕ). T (neighbour w n g)) e (subst T (bit-other w (30816 + 32 * m) h g f) (subst (λ (n : ℕ). T (neighbour more n g)) (sym e) t)))
+      go (no f) d = inr (subst T (put-apart w (30816 + 32 * m) h (30816 + 32 * k) g small b (side k f)) t)
 
-  pub put-i : (k g : ℕ) → g < 256 → T (has-bit w (base + 64 * k) g) → T (has-bit more (base + 64 * k) g)
+  put-here : T (neighbour more m h)
+  put-here = subst T (sym (bit-same w (30816 + 32 * m) h fits)) tt
+
+  put-i : (k g : ℕ) → g < 256 → T (neighbour w k g) → T (neighbour more k g)
   put-i k g b t = go (ℕ-discrete m k) (ℕ-discrete h g)
     where
-      go : Dec (m ≡ k) → Dec (h ≡ g) → T (has-bit more (base + 64 * k) g)
-      go (yes e) (yes d) = subst (λ (n : ℕ). T (has-bit more (base + 64 * n) g)) e (subst (λ (n : ℕ). T (has-bit more (base + 64 * m) n)) d here)
-        where
-          here : T (has-bit more (base + 64 * m) h)
-          here = subst T (sym (bit-same w (base + 64 * m) h fits)) tt
-      go (yes e) (no f) = subst (λ (n : ℕ). T (has-bit more (base + 64 * n) g)) e (subst T (sym (bit-other w (base + 64 * m) h g f)) (subst (λ (n : ℕ). T (has-bit w (base + 64 * n) g)) (sym e) t))
-      go (no f) d = subst T (sym (put-apart w (base + 64 * m) h (base + 64 * k) g small b (side m k f))) t
-
-  pub put-here : T (has-bit more (base + 64 * m) h)
-  put-here = subst T (sym (bit-same w (base + 64 * m) h fits)) tt
+      go : Dec (m ≡ k) → Dec (h ≡ g) → T (neighbour more k g)
+      go (yes e) (yes d) = subst (λ (n : ℕ). T (neighbour more n g)) e (subst (λ (n : ℕ). T (neighbour more m n)) d put-here)
+      go (yes e) (no f) = subst (λ (n : ℕ). T (neighbour more n g)) e (subst T (sym (bit-other w (30816 + 32 * m) h g f)) (subst (λ (n : ℕ). T (neighbour w n g)) (sym e) t))
+      go (no f) d = subst T (sym (put-apart w (30816 + 32 * m) h (30816 + 32 * k) g small b (side k f))) t
 
 -- edge j more
-module _ (H : Graph) (n j : ℕ) (w : List ℕ) (hj : j < length (H .edges)) (room : 178272 ≤ length w)
+module _ (H : Graph) (n j : ℕ) (w : List ℕ) (hj : j < length (H .edges)) (room : 112736 ≤ length w)
     (inside : (d : ℕ) → d < length (H .edges) → ((edge H d) .from < 256) × ((edge H d) .to < 256) × ((edge H d) .label < 9)) (p : Putting H n j w) where
   abbrev fr : ℕ
   fr = (edge H j) .from
@@ -181,82 +195,69 @@ module _ (H : Graph) (n j : ℕ) (w : List ℕ) (hj : j < length (H .edges)) (ro
   to = (edge H j) .to
 
   abbrev once : List ℕ
-  once = put-bit w (30816 + 64 * (9 * fr + lab)) to
+  once = put-bit w (30816 + 32 * (10 * fr + lab)) to
 
   abbrev twice : List ℕ
-  twice = put-bit once (30848 + 64 * (9 * to + lab)) fr
+  twice = put-bit once (30816 + 32 * (10 * to + 9)) fr
 
   abbrev bounds : (fr < 256) × (to < 256) × (lab < 9)
   bounds = inside j hj
 
-  first-fits : 30816 + 64 * (9 * fr + lab) + to / 8 < length w
+  first-fits : 30816 + 32 * (10 * fr + lab) + to / 8 < length w
   first-fits = omega (arith, bounds .0, bounds .1, bounds .2)
 
-  second-fits : 30848 + 64 * (9 * to + lab) + fr / 8 < length once
-  second-fits = omega (arith, bounds .0, bounds .1, bounds .2, length-put-bit w (30816 + 64 * (9 * fr + lab)) to)
+  second-fits : 30816 + 32 * (10 * to + 9) + fr / 8 < length once
+  second-fits = omega (arith, bounds .0, bounds .1, length-put-bit w (30816 + 32 * (10 * fr + lab)) to)
 
-  -- the row of the one kind is apart from every row of the other
-  apart : (m k : ℕ) → (30848 + 64 * m + 32 ≤ 30816 + 64 * k) ⊎ (30816 + 64 * k + 32 ≤ 30848 + 64 * m)
-  apart m k = go (decLt m k)
+  -- what stands in a row of neighbours after both, and what was there
+  both-i : (m y : ℕ) → y < 256 → T (neighbour w m y) → T (neighbour twice m y)
+  both-i m y c t = put-i once (10 * to + 9) fr second-fits (bounds .0) m y c (put-i w (10 * fr + lab) to first-fits (bounds .1) m y c t)
+
+  both-e : (m y : ℕ) → y < 256 → T (neighbour twice m y) → ((10 * to + 9 ≡ m) × (fr ≡ y)) ⊎ (((10 * fr + lab ≡ m) × (to ≡ y)) ⊎ T (neighbour w m y))
+  both-e m y c t = go (put-e once (10 * to + 9) fr second-fits (bounds .0) m y c t)
     where
-      go : Dec (m < k) → (30848 + 64 * m + 32 ≤ 30816 + 64 * k) ⊎ (30816 + 64 * k + 32 ≤ 30848 + 64 * m)
-      go (yes l) = inl (omega arith)
-      go (no l) = inr (omega arith)
-
-  slots-same : (x l y k : ℕ) → l < 9 → k < 9 → 9 * x + l ≡ 9 * y + k → (x ≡ y) × (l ≡ k)
-  slots-same x l y k a b e = (omega arith, omega arith)
+      go : ((10 * to + 9 ≡ m) × (fr ≡ y)) ⊎ T (neighbour once m y) → ((10 * to + 9 ≡ m) × (fr ≡ y)) ⊎ (((10 * fr + lab ≡ m) × (to ≡ y)) ⊎ T (neighbour w m y))
+      go (inl e) = inl e
+      go (inr u) = inr (put-e w (10 * fr + lab) to first-fits (bounds .1) m y c u)
 
   pub putting-more : (w′ : List ℕ) → w′ ≡ twice → Putting H n (j + 1) w′
   putting-more w′ is = subst (Putting H n (j + 1)) (sym is) (record {
-    after-sound = λ x l y a b c t. after x l y a b c (put-e w 30816 (9 * fr + lab) to first-fits (bounds .1) (9 * x + l) y c (subst T (after-same x l y c) t));
-    before-sound = λ y l x a b c t. before y l x a b c (put-e once 30848 (9 * to + lab) fr second-fits (bounds .0) (9 * y + l) x c t);
+    after-sound = λ x l y a b c t. after x l y a b c (both-e (10 * x + l) y c t);
+    before-sound = λ y x a c t. before y x a c (both-e (10 * y + 9) x c t);
     after-full = λ d h. after-all d h (ℕ-discrete d j);
     before-full = λ d h. before-all d h (ℕ-discrete d j);
   })
     where
-      after-same : (x l y : ℕ) → y < 256 → follows twice x l y ≡ follows once x l y
-      after-same x l y c = put-apart once (30848 + 64 * (9 * to + lab)) fr (30816 + 64 * (9 * x + l)) y (bounds .0) c (apart (9 * to + lab) (9 * x + l))
+      after : (x l y : ℕ) → x < n → l < 9 → y < 256 → ((10 * to + 9 ≡ 10 * x + l) × (fr ≡ y)) ⊎ (((10 * fr + lab ≡ 10 * x + l) × (to ≡ y)) ⊎ T (follows w x l y)) → Reaches H (λ (t : ℕ). t ≡ y) x l
+      after x l y a b c (inl e) = absurd (omega (arith, e .0))
+      after x l y a b c (inr (inl e)) = (j, hj, omega (arith, e .0, bounds .2), omega (arith, e .0, bounds .2), e .1)
+      after x l y a b c (inr (inr t)) = p .after-sound x l y a b c t
 
-      before-same : (y l x : ℕ) → x < 256 → comes once y l x ≡ comes w y l x
-      before-same y l x c = put-apart w (30816 + 64 * (9 * fr + lab)) to (30848 + 64 * (9 * y + l)) x (bounds .1) c (turned (apart (9 * y + l) (9 * fr + lab)))
-        where
-          turned : {A B : Type 0} → A ⊎ B → B ⊎ A
-          turned (inl a) = inr a
-          turned (inr b) = inl b
-
-      after : (x l y : ℕ) → x < n → l < 9 → y < 256 → ((9 * fr + lab ≡ 9 * x + l) × (to ≡ y)) ⊎ T (follows w x l y) → Reaches H (λ (t : ℕ). t ≡ y) x l
-      after x l y a b c (inl e) = let s = slots-same fr lab x l (bounds .2) b (e .0) in (j, hj, s .0, s .1, e .1)
-      after x l y a b c (inr t) = p .after-sound x l y a b c t
-
-      before : (y l x : ℕ) → y < n → l < 9 → x < 256 → ((9 * to + lab ≡ 9 * y + l) × (fr ≡ x)) ⊎ T (comes once y l x) → Reaches H (λ (t : ℕ). t ≡ y) x l
-      before y l x a b c (inl e) = let s = slots-same to lab y l (bounds .2) b (e .0) in (j, hj, e .1, s .1, s .0)
-      before y l x a b c (inr t) = p .before-sound y l x a b c (subst T (before-same y l x c) t)
+      before : (y x : ℕ) → y < n → x < 256 → ((10 * to + 9 ≡ 10 * y + 9) × (fr ≡ x)) ⊎ (((10 * fr + lab ≡ 10 * y + 9) × (to ≡ x)) ⊎ T (comes w y x)) → Leads H x y
+      before y x a c (inl e) = (j, hj, e .1, omega (arith, e .0))
+      before y x a c (inr (inl e)) = absurd (omega (arith, e .0, bounds .2))
+      before y x a c (inr (inr t)) = p .before-sound y x a c t
 
       after-all : (d : ℕ) → d < j + 1 → Dec (d ≡ j) → T (follows twice ((edge H d) .from) ((edge H d) .label) ((edge H d) .to))
-      after-all d h (yes e) = subst (λ (i : ℕ). T (follows twice ((edge H i) .from) ((edge H i) .label) ((edge H i) .to))) (sym e) (subst T (sym (after-same fr lab to (bounds .1))) (put-here w 30816 (9 * fr + lab) to first-fits (bounds .1)))
-      after-all d h (no f) =
-          let b = inside d (omega (arith, hj)) in
-          subst T (sym (after-same ((edge H d) .from) ((edge H d) .label) ((edge H d) .to) (b .1)))
-          (put-i w 30816 (9 * fr + lab) to first-fits (bounds .1) (9 * (edge H d) .from + (edge H d) .label) ((edge H d) .to) (b .1) (p .after-full d (omega arith)))
+      after-all d h (yes e) =
+          subst (λ (i : ℕ). T (follows twice ((edge H i) .from) ((edge H i) .label) ((edge H i) .to))) (sym e)
+          (put-i once (10 * to + 9) fr second-fits (bounds .0) (10 * fr + lab) to (bounds .1) (put-here w (10 * fr + lab) to first-fits (bounds .1)))
+      after-all d h (no f) = both-i (10 * (edge H d) .from + (edge H d) .label) ((edge H d) .to) ((inside d (omega (arith, hj))) .1) (p .after-full d (omega arith))
 
-      before-all : (d : ℕ) → d < j + 1 → Dec (d ≡ j) → T (comes twice ((edge H d) .to) ((edge H d) .label) ((edge H d) .from))
-      before-all d h (yes e) = subst (λ (i : ℕ). T (comes twice ((edge H i) .to) ((edge H i) .label) ((edge H i) .from))) (sym e) (put-here once 30848 (9 * to + lab) fr second-fits (bounds .0))
-      before-all d h (no f) =
-          let b = inside d (omega (arith, hj)) in
-          put-i once 30848 (9 * to + lab) fr second-fits (bounds .0) (9 * (edge H d) .to + (edge H d) .label) ((edge H d) .from) (b .0)
-          (subst T (sym (before-same ((edge H d) .to) ((edge H d) .label) ((edge H d) .from) (b .0))) (p .before-full d (omega arith)))
+      before-all : (d : ℕ) → d < j + 1 → Dec (d ≡ j) → T (comes twice ((edge H d) .to) ((edge H d) .from))
+      before-all d h (yes e) = subst (λ (i : ℕ). T (comes twice ((edge H i) .to) ((edge H i) .from))) (sym e) (put-here once (10 * to + 9) fr second-fits (bounds .0))
+      before-all d h (no f) = both-i (10 * (edge H d) .to + 9) ((edge H d) .from) ((inside d (omega (arith, hj))) .0) (p .before-full d (omega arith))
 
 -- all edges
 pub putting-end : (H : Graph) (n j : ℕ) (w : List ℕ) → length (H .edges) ≤ j → Putting H n j w → Neighbours H n w
 putting-end H n j w all p = record {
   successors = λ x l y a b c. same-test (follows w x l y) (leads-into H y l x) (λ t. leads-into-i H y l x (p .after-sound x l y a b c t)) (λ t. back-after x l y (leads-into-e H y l x t));
-  predecessors = λ y l x a b c. same-test (comes w y l x) (leads-into H y l x) (λ t. leads-into-i H y l x (p .before-sound y l x a b c t)) (λ t. back-before y l x (leads-into-e H y l x t));
+  predecessors = λ y x a c. same-test (comes w y x) (leads-to H y x) (λ t. leads-to-i H y x (p .before-sound y x a c t)) (λ t. back-before y x (leads-to-e H y x t));
 }
   where
     back-after : (x l y : ℕ) → Reaches H (λ (t : ℕ). t ≡ y) x l → T (follows w x l y)
     back-after x l y r =
         subst (λ (i : ℕ). T (follows w i l y)) (r .2) (subst (λ (i : ℕ). T (follows w ((edge H (r .0)) .from) i y)) (r .3) (subst (λ (i : ℕ). T (follows w ((edge H (r .0)) .from) ((edge H (r .0)) .label) i)) (r .4) (p .after-full (r .0) (omega (arith, r .1)))))
 
-    back-before : (y l x : ℕ) → Reaches H (λ (t : ℕ). t ≡ y) x l → T (comes w y l x)
-    back-before y l x r =
-        subst (λ (i : ℕ). T (comes w i l x)) (r .4) (subst (λ (i : ℕ). T (comes w ((edge H (r .0)) .to) i x)) (r .3) (subst (λ (i : ℕ). T (comes w ((edge H (r .0)) .to) ((edge H (r .0)) .label) i)) (r .2) (p .before-full (r .0) (omega (arith, r .1)))))
+    back-before : (y x : ℕ) → Leads H x y → T (comes w y x)
+    back-before y x r = subst (λ (i : ℕ). T (comes w i x)) (r .3) (subst (λ (i : ℕ). T (comes w ((edge H (r .0)) .to) i)) (r .2) (p .before-full (r .0) (omega (arith, r .1))))

@@ -7,17 +7,17 @@ use mathlib.Core.List.{List, List·Memᴰ}
 use Prim.Native.Nat.{ℕ, _+_, _*_, _/_, _%_, _≤_, _<_}
 use native.Mathlib.Decide.{ℕ-discrete, decLt}
 use native.Mathlib.Omega.{arith}
-use lib.Dec.{T, T-not}
+use lib.Dec.{T, ltb, lt→ltb, T-not}
 use lib.ListN.{length, getD}
 use Rattle.files.specs.Basics.Lists.{index-i, index-e}
 use Rattle.files.specs.Basics.Tables.{tally-up, tally-more}
 use Rattle.files.specs.Basics.Tests.{decide, T-eq}
-use Rattle.files.specs.Cells.{has-bit, put-cell}
-use Rattle.files.specs.Cells.Laws.{bit-byte, byte-outside, length-put-cell, cell-one, cell-agree, cell-same, cell-other}
+use Rattle.files.specs.Cells.{has-bit}
+use Rattle.files.specs.Cells.Laws.{bit-byte}
 use Rattle.files.specs.Graph.{Graph, Edge, size, node, no-edge, Flow}
 use Rattle.judging.specs.Chains.{Outside}
-use Rattle.judging.specs.Refinement.{rel, held, load, edge, Refining, Shrank, LabelMatched, NodeMatched, Took, MatchedAt, noted, Noted, Matching, Settled}
-use Rattle.judging.specs.Refinement.Handing.{looked-up-kept, order-beside}
+use Rattle.judging.specs.Refinement.{rel, held, load, edge, Refining, Shrank, LabelMatched, NodeMatched, Leading, Took, MatchedAt, Matching, Settled}
+use Rattle.judging.specs.Refinement.Handing.{looked-up-kept}
 use Rattle.judging.specs.Refinement.Files.{from-in, to-in}
 use Rattle.judging.specs.Simulation.{Simulation, related}
 use Rattle.judging.specs.Simulation.Laws.{alike-e, related-e, largest}
@@ -70,13 +70,11 @@ module _ (G H : Graph) (fl : Flow G) (fk : Flow H) (fg : size G ≤ 256) (fh : s
       go : Dec (u ≡ v) → MatchedAt G H w u ⊎ (u ≡ v) → MatchedAt G H w′ u
       go (yes e) d = subst (MatchedAt G H w′) (sym e) (record {
         holding = λ h b t. subst T (sym (y .held-now h b)) (y .rel-less v h hv b t);
-        held-inside = λ h b t. (r .inside v h hv b (subst T (y .held-now h b) t)) .0;
         node-matched = y .matched;
       })
       go (no f) (inr e) = absurd (f e)
       go (no f) (inl x) = record {
         holding = λ h b t. subst T (sym (y .held-kept u h hu b f)) (x .holding h b (y .rel-less u h hu b t));
-        held-inside = λ h b t. x .held-inside h b (subst T (y .held-kept u h hu b f) t);
         node-matched = λ e h he to-is b t.
             let d = x .node-matched e h he to-is b (y .rel-less ((edge G e) .from) h (from-in G fl e he) b t) in
             (d .0, d .1, d .2, d .3, subst T (sym (y .held-kept u ((edge H (d .0)) .to) hu (omega (arith, to-in H fk (d .0) (d .1))) f)) (d .4));
@@ -84,10 +82,10 @@ module _ (G H : Graph) (fl : Flow G) (fk : Flow H) (fg : size G ≤ 256) (fh : s
 
   -- node by node
   pub matching-at : (n v : ℕ) (w : List ℕ) → v < n → Matching G H n w → MatchedAt G H w v
-  matching-at n v w l x = record { holding = λ h b t. x .holding v h l b t; held-inside = x .held-inside v l; node-matched = x .node-matched v l }
+  matching-at n v w l x = record { holding = λ h b t. x .holding v h l b t; node-matched = x .node-matched v l }
 
   pub at-matching : (n : ℕ) (w : List ℕ) → Refining G H w → ((v : ℕ) → v < n → MatchedAt G H w v) → Matching G H n w
-  at-matching n w r x = record { refining = r; holding = λ v h l b t. (x v l) .holding h b t; held-inside = λ v l. (x v l) .held-inside; node-matched = λ v l. (x v l) .node-matched }
+  at-matching n w r x = record { refining = r; holding = λ v h l b t. (x v l) .holding h b t; node-matched = λ v l. (x v l) .node-matched }
 
   -- the nodes below m are those below n, and v
   pub matching-on : (n m v : ℕ) (w w′ : List ℕ) → m ≤ size G → v < size G → ((u : ℕ) → u < m → (u < n) ⊎ (u ≡ v)) → Matching G H n w → Took G H v w w′ → Matching G H m w′
@@ -97,60 +95,18 @@ module _ (G H : Graph) (fl : Flow G) (fk : Flow H) (fg : size G ≤ 256) (fh : s
       go u (inl l) = inl (matching-at n u w l x)
       go u (inr e) = inr e
 
-  -- ---- rows noted as taken
+  -- ---- before any row is taken
 
-  -- bytes of the order and beside it do not matter to what is matched
-  pub at-beside : (w w′ : List ℕ) (v : ℕ) → v < size G → Outside 29760 30816 w w′ → MatchedAt G H w v → MatchedAt G H w′ v
-  unfolding NodeMatched
-  at-beside w w′ v hv o x = record {
-    holding = λ h b t. subst T (sym (held-same v h hv b)) (x .holding h b (subst T (rel-same v h hv b) t));
-    held-inside = λ h b t. x .held-inside h b (subst T (held-same v h hv b) t);
-    node-matched = λ e h he to-is b t.
-        let d = x .node-matched e h he to-is b (subst T (rel-same ((edge G e) .from) h (from-in G fl e he) b) t) in
-        (d .0, d .1, d .2, d .3, subst T (sym (held-same v ((edge H (d .0)) .to) hv (omega (arith, to-in H fk (d .0) (d .1))))) (d .4));
+  -- where every node holds the whole second graph, edges are matched by whatever has their labels
+  pub matching-first : (w : List ℕ) → Refining G H w → ((v h : ℕ) → v < size G → h < 256 → held w v h ≡ ltb h (size H)) → ((e : ℕ) → e < length (G .edges) → (edge G e) .label < 9) → ((l : ℕ) → l < 9 → Leading G H w l) → Matching G H (size G) w
+  unfolding NodeMatched Leading
+  matching-first w r whole labels leading = record {
+    refining = r;
+    holding = λ v h l b t. subst T (sym (whole v h l b)) (lt→ltb h (size H) ((r .inside v h l b t) .0));
+    node-matched = λ v l e h he to-is b t.
+        let d = leading ((edge G e) .label) (labels e he) e h he refl b t in
+        (d .0, d .1, d .2, d .3, subst T (sym (whole v ((edge H (d .0)) .to) l (omega (arith, d .4)))) (lt→ltb ((edge H (d .0)) .to) (size H) (d .4)));
   }
-    where
-      rel-same : (g h : ℕ) → g < size G → h < 256 → rel w′ g h ≡ rel w g h
-      rel-same g h a b = bit-byte w′ w (32 * g) (32 * g) h (o (32 * g + h / 8) (inl (omega arith)))
-
-      held-same : (g h : ℕ) → g < size G → h < 256 → held w′ g h ≡ held w g h
-      held-same g h a b = bit-byte w′ w (8192 + 32 * g) (8192 + 32 * g) h (o (8192 + 32 * g + h / 8) (inl (omega arith)))
-
-  pub noted-none : (w : List ℕ) → ((q : ℕ) → 30272 ≤ q → q < 30528 → getD w q 0 ≡ 0) → Noted G H w
-  unfolding Noted
-  noted-none w z v hv e = absurd (omega (arith, e, cell-one w 30272 v, z (30272 + v) (omega arith) (omega arith)))
-
-  -- the row of v is taken, and v is noted
-  module _ (v : ℕ) (w w₁ w₂ : List ℕ) (hv : v < size G) (r : Refining G H w) (n : Noted G H w) (y : Took G H v w w₁) (put : w₂ ≡ put-cell w₁ 30272 1 v 1) (room : 178272 ≤ length w₁) where
-    note-kept : (u : ℕ) → noted w₁ u ≡ noted w u
-    note-kept u = cell-agree w₁ w 30272 1 u (λ q a b. y .past q (omega arith))
-
-    note-other : (u : ℕ) → (v ≡ u → ⊥) → noted w₂ u ≡ noted w u
-    note-other u f = ap (λ (z : List ℕ). noted z u) put ∙ cell-other w₁ 30272 1 v u 1 f ∙ note-kept u
-
-    note-beside : Outside 29760 30816 w₁ w₂
-    note-beside q (inl l) = ap (λ (z : List ℕ). getD z q 0) put ∙ byte-outside w₁ 30272 1 v 1 q (inl (omega arith))
-    note-beside q (inr l) = ap (λ (z : List ℕ). getD z q 0) put ∙ byte-outside w₁ 30272 1 v 1 q (inr (omega arith))
-
-    pub noted-more : Refining G H w₂ × Noted G H w₂
-    unfolding Noted
-    noted-more = (order-beside G H fl fk fg fh eg w₁ w₂ note-beside (ap length put ∙ length-put-cell w₁ 30272 1 v 1) (y .refining), λ u hu e. at-beside w₁ w₂ u hu note-beside (at-took v u w w₁ hv hu r (go u hu e (ℕ-discrete v u)) y))
-      where
-        go : (u : ℕ) → u < size G → noted w₂ u ≡ 1 → Dec (v ≡ u) → MatchedAt G H w u ⊎ (u ≡ v)
-        go u hu e (yes d) = inr (sym d)
-        go u hu e (no f) = inl (n u hu (sym (note-other u f) ∙ e))
-
-    pub noted-stays : (u : ℕ) → (u ≡ v) ⊎ (noted w u ≡ 1) → noted w₂ u ≡ 1
-    noted-stays u (inl e) = ap (λ (z : List ℕ). noted z u) put ∙ ap (noted (put-cell w₁ 30272 1 v 1)) e ∙ cell-same w₁ 30272 1 v 1 (omega arith) (omega arith)
-    noted-stays u (inr e) = go (ℕ-discrete v u)
-      where
-        go : Dec (v ≡ u) → noted w₂ u ≡ 1
-        go (yes d) = ap (λ (z : List ℕ). noted z u) put ∙ ap (noted (put-cell w₁ 30272 1 v 1)) (sym d) ∙ cell-same w₁ 30272 1 v 1 (omega arith) (omega arith)
-        go (no f) = note-other u f ∙ e
-
-  pub all-noted : (w : List ℕ) → Refining G H w → Noted G H w → ((u : ℕ) → u < size G → noted w u ≡ 1) → Matching G H (size G) w
-  unfolding Noted
-  all-noted w r n f = at-matching (size G) w r (λ v l. n v l (f v l))
 
   -- ---- the pairs held
 

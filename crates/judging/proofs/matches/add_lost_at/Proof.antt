@@ -1,60 +1,58 @@
-use Prim.Native.Nat.{_-_}
-use native.Mathlib.Omega.{arith}
-use Rattle.judging.proofs.MatchLaws.{lost-added, not-lost, taken}
+use Rattle.judging.specs.Refinement.Handing.{lost-one}
+use Rattle.judging.proofs.MatchLaws.{not-lost}
+use borrow.Author.Needs.{needs}
 use Rattle.judging.proofs.matches.add_lost_at.Statement.{statement}
 use Rattle.judging.proofs.matches.add_lost_at.Tie as tie
 use Rattle.files.proofs.cells.has_bit.Reads as has-bit-reads
 use Rattle.judging.proofs.rows.add_row.Reads as add-row-reads
 
--- src/matches.rt:68:36
+-- src/matches.rt:60:36
 mul-has-bit : tie.Need-mul-has-bit
-mul-has-bit c = omega (arith, c .before .before .before .before .before .pre .1 .1 .0, c .before .before .before .before .before .pre .1 .0 .few-first-nodes)
+mul-has-bit c = search needs
 
--- src/matches.rt:68:22
+-- src/matches.rt:60:22
 add-has-bit : tie.Need-add-has-bit
-add-has-bit c = omega (arith, c .before .before .before .before .before .pre .1 .1 .0, c .before .before .before .before .before .pre .1 .0 .few-first-nodes)
+add-has-bit c = search needs
 
--- src/matches.rt:68:8
+-- src/matches.rt:60:8
 has-bit-requires : tie.Need-has-bit-requires
-has-bit-requires c κs = let k = c .before .before .before .before .before in omega (arith, k .pre .1 .1 .0, k .pre .1 .0 .few-first-nodes, k .pre .1 .1 .1 .1 .0, k .pre .1 .1 .1 .1 .1 .0 .room)
+has-bit-requires c κs = search needs
 
--- src/matches.rt:68:52
+-- src/matches.rt:60:52
 has-bit-requires-2 : tie.Need-has-bit-requires-2
-has-bit-requires-2 c κs = let k = c .before .before .before .before .before .before in omega (arith, k .pre .1 .1 .1 .1 .0, k .pre .0 .0)
+has-bit-requires-2 c κs = search needs
 
--- src/matches.rt:69:66
+-- src/matches.rt:64:41
 mul-add-row : tie.Need-mul-add-row
-mul-add-row c = let k = c .before .before .before .before .before .before .before .before .before in omega (arith, k .pre .1 .1 .1 .1 .0)
+mul-add-row c = search needs
 
--- src/matches.rt:69:66
+-- src/matches.rt:64:41
 add-add-row : tie.Need-add-add-row
-add-add-row c = let k = c .before .before .before .before .before .before .before .before .before in omega (arith, k .pre .1 .1 .1 .1 .0, k .pre .1 .1 .1 .0)
+add-add-row c = search needs
 
--- src/matches.rt:69:51
+-- src/matches.rt:64:33
 mul-add-row-2 : tie.Need-mul-add-row-2
-mul-add-row-2 c = let k = c .before .before .before .before .before .before .before .before .before in omega (arith, k .pre .1 .1 .1 .1 .0, k .pre .1 .1 .1 .0)
+mul-add-row-2 c = search needs
 
--- src/matches.rt:69:29
+-- src/matches.rt:64:13
 add-add-row-2 : tie.Need-add-add-row-2
-add-add-row-2 c = let k = c .before .before .before .before .before .before .before .before .before in omega (arith, k .pre .1 .1 .1 .1 .0, k .pre .1 .1 .1 .0)
+add-add-row-2 c = search needs
 
--- src/matches.rt:69:9
+-- src/matches.rt:61:9
 add-row-requires : tie.Need-add-row-requires
-add-row-requires c κs = let k = c .before .before .before .before .before .before .before .before .before in (omega (arith, k .pre .1 .1 .1 .1 .0, k .pre .1 .1 .1 .0, k .pre .1 .1 .1 .1 .1 .0 .room), k .pre .0 .1)
+add-row-requires c κs = search needs
 
--- src/matches.rt:54:1
+-- src/matches.rt:56:1
 same-length : tie.Need-same-length
-same-length c = c .before .before .add-row .kept .0
+same-length c = search needs
 
--- src/matches.rt:54:1
+-- src/matches.rt:56:1
 returns : tie.Need-returns
-returns c = let k = c .before .before .before .before .before .before .before .before .before .before .before .before in
-    lost-added (c .before .before .before .before .before .before .before .before .before .before .before .before .args .s) (c .before .before .before .before .before .before .before .before .before .before .before .before .args .first .now) (c .before .before .before .before .before .before .before .before .before .before .before .before .args .second .now) (c .before .before .before .before .before .before .before .before .before .before .before .before .pre .1 .0) (k .args .work .now) (k .pre .1 .1 .1 .1 .1 .0) (k .args .v) (k .args .label) (k .pre .1 .1 .0) (k .pre .1 .1 .1 .0) (k .args .row .now) (k .args .gone .now) (c .before .before .add-row .last .0) (k .args .h) (c .before .before .before .before .before .before .has-bit .result) (c .before .before .before .before .before .has-bit2 .result) (k .pre .1 .1 .1 .1 .0) (k .pre .1 .1 .1 .1 .1 .1 .0) (k .pre .1 .1 .1 .1 .1 .1 .1) (c .before .before .before .before .before .before .has-bit .ensures) (c .before .before .before .before .before .has-bit2 .ensures) (c .before .before .before .before .if1 .taken) (c .before .before .add-row .ensures)
+returns c = let k = c .before .before .before .before .before .before .before .before .before .before in lost-one (k .args .work .now) (k .args .v) (k .args .row .now) (k .args .met .now) (c .before .before .add-row .last .0) (k .args .h) (c .before .before .add-row .ensures)
 
--- src/matches.rt:54:1
+-- src/matches.rt:56:1
 returns-2 : tie.Need-returns-2
-returns-2 c = let k = c .before .before .before .before .before .before .before .before in
-    not-lost (c .before .before .before .before .before .before .before .before .args .s) (c .before .before .before .before .before .before .before .before .args .first .now) (c .before .before .before .before .before .before .before .before .args .second .now) (c .before .before .before .before .before .before .before .before .pre .1 .0) (k .args .work .now) (k .pre .1 .1 .1 .1 .1 .0) (k .args .v) (k .args .label) (k .pre .1 .1 .0) (k .pre .1 .1 .1 .0) (k .args .row .now) (k .args .gone .now) (k .args .h) (c .before .before .has-bit .result) (c .before .has-bit2 .result) (k .pre .1 .1 .1 .1 .1 .1 .1) (c .before .before .has-bit .ensures) (c .before .has-bit2 .ensures) (c .if1 .left)
+returns-2 c = let k = c .before .before .before .before .before .before in not-lost (k .args .work .now) (k .args .v) (k .args .row .now) (k .args .met .now) (k .args .h) (c .before .before .has-bit .result) (c .before .has-bit2 .result) (c .before .before .has-bit .ensures) (c .before .has-bit2 .ensures) (c .if1 .left)
 
 pub add-lost-at-spec : {M : Type 1} → statement M
 add-lost-at-spec =

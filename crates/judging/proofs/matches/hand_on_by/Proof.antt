@@ -1,88 +1,100 @@
 use mathlib.Core.Path.{sym, subst}
-use Prim.Native.Nat.{_-_}
 use native.Mathlib.Omega.{arith}
 use lib.Dec.{T}
 use Rattle.files.specs.Decode.{decode-graph}
 use Rattle.judging.specs.Refinement.Handing.{shrank-none}
-use Rattle.judging.proofs.MatchLaws.{may-drop, label-done, label-empty, taken, none-within}
+use Rattle.judging.proofs.MatchLaws.{found, label-empty, label-done, may-drop, none-within}
 use borrow.Author.Needs.{needs}
 use Rattle.judging.proofs.matches.hand_on_by.Statement.{statement}
 use Rattle.judging.proofs.matches.hand_on_by.Tie as tie
 use Rattle.files.proofs.cells.get16.Reads as get16-reads
-use Rattle.judging.proofs.matches.candidates.Reads as candidates-reads
+use Rattle.judging.proofs.matches.add_sources.Reads as add-sources-reads
 use Rattle.judging.proofs.matches.drop_from.Reads as drop-from-reads
 use Rattle.judging.proofs.matches.sift.Reads as sift-reads
-use Rattle.judging.proofs.rows.is_blank.Reads as is-blank-reads
+use Rattle.judging.proofs.rows.any_at.Reads as any-at-reads
+use Rattle.judging.proofs.rows.keep_row.Reads as keep-row-reads
 
--- src/matches.rt:214:16
+-- src/matches.rt:176:16
 mul-slot : tie.Need-mul-slot
 mul-slot c = search needs
 
--- src/matches.rt:214:16
+-- src/matches.rt:176:16
 add-slot : tie.Need-add-slot
 add-slot c = search needs
 
--- src/matches.rt:215:8
+-- src/matches.rt:177:8
 get16-requires : tie.Need-get16-requires
 get16-requires c κs = search needs
 
--- src/matches.rt:216:9
+-- src/matches.rt:178:9
 same-length : tie.Need-same-length
 same-length c = search needs
 
--- src/matches.rt:216:9
+-- src/matches.rt:178:9
 returns : tie.Need-returns
-returns c = (shrank-none (decode-graph (c .before .before .before .before .before .before .before .args .first .now)) (decode-graph (c .before .before .before .before .before .before .before .args .second .now)) (c .before .before .before .before .before .before .before .args .work .now) (c .before .before .before .before .before .before .before .pre .1 .1 .1 .1 .0), label-empty (c .before .before .before .before .before .before .before .args .s) (c .before .before .before .before .before .before .before .args .first .now) (c .before .before .before .before .before .before .before .args .second .now) (c .before .before .before .before .before .before .before .pre .1 .0) (c .before .before .before .before .before .before .before .args .work .now) (c .before .before .before .before .before .before .before .pre .1 .1 .1 .1 .0) (c .before .before .before .before .before .before .before .args .v) (c .before .before .before .before .before .before .before .args .label) (c .before .before .before .before .before .before .before .pre .1 .1 .0) (c .before .before .before .before .before .before .before .pre .1 .1 .1 .0) (c .before .before .before .before .before .before .before .args .row .now) (c .before .get16 .result) (c .before .get16 .ensures) (c .if1 .taken))
+returns c = let k = c .before .before .before .before .before .before .before .before in (shrank-none (decode-graph (k .args .first .now)) (decode-graph (k .args .second .now)) (k .args .work .now) (k .pre .1 .1 .1 .1 .0), label-empty (k .args .s) (k .args .first .now) (k .args .second .now) (k .pre .1 .0) (k .args .work .now) (k .pre .1 .1 .1 .1 .0) (k .args .v) (k .args .label) (k .pre .1 .1 .0) (k .pre .1 .1 .1 .0) (k .args .row .now) (c .before .get16 .result) (c .before .get16 .ensures) (c .if1 .taken))
 
--- src/matches.rt:219:55
-slice-aggregate-candidates : tie.Need-slice-aggregate-candidates
-slice-aggregate-candidates c = search needs
+-- src/matches.rt:181:47
+slice-aggregate-add-sources : tie.Need-slice-aggregate-add-sources
+slice-aggregate-add-sources c = search needs
 
--- src/matches.rt:219:5
-candidates-requires : tie.Need-candidates-requires
-candidates-requires c κs = let k = c .before .before .before .before .before .before .before .before .before in ((k .pre .0, omega arith), (k .pre .1 .0, (k .pre .1 .1 .0, (k .pre .1 .1 .1 .0, (k .pre .1 .1 .1 .1 .0, (k .pre .1 .1 .1 .1 .1 .0, none-within (k .args .s .nodes2)))))))
+-- src/matches.rt:181:5
+add-sources-requires : tie.Need-add-sources-requires
+add-sources-requires c κs = let k = c .before .before .before .before .before .before .before .before .before .before in (omega arith, (k .pre .1 .0, (omega (arith, k .pre .1 .1 .0, k .pre .1 .1 .1 .0), (k .pre .1 .1 .1 .1 .0, none-within (k .args .s .nodes2)))))
 
--- src/matches.rt:220:28
+-- src/matches.rt:182:14
+slice-aggregate-keep-row : tie.Need-slice-aggregate-keep-row
+slice-aggregate-keep-row c = search needs
+
+-- src/matches.rt:182:5
+keep-row-requires : tie.Need-keep-row-requires
+keep-row-requires c κs = search needs
+
+-- src/matches.rt:183:28
 slice-aggregate-sift : tie.Need-slice-aggregate-sift
 slice-aggregate-sift c = search needs
 
--- src/matches.rt:220:5
+-- src/matches.rt:183:5
 sift-requires : tie.Need-sift-requires
 sift-requires c κs = search needs
 
--- src/matches.rt:221:17
-slice-aggregate-is-blank : tie.Need-slice-aggregate-is-blank
-slice-aggregate-is-blank c = search needs
+-- src/matches.rt:184:16
+slice-aggregate-any-at : tie.Need-slice-aggregate-any-at
+slice-aggregate-any-at c = search needs
 
--- src/matches.rt:221:8
-is-blank-requires : tie.Need-is-blank-requires
-is-blank-requires c κs = search needs
+-- src/matches.rt:184:9
+any-at-requires : tie.Need-any-at-requires
+any-at-requires c κs = search needs
 
--- src/matches.rt:222:9
+-- src/matches.rt:185:9
 same-length-2 : tie.Need-same-length-2
 same-length-2 c = search needs
 
--- src/matches.rt:222:9
+-- src/matches.rt:185:9
 returns-2 : tie.Need-returns-2
-returns-2 c = let z = shrank-none (decode-graph (c .before .before .before .before .before .before .before .before .before .before .before .before .before .before .before .before .before .before .args .first .now)) (decode-graph (c .before .before .before .before .before .before .before .before .before .before .before .before .before .before .before .before .before .before .args .second .now)) (c .before .before .before .before .before .before .before .before .before .before .before .before .before .before .before .before .before .before .args .work .now) (c .before .before .before .before .before .before .before .before .before .before .before .before .before .before .before .before .before .before .pre .1 .1 .1 .1 .0) in
-    (z, label-done (c .before .before .before .before .before .before .before .before .before .before .before .before .before .before .before .before .before .before .args .s) (c .before .before .before .before .before .before .before .before .before .before .before .before .before .before .before .before .before .before .args .first .now) (c .before .before .before .before .before .before .before .before .before .before .before .before .before .before .before .before .before .before .args .second .now) (c .before .before .before .before .before .before .before .before .before .before .before .before .before .before .before .before .before .before .pre .1 .0) (c .before .before .before .before .before .before .before .before .before .before .before .before .before .before .before .before .before .before .args .work .now) (c .before .before .before .before .before .before .before .before .before .before .before .before .before .before .before .before .before .before .pre .1 .1 .1 .1 .0) (c .before .before .before .before .before .before .before .before .before .before .before .before .before .before .before .before .before .before .args .v) (c .before .before .before .before .before .before .before .before .before .before .before .before .before .before .before .before .before .before .args .label) (c .before .before .before .before .before .before .before .before .before .before .before .before .before .before .before .before .before .before .pre .1 .1 .0) (c .before .before .before .before .before .before .before .before .before .before .before .before .before .before .before .before .before .before .pre .1 .1 .1 .0) (c .before .before .before .before .before .before .before .before .before .before .before .before .before .before .before .before .before .before .args .row .now) (c .before .before .before .before .before .before .before .before .candidates .last .1 .1 .1 .1 .1 .1 .1 .0) (c .before .before .before .before .sift .last .1 .1 .1 .0) (c .before .before .before .before .before .before .before .before .before .before .before .before .before .before .before .before .before .before .args .work .now) (c .before .before .before .before .before .before .before .before .before .before .before .before .before .before .before .before .before .before .pre .1 .1 .1 .1 .1 .1) (c .before .before .before .before .before .before .before .before .candidates .ensures) (c .before .before .before .before .sift .ensures) z (λ e h he t b u i. subst T (c .before .is-blank .ensures (subst T (sym (c .if2 .taken)) tt) h b) i))
+returns-2 c = let k = c .before .before .before .before .before .before .before .before .before .before .before .before .before .before .before .before .before .before .before .before .before .before in
+    let p = c .before .before .before .before .before .before .before .before .keep-row in
+    let z = shrank-none (decode-graph (k .args .first .now)) (decode-graph (k .args .second .now)) (k .args .work .now) (k .pre .1 .1 .1 .1 .0) in
+    (z, label-done (k .args .s) (k .args .first .now) (k .args .second .now) (k .pre .1 .0) (k .args .work .now) (k .pre .1 .1 .1 .1 .0) (k .args .v) (k .args .label) (k .pre .1 .1 .0) (k .pre .1 .1 .1 .0) (k .args .row .now) (p .last .0) (c .before .before .before .before .sift .last .1 .1 .1 .0) (k .args .work .now) (k .pre .1 .1 .1 .1 .1 .1) (found (k .args .s) (k .args .first .now) (k .args .second .now) (k .pre .1 .0) (k .args .work .now) (k .pre .1 .1 .1 .1 .0) (k .args .v) (k .args .label) (k .pre .1 .1 .0) (k .pre .1 .1 .1 .0) (k .args .row .now) (k .args .met .now) (c .before .before .before .before .before .before .before .before .before .before .before .add-sources .last .1 .1 .1 .1 .1 .0) (p .last .0) (k .pre .1 .1 .1 .1 .1 .0 .0) (k .pre .1 .1 .1 .1 .1 .0 .1) (c .before .before .before .before .before .before .before .before .before .before .before .add-sources .ensures .0) (c .before .before .before .before .before .before .before .before .before .before .before .add-sources .ensures .1) (p .ensures)) (c .before .before .before .before .sift .ensures) z (λ e h he t b u i. subst T (c .before .any-at .ensures .1 (subst T (sym (c .if2 .taken)) tt) h b) i))
 
--- src/matches.rt:224:45
+-- src/matches.rt:187:45
 slice-aggregate-drop-from : tie.Need-slice-aggregate-drop-from
 slice-aggregate-drop-from c = search needs
 
--- src/matches.rt:224:5
+-- src/matches.rt:187:5
 drop-from-requires : tie.Need-drop-from-requires
-drop-from-requires c κs = let k = c .before .before .before .before .before .before .before .before .before .before .before .before .before .before .before .before .before .before .before .before in (omega (arith, c .before .before .before .before .before .before .sift .kept .1 .1 .1 .0, c .before .before .before .before .before .before .before .before .before .before .candidates .kept .1 .1 .1 .1 .1 .1 .1 .0), (k .pre .1 .0, (omega (arith, k .pre .1 .1 .0, k .pre .1 .1 .1 .0), (k .pre .1 .1 .1 .1 .0, may-drop (c .before .before .before .before .before .before .before .before .before .before .before .before .before .before .before .before .before .before .before .before .args .s) (c .before .before .before .before .before .before .before .before .before .before .before .before .before .before .before .before .before .before .before .before .args .first .now) (c .before .before .before .before .before .before .before .before .before .before .before .before .before .before .before .before .before .before .before .before .args .second .now) (c .before .before .before .before .before .before .before .before .before .before .before .before .before .before .before .before .before .before .before .before .pre .1 .0) (c .before .before .before .before .before .before .before .before .before .before .before .before .before .before .before .before .before .before .before .before .args .work .now) (c .before .before .before .before .before .before .before .before .before .before .before .before .before .before .before .before .before .before .before .before .pre .1 .1 .1 .1 .0) (c .before .before .before .before .before .before .before .before .before .before .before .before .before .before .before .before .before .before .before .before .args .v) (c .before .before .before .before .before .before .before .before .before .before .before .before .before .before .before .before .before .before .before .before .args .label) (c .before .before .before .before .before .before .before .before .before .before .before .before .before .before .before .before .before .before .before .before .pre .1 .1 .0) (c .before .before .before .before .before .before .before .before .before .before .before .before .before .before .before .before .before .before .before .before .pre .1 .1 .1 .0) (c .before .before .before .before .before .before .before .before .before .before .before .before .before .before .before .before .before .before .before .before .args .row .now) (c .before .before .before .before .before .before .before .before .before .before .candidates .last .1 .1 .1 .1 .1 .1 .1 .0) (c .before .before .before .before .before .before .sift .last .1 .1 .1 .0) (k .pre .1 .1 .1 .1 .1 .1) (c .before .before .before .before .before .before .sift .ensures)))))
+drop-from-requires c κs = let k = c .before .before .before .before .before .before .before .before .before .before .before .before .before .before .before .before .before .before .before .before .before .before .before .before in (omega (arith, c .before .before .before .before .before .before .sift .kept .1 .1 .1 .0, c .before .before .before .before .before .before .before .before .before .before .keep-row .kept .0, c .before .before .before .before .before .before .before .before .before .before .before .before .before .add-sources .kept .1 .1 .1 .1 .1 .0), (k .pre .1 .0, (omega (arith, k .pre .1 .1 .0, k .pre .1 .1 .1 .0), (k .pre .1 .1 .1 .1 .0, may-drop (k .args .s) (k .args .first .now) (k .args .second .now) (k .pre .1 .0) (k .args .work .now) (k .pre .1 .1 .1 .1 .0) (k .args .v) (k .args .label) (k .pre .1 .1 .0) (k .pre .1 .1 .1 .0) (k .args .row .now) (c .before .before .before .before .before .before .before .before .before .before .keep-row .last .0) (c .before .before .before .before .before .before .sift .last .1 .1 .1 .0) (k .pre .1 .1 .1 .1 .1 .1) (c .before .before .before .before .before .before .sift .ensures)))))
 
--- src/matches.rt:201:1
+-- src/matches.rt:163:1
 same-length-3 : tie.Need-same-length-3
 same-length-3 c = search needs
 
--- src/matches.rt:201:1
+-- src/matches.rt:163:1
 returns-3 : tie.Need-returns-3
-returns-3 c = let d = c .before .before .drop-from in
-    (d .ensures .0, label-done (c .before .before .before .before .before .before .before .before .before .before .before .before .before .before .before .before .before .before .before .before .before .before .before .args .s) (c .before .before .before .before .before .before .before .before .before .before .before .before .before .before .before .before .before .before .before .before .before .before .before .args .first .now) (c .before .before .before .before .before .before .before .before .before .before .before .before .before .before .before .before .before .before .before .before .before .before .before .args .second .now) (c .before .before .before .before .before .before .before .before .before .before .before .before .before .before .before .before .before .before .before .before .before .before .before .pre .1 .0) (c .before .before .before .before .before .before .before .before .before .before .before .before .before .before .before .before .before .before .before .before .before .before .before .args .work .now) (c .before .before .before .before .before .before .before .before .before .before .before .before .before .before .before .before .before .before .before .before .before .before .before .pre .1 .1 .1 .1 .0) (c .before .before .before .before .before .before .before .before .before .before .before .before .before .before .before .before .before .before .before .before .before .before .before .args .v) (c .before .before .before .before .before .before .before .before .before .before .before .before .before .before .before .before .before .before .before .before .before .before .before .args .label) (c .before .before .before .before .before .before .before .before .before .before .before .before .before .before .before .before .before .before .before .before .before .before .before .pre .1 .1 .0) (c .before .before .before .before .before .before .before .before .before .before .before .before .before .before .before .before .before .before .before .before .before .before .before .pre .1 .1 .1 .0) (c .before .before .before .before .before .before .before .before .before .before .before .before .before .before .before .before .before .before .before .before .before .before .before .args .row .now) (c .before .before .before .before .before .before .before .before .before .before .before .before .before .candidates .last .1 .1 .1 .1 .1 .1 .1 .0) (c .before .before .before .before .before .before .before .before .before .sift .last .1 .1 .1 .0) (d .last .1 .1 .1 .0) (c .before .before .before .before .before .before .before .before .before .before .before .before .before .before .before .before .before .before .before .before .before .before .before .pre .1 .1 .1 .1 .1 .1) (c .before .before .before .before .before .before .before .before .before .before .before .before .before .candidates .ensures) (c .before .before .before .before .before .before .before .before .before .sift .ensures) (d .ensures .0) (d .ensures .1))
+returns-3 c = let k = c .before .before .before .before .before .before .before .before .before .before .before .before .before .before .before .before .before .before .before .before .before .before .before .before .before .before .before in
+    let d = c .before .before .drop-from in
+    let p = c .before .before .before .before .before .before .before .before .before .before .before .before .before .keep-row in
+    (d .ensures .0, label-done (k .args .s) (k .args .first .now) (k .args .second .now) (k .pre .1 .0) (k .args .work .now) (k .pre .1 .1 .1 .1 .0) (k .args .v) (k .args .label) (k .pre .1 .1 .0) (k .pre .1 .1 .1 .0) (k .args .row .now) (p .last .0) (c .before .before .before .before .before .before .before .before .before .sift .last .1 .1 .1 .0) (d .last .1 .1 .1 .0) (k .pre .1 .1 .1 .1 .1 .1) (found (k .args .s) (k .args .first .now) (k .args .second .now) (k .pre .1 .0) (k .args .work .now) (k .pre .1 .1 .1 .1 .0) (k .args .v) (k .args .label) (k .pre .1 .1 .0) (k .pre .1 .1 .1 .0) (k .args .row .now) (k .args .met .now) (c .before .before .before .before .before .before .before .before .before .before .before .before .before .before .before .before .add-sources .last .1 .1 .1 .1 .1 .0) (p .last .0) (k .pre .1 .1 .1 .1 .1 .0 .0) (k .pre .1 .1 .1 .1 .1 .0 .1) (c .before .before .before .before .before .before .before .before .before .before .before .before .before .before .before .before .add-sources .ensures .0) (c .before .before .before .before .before .before .before .before .before .before .before .before .before .before .before .before .add-sources .ensures .1) (p .ensures)) (c .before .before .before .before .before .before .before .before .before .sift .ensures) (d .ensures .0) (d .ensures .1))
 
 pub hand-on-by-spec : {M : Type 1} → statement M
 hand-on-by-spec =
@@ -93,12 +105,14 @@ hand-on-by-spec =
     get16-requires
     same-length
     returns
-    slice-aggregate-candidates
-    candidates-requires
+    slice-aggregate-add-sources
+    add-sources-requires
+    slice-aggregate-keep-row
+    keep-row-requires
     slice-aggregate-sift
     sift-requires
-    slice-aggregate-is-blank
-    is-blank-requires
+    slice-aggregate-any-at
+    any-at-requires
     same-length-2
     returns-2
     slice-aggregate-drop-from

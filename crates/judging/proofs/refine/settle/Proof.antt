@@ -5,7 +5,7 @@ use lib.Dec.{T}
 use lib.ListN.{length}
 use Rattle.files.specs.Decode.{decode-graph}
 use Rattle.judging.specs.Refinement.{rel, held, load, Matching}
-use Rattle.judging.proofs.MatchLaws.{taken, matching-still, load-less, may-take, settled-all}
+use Rattle.judging.proofs.MatchLaws.{taken, matching-still, load-less, settled-all}
 use Rattle.judging.proofs.refine.settle.Statement.{statement}
 use Rattle.judging.proofs.refine.settle.Tie as tie
 use Rattle.judging.proofs.refine.lowest_unsettled.Reads as lowest-unsettled-reads
@@ -32,7 +32,7 @@ loop-holds c = (refl, c .before .before .before .before .sweep .ensures .0, c .l
 
 -- src/refine.rt:132:9
 take-requires : tie.Need-take-requires Inv-loop μ-loop
-take-requires c κs = let k = c .before .before .before .before .before .before .before .before .before .before .before .before .before in let l = c .before .before .before .loop in (k .pre .0, (c .before .if1 .taken, (l .inv .1 .refining, λ n. may-take (c .before .before .before .before .before .before .before .before .before .before .before .before .before .args .s) (c .before .before .before .before .before .before .before .before .before .before .before .before .before .args .first .now) (c .before .before .before .before .before .before .before .before .before .before .before .before .before .args .second .now) (c .before .before .before .before .before .before .before .before .before .before .before .before .before .pre .0) (k .args .s .nodes) (l .v) (l .work) (c .before .if1 .taken) (l .inv .1))))
+take-requires c κs = let k = c .before .before .before .before .before .before .before .before .before .before .before .before .before in let l = c .before .before .before .loop in (k .pre .0, (c .before .if1 .taken, (l .inv .1 .refining, l .inv .1 .node-matched (l .v) (c .before .if1 .taken))))
 
 -- src/refine.rt:133:9
 sweep-requires-2 : tie.Need-sweep-requires-2 Inv-loop μ-loop

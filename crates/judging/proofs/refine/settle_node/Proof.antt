@@ -5,7 +5,7 @@ use lib.Dec.{T}
 use lib.ListN.{length}
 use Rattle.files.specs.Decode.{decode-graph}
 use Rattle.judging.specs.Refinement.{load, Matching}
-use Rattle.judging.proofs.MatchLaws.{taken, matching-still, load-down, load-less, may-take}
+use Rattle.judging.proofs.MatchLaws.{taken, matching-still, load-down, load-less}
 use Rattle.judging.proofs.refine.settle_node.Statement.{statement}
 use Rattle.judging.proofs.refine.settle_node.Tie as tie
 use Rattle.judging.proofs.refine.has_lost.Reads as has-lost-reads
@@ -27,7 +27,7 @@ has-lost-requires c κs = (c .before .before .before .before .before .pre .0, (c
 
 -- src/refine.rt:89:9
 take-requires : tie.Need-take-requires Inv-loop μ-loop
-take-requires c κs = let k = c .before .before .before .before .before .before .before .before in let l = c .before .before .before .before .loop in (k .pre .0, (k .pre .1 .0, (l .inv .1 .refining, λ n. may-take (c .before .before .before .before .before .before .before .before .args .s) (c .before .before .before .before .before .before .before .before .args .first .now) (c .before .before .before .before .before .before .before .before .args .second .now) (c .before .before .before .before .before .before .before .before .pre .0) (k .args .s .nodes) (k .args .v) (l .work) (k .pre .1 .0) (l .inv .1))))
+take-requires c κs = let k = c .before .before .before .before .before .before .before .before in let l = c .before .before .before .before .loop in (k .pre .0, (k .pre .1 .0, (l .inv .1 .refining, l .inv .1 .node-matched (k .args .v) (k .pre .1 .0))))
 
 -- src/refine.rt:88:5
 loop-less : tie.Need-loop-less Inv-loop μ-loop

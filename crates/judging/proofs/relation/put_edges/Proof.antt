@@ -11,7 +11,7 @@ use Rattle.judging.proofs.relation.put_edges.Tie as tie
 use Rattle.judging.proofs.relation.put_edge.Reads as put-edge-reads
 
 abbrev Inv-loop : tie.InvT-loop
-Inv-loop first second s work₀ j₀ work j = (j ≤ s .edges2) × (length work ≡ length work₀) × Putting (decode-graph second) (s .nodes2) j work × Outside 30816 178272 work₀ work
+Inv-loop first second s work₀ j₀ work j = (j ≤ s .edges2) × (length work ≡ length work₀) × Putting (decode-graph second) (s .nodes2) j work × Outside 30816 112736 work₀ work
 
 abbrev μ-loop : tie.MeasureT-loop
 μ-loop first second s work₀ j₀ work j = s .edges2 - j

@@ -1,0 +1,59 @@
+use mathlib.Core.Path.{_≡_, refl, ap, _∙_}
+use Prim.Native.Nat.{ℕ, _-_, _≤_, _<_}
+use native.Mathlib.Omega.{arith}
+use lib.Dec.{ltb}
+use lib.ListN.{length}
+use borrow.Author.Needs.{needs}
+use Rattle.files.specs.Cells.{has-bit}
+use Rattle.judging.proofs.MatchLaws.{all-below-none, all-below-more}
+use Rattle.judging.proofs.refine.everything.Statement.{statement}
+use Rattle.judging.proofs.refine.everything.Tie as tie
+use Rattle.files.proofs.cells.put_bit.Reads as put-bit-reads
+
+abbrev Inv-loop : tie.InvT-loop
+Inv-loop s row₀ x₀ row x = (x ≤ s .nodes2) × (length row ≡ 32) × ((h : ℕ) → h < 256 → has-bit row 0 h ≡ ltb h x)
+
+abbrev μ-loop : tie.MeasureT-loop
+μ-loop s row₀ x₀ row x = s .nodes2 - x
+
+-- src/refine.rt:83:5
+loop-holds : tie.Need-loop-holds Inv-loop μ-loop
+loop-holds c = (omega arith, refl, λ h b. all-below-none h)
+
+-- src/refine.rt:84:17
+slice-aggregate-put-bit : tie.Need-slice-aggregate-put-bit Inv-loop μ-loop
+slice-aggregate-put-bit c = search needs
+
+-- src/refine.rt:84:9
+put-bit-requires : tie.Need-put-bit-requires Inv-loop μ-loop
+put-bit-requires c κs = search needs
+
+-- src/refine.rt:85:9
+add-x : tie.Need-add-x Inv-loop μ-loop
+add-x c = search needs
+
+-- src/refine.rt:83:5
+loop-less : tie.Need-loop-less Inv-loop μ-loop
+loop-less c = search needs
+
+-- src/refine.rt:83:5
+loop-again : tie.Need-loop-again Inv-loop μ-loop
+loop-again c = let l = c .before .before .before .before .before .loop in let p = c .before .put-bit in (omega (arith, c .before .before .before .if1 .taken), p .kept .0 ∙ l .inv .1, all-below-more (l .row) (p .last .0) (l .x) (omega (arith, l .inv .1)) (omega (arith, c .before .before .before .if1 .taken, c .before .before .before .before .before .before .pre)) (p .ensures) (l .inv .2))
+
+-- src/refine.rt:77:1
+returns : tie.Need-returns Inv-loop μ-loop
+returns c = let l = c .before .before .loop in let e : l .x ≡ c .before .before .before .args .s .nodes2 = omega (arith, c .if1 .left, l .inv .0) in (l .inv .1, λ h b. l .inv .2 h b ∙ ap (ltb h) e)
+
+pub everything-spec : {M : Type 1} → statement M
+everything-spec =
+    tie.close
+    (tie.spec
+    Inv-loop
+    μ-loop
+    loop-holds
+    slice-aggregate-put-bit
+    put-bit-requires
+    add-x
+    loop-less
+    loop-again
+    returns)
