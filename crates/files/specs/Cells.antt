@@ -2,7 +2,7 @@
 use mathlib.Core.Bool.{Bool}
 use mathlib.Core.List.{List, _++_}
 use Prim.Native.Nat.{ℕ, zero, suc, _+_, _*_, _-_, _/_, _%_, _^_}
-use lib.Bits.{bitOr, bitAnd}
+use lib.Bits.{bitOr}
 use lib.Dec.{eqb}
 use lib.ListN.{length, getD, set, take, drop}
 pub mod Laws
@@ -32,10 +32,6 @@ has-bit l base h = eqb (getD l (base + h / 8) 0 / 2 ^ (h % 8) % 2) 1
 -- the list with bit h
 pub put-bit : List ℕ → ℕ → ℕ → List ℕ
 put-bit l base h = set l (base + h / 8) (bitOr (getD l (base + h / 8) 0) (2 ^ (h % 8)))
-
--- the list without bit h: 255 - 2 ^ k has every digit of a byte but digit k
-pub drop-bit : List ℕ → ℕ → ℕ → List ℕ
-drop-bit l base h = set l (base + h / 8) (bitAnd (getD l (base + h / 8) 0) (255 - 2 ^ (h % 8)))
 
 -- xs stored from place p on
 pub put-at : List ℕ → ℕ → List ℕ → List ℕ

@@ -2,7 +2,7 @@
 ghost use mathlib.Core.Path.{_≡_};
 ghost use Prim.Native.Nat.{_+_, _*_, _/_, _≤_, _<_};
 ghost use lib.ListN.{length, replicate};
-ghost use Rattle.files.specs.Cells.{cell, put-cell, has-bit, put-bit, drop-bit, put-at};
+ghost use Rattle.files.specs.Cells.{cell, put-cell, has-bit, put-bit, put-at};
 
 // A byte as a length, with its bound.
 pub fn wide(x: u8) -> usize
@@ -87,15 +87,6 @@ pub fn put_bit(work: &mut [u8], base: usize, h: usize)
 {
     let at = base + h / 8;
     work[at] = work[at] | (1 << (h % 8));
-}
-
-// Makes bit h zero.
-pub fn drop_bit(work: &mut [u8], base: usize, h: usize)
-    requires { ⌜ base + h / 8 < length (now work) ⌝ }
-    ensures { λ _. ⌜ now (work .exit) ≡ drop-bit (now (work .entry)) base h ⌝ }
-{
-    let at = base + h / 8;
-    work[at] = work[at] & !(1 << (h % 8));
 }
 
 // Makes the whole slice zero: a byte a turn while any is left.

@@ -3,51 +3,30 @@ use mathlib.Core.Path.{_≡_, refl, sym, ap, subst, _∙_}
 use mathlib.Core.Logic.{_⊎_, inl, inr}
 use mathlib.Core.Bool.{Bool, true, false, not, _&&_, _||_}
 use mathlib.Core.List.{List}
-use Prim.Native.Nat.{ℕ, _+_, _*_, _-_, _/_, _%_, _≤_, _<_}
+use Prim.Native.Nat.{ℕ, _+_, _*_, _-_, _/_, _≤_, _<_}
 use native.Mathlib.Decide.{ℕ-discrete}
 use native.Mathlib.Omega.{arith}
 use lib.Bits.{bitAnd}
+use lib.Count.{trailingZeros}
 use lib.Dec.{T, eqb, eqb→eq, ltb, ltb→lt, lt→ltb}
-use lib.ListN.{length, getD, replicate}
-use Rattle.files.specs.Basics.Tests.{or-e, or-l, or-r, and-i, eq-eqb, same-test, T-eq}
+use lib.ListN.{length, replicate}
+use Rattle.files.specs.Basics.Tests.{or-e, or-l, or-r, eq-eqb, same-test, T-eq}
 use Rattle.files.specs.Cells.{cell, has-bit, put-bit}
 use Rattle.files.specs.Cells.Laws.{bit-byte, bit-same, bit-other}
 use Rattle.files.specs.Decode.{decode-graph}
 use Rattle.files.specs.Graph.{Graph, size}
 use Rattle.judging.specs.declared.sizes.Sizes.{Sizes}
 use Rattle.judging.specs.Chains.{Outside, last-where}
-use Rattle.judging.specs.Refinement.{Both, rel, held, load, edge, follows, labelled-into, In, Within, Lacking, LostAdded, LostMet, Sifted, Refining, Shrank, Contained, LabelMatched, NodeMatched, Leading, Candidates, Took, Matching, Settled}
-use Rattle.judging.specs.Refinement.Files.{first-size, second-size, first-edges, second-edges, first-flow, second-flow, first-fits, second-fits, first-edges-fit, first-edge-in, second-edge-in}
-use Rattle.judging.specs.Refinement.Handing.{looked-up-kept, lost-over, lost-none, lost-one, lost-met, lost-kept, row-dropped, shrank-on, unmet-apart, label-matched, label-none, label-kept, node-kept, order-beside, candidates-met, lacking-apart, leading-by, leading-kept}
-use Rattle.judging.specs.Refinement.Rows.{lit, lit-and, lit-not, lit-zero, row-lit}
+use Rattle.judging.specs.Refinement.{Both, rel, held, load, edge, follows, comes, labelled-into, In, Within, Lacking, Meets, Preceded, LostMet, Asked, Sifted, Refining, Shrank, Contained, LabelMatched, NodeMatched, Leading, Candidates, Took, Matching, Settled}
+use Rattle.judging.specs.Refinement.Files.{first-size, second-size, first-edges, first-flow, second-flow, first-fits, second-fits, first-edges-fit, first-edge-in}
+use Rattle.judging.specs.Refinement.Handing.{looked-up-kept, lost-met, lost-kept, row-dropped, shrank-on, unmet-apart, label-matched, label-none, label-kept, node-kept, order-beside, candidates-met, lacking-apart, leading-by, leading-kept}
 use Rattle.judging.specs.Refinement.Taking.{took, matching-on, matching-first, load-le, load-lt, all-settled}
 use Rattle.judging.specs.Simulation.{related}
 use Rattle.judging.specs.Simulation.Laws.{related-e}
+use Rattle.judging.specs.Words.{Left, left-turn, left-none}
 use Rattle.judging.proofs.ChainLaws.{zero-byte}
 use Rattle.judging.proofs.ClearedLaws.{zero-bit}
 use Rattle.judging.proofs.LevelLaws.{Walk, walk-start, walk-item, walk-turn, walk-less}
-use Rattle.judging.proofs.RowLaws.{own-lit}
-
--- ---- bytes passed over
-
--- a byte of what v holds has no digit that the row has not
-pub byte-kept : (w r : List ℕ) (v k x : ℕ) → x ≡ bitAnd (getD w (8192 + 32 * v + k) 0) (255 - getD r k 0) → getD r k 0 < 256 → x ≡ 0 → (h : ℕ) → 8 * k ≤ h → h < 8 * k + 8 → T (held w v h) → (In r h → ⊥) → ⊥
-byte-kept w r v k x is low z h a b t n =
-    let e : h / 8 ≡ k = omega arith in
-    let y : T (lit (getD w (8192 + 32 * v + k) 0) (h % 8)) = subst (λ (m : ℕ). T (lit (getD w (8192 + 32 * v + m) 0) (h % 8))) e (subst T (row-lit w (8192 + 32 * v) h) t) in
-    subst T (lit-zero (h % 8)) (subst (λ (m : ℕ). T (lit m (h % 8))) (sym is ∙ z)
-    (subst T (sym (lit-and (getD w (8192 + 32 * v + k) 0) (255 - getD r k 0) (h % 8) ∙ ap (λ (p : Bool). lit (getD w (8192 + 32 * v + k) 0) (h % 8) && p) (lit-not (getD r k 0) (h % 8) low (omega arith))))
-    (and-i (lit (getD w (8192 + 32 * v + k) 0) (h % 8)) (not (lit (getD r k 0) (h % 8))) y (off (lit (getD r k 0) (h % 8)) (λ s. n (subst T (sym (own-lit r h)) (subst (λ (m : ℕ). T (lit (getD r m 0) (h % 8))) (sym e) s)))))))
-  where
-    off : (p : Bool) → (T p → ⊥) → T (not p)
-    off true f = absurd (f tt)
-    off false f = tt
-
--- a byte of a row that is 0
-pub byte-blank : (r : List ℕ) (k : ℕ) → getD r k 0 ≡ 0 → (h : ℕ) → 8 * k ≤ h → h < 8 * k + 8 → In r h → ⊥
-byte-blank r k z h a b t =
-    let e : h / 8 ≡ k = omega arith in
-    subst T (lit-zero (h % 8)) (subst (λ (m : ℕ). T (lit m (h % 8))) (ap (λ (m : ℕ). getD r m 0) e ∙ z) (subst T (own-lit r h) t))
 
 -- a row without a bit
 pub none-within : (n : ℕ) → Within n (replicate 32 0)
@@ -104,16 +83,73 @@ module _ (w : List ℕ) (l : ℕ) where
       on k b f (yes e) = absurd (f (subst (In (put-bit r 0 n)) e (subst T (sym (bit-same r 0 n (omega arith))) tt)))
       on k b f (no d) = x .with-edge k (omega arith) (λ t. f (subst T (sym (bit-other r 0 n k d)) t))
 
--- what was held and is no longer in the row
-lost-not : (a b : Bool) → (a && not b) ≡ false → T a → (T b → ⊥) → ⊥
-lost-not true true e t n = n tt
-lost-not true false e t n = subst T e tt
-lost-not false b e t n = t
+-- ---- the bits of a word visited: predecessors added
 
--- a node that was not lost
-pub not-lost : (w : List ℕ) (v : ℕ) (row c : List ℕ) (h : ℕ) (a b : Bool) → a ≡ held w v h → b ≡ has-bit row 0 h → (a && not b) ≡ false → LostAdded w v row c c h (h + 1)
-not-lost w v row c h a b p q e =
-    lost-over w v row c c h h (h + 1) (λ y m n t z. let d : y ≡ h = omega arith in lost-not a b e (subst T (sym p) (subst (λ (k : ℕ). T (held w v k)) d t)) (λ u. z (subst (In row) (sym d) (subst T q u)))) (lost-none w v row c h)
+module _ (w c : List ℕ) (k : ℕ) where
+  -- the row m has the predecessors of node h
+  abbrev pub Before : List ℕ → ℕ → Type 0
+  Before m h = (y : ℕ) → y < 256 → T (comes w h y) → In m y
+
+  pub before-turn : (m₀ m m′ : List ℕ) (n n′ h : ℕ) → (n ≡ 0 → ⊥) → n′ ≡ bitAnd n (n - 1) → h ≡ 32 * k + trailingZeros 32 n → ((y : ℕ) → y < 256 → has-bit m′ 0 y ≡ (has-bit m 0 y || comes w h y)) → Left c k (Before m) n → ((y : ℕ) → y < 256 → In m₀ y → In m y)
+      → Left c k (Before m′) n′ × ((y : ℕ) → y < 256 → In m₀ y → In m′ y)
+  before-turn m₀ m m′ n n′ h some is at bits x grown = (
+    (left-turn c k n n′ (Before m) (Before m′) some is (λ u d y b t. more y b (d y b t)) (subst (Before m′) at (λ y b t. subst T (sym (bits y b)) (or-r (has-bit m 0 y) (comes w h y) t))) x) .0,
+    λ y b t. more y b (grown y b t),
+  )
+    where
+      more : (y : ℕ) → y < 256 → In m y → In m′ y
+      more y b t = subst T (sym (bits y b)) (or-l (has-bit m 0 y) (comes w h y) t)
+
+  pub before-end : (m₀ m : List ℕ) (n : ℕ) → n ≡ 0 → Left c k (Before m) n → ((y : ℕ) → y < 256 → In m₀ y → In m y) → Preceded w c m₀ m (32 * k) (32 * k + 32)
+  before-end m₀ m n z x grown = record { grown = grown; added = λ h y p q b t u. left-none c k n (Before m) z x h p q t y b u }
+
+-- ---- the bits of a word visited: nodes without a match added
+
+-- one node
+module _ (w : List ℕ) (l : ℕ) (r : List ℕ) where
+  pub asked-met : (d : List ℕ) (x : ℕ) → Meets w l r x → Asked w l r d d x
+  asked-met d x m = record { grown = λ y b t. t; unmet = λ y b t. inl t; met = λ f. m }
+
+  pub asked-unmet : (d d′ : List ℕ) (x : ℕ) → 32 ≤ length d → x < 256 → d′ ≡ put-bit d 0 x → (Meets w l r x → ⊥) → Asked w l r d d′ x
+  asked-unmet d d′ x room few is n = subst (λ (z : List ℕ). Asked w l r d z x) (sym is) (record {
+    grown = λ y b t. more y t (ℕ-discrete x y);
+    unmet = λ y b t. less y t (ℕ-discrete x y);
+    met = λ f. absurd (f here);
+  })
+    where
+      here : In (put-bit d 0 x) x
+      here = subst T (sym (bit-same d 0 x (omega arith))) tt
+
+      more : (y : ℕ) → In d y → Dec (x ≡ y) → In (put-bit d 0 x) y
+      more y t (yes e) = subst (In (put-bit d 0 x)) e here
+      more y t (no f) = subst T (sym (bit-other d 0 x y f)) t
+
+      less : (y : ℕ) → In (put-bit d 0 x) y → Dec (x ≡ y) → In d y ⊎ (Meets w l r y → ⊥)
+      less y t (yes e) = inr (λ m. n (subst (Meets w l r) (sym e) m))
+      less y t (no f) = inl (subst T (bit-other d 0 x y f) t)
+
+  module _ (c : List ℕ) (k : ℕ) where
+    -- the row d has node x, or it is matched
+    abbrev pub Decided : List ℕ → ℕ → Type 0
+    Decided d x = x < 256 → (In d x → ⊥) → Meets w l r x
+
+    -- so far, from d₀ on
+    abbrev pub Sifting : List ℕ → List ℕ → ℕ → Type 0
+    Sifting d₀ d n = Left c k (Decided d) n × ((y : ℕ) → y < 256 → In d₀ y → In d y) × ((y : ℕ) → y < 256 → In d y → In d₀ y ⊎ (Meets w l r y → ⊥))
+
+    pub sifting-turn : (d₀ d d′ : List ℕ) (n n′ x : ℕ) → k < 8 → (n ≡ 0 → ⊥) → n′ ≡ bitAnd n (n - 1) → x ≡ 32 * k + trailingZeros 32 n → Asked w l r d d′ x → Sifting d₀ d n → Sifting d₀ d′ n′
+    sifting-turn d₀ d d′ n n′ x few some is at a y = (
+      (left-turn c k n n′ (Decided d) (Decided d′) some is (λ u s b f. s b (λ i. f (a .grown u b i))) (subst (Decided d′) at (λ b f. a .met f)) (y .0)) .0,
+      λ u b t. a .grown u b (y .1 u b t),
+      λ u b t. go u b (a .unmet u b t),
+    )
+      where
+        go : (u : ℕ) → u < 256 → In d u ⊎ (Meets w l r u → ⊥) → In d₀ u ⊎ (Meets w l r u → ⊥)
+        go u b (inl t) = y .2 u b t
+        go u b (inr f) = inr f
+
+    pub sifting-end : (d₀ d : List ℕ) (n : ℕ) → k < 8 → n ≡ 0 → Sifting d₀ d n → Sifted w l r c d₀ d (32 * k) (32 * k + 32)
+    sifting-end d₀ d n few z y = record { grown = y .1; unmet = y .2; met = λ x p q t f. left-none c k n (Decided d) z (y .0) x p q t (omega arith) f }
 
 module _ (s : Sizes) (f g : List ℕ) (x : Both s f g) where
   abbrev G : Graph
@@ -211,16 +247,20 @@ module _ (s : Sizes) (f g : List ℕ) (x : Both s f g) where
         let he′ : e < length (G .edges) = omega (arith, he, first-edges s f g x) in
         lacking-apart G H (first-flow s f g x) (second-flow s f g x) (first-fits s f g x) (second-fits s f g x) (first-edges-fit s f g x) w r l h hl ((y .without-edge h b i) .1) e he′ ((slot-tells e he′ t) .1) z
 
-    pub may-drop : (c c′ : List ℕ) → Contained G H v row → Sifted w l row c c′ 0 256 → (e h : ℕ) → e < s .edges → T (labelled-into G (9 * v + l) e) → h < 256 → In c′ h → T (related G H ((edge G e) .from) h) → ⊥
-    may-drop c c′ cont y e h he t b i z =
+    pub may-drop : (c d : List ℕ) → Contained G H v row → Sifted w l row c (replicate 32 0) d 0 256 → (e h : ℕ) → e < s .edges → T (labelled-into G (9 * v + l) e) → h < 256 → In d h → T (related G H ((edge G e) .from) h) → ⊥
+    may-drop c d cont y e h he t b i z =
         let he′ : e < length (G .edges) = omega (arith, he, first-edges s f g x) in
-        let d = slot-tells e he′ t in
-        unmet-apart G H (first-flow s f g x) (second-flow s f g x) (first-fits s f g x) (second-fits s f g x) (first-edges-fit s f g x) w r v l hl row cont e h he′ (d .0) (d .1) (y .left-in h (omega arith) b i) z
+        let a = slot-tells e he′ t in
+        unmet-apart G H (first-flow s f g x) (second-flow s f g x) (first-fits s f g x) (second-fits s f g x) (first-edges-fit s f g x) w r v l hl row cont e h he′ (a .0) (a .1) (only (y .unmet h b i)) z
+      where
+        only : In (replicate 32 0) h ⊎ (Meets w l row h → ⊥) → Meets w l row h → ⊥
+        only (inl n) = absurd (let k = none-within 0 h b n in omega (arith, k))
+        only (inr n) = n
 
-    pub label-done : (c c′ w′ : List ℕ) → Contained G H v row → Candidates G H w v l row c → Sifted w l row c c′ 0 256 → Shrank G H w w′
-        → ((e h : ℕ) → e < s .edges → T (labelled-into G (9 * v + l) e) → h < 256 → T (rel w′ ((edge G e) .from) h) → In c′ h → ⊥) → LabelMatched G H w′ v l row
-    label-done c c′ w′ cont k y z none =
-        label-matched G H (first-flow s f g x) (second-flow s f g x) (first-fits s f g x) (second-fits s f g x) (first-edges-fit s f g x) w r v l hl row cont c c′ w′ k y z
+    pub label-done : (c d w′ : List ℕ) → Contained G H v row → Candidates G H w v l row c → Sifted w l row c (replicate 32 0) d 0 256 → Shrank G H w w′
+        → ((e h : ℕ) → e < s .edges → T (labelled-into G (9 * v + l) e) → h < 256 → T (rel w′ ((edge G e) .from) h) → In d h → ⊥) → LabelMatched G H w′ v l row
+    label-done c d w′ cont k y z none =
+        label-matched G H (first-flow s f g x) (second-flow s f g x) (first-fits s f g x) (second-fits s f g x) (first-edges-fit s f g x) w r v l hl row cont c (replicate 32 0) d w′ k y z
         (λ e h he a b m t. none e h (omega (arith, he, first-edges s f g x)) (slot-told e a b) m t)
 
     pub label-empty : (at : ℕ) → at ≡ cell w 16960 2 (9 * v + l) → at ≡ 0 → LabelMatched G H w v l row
@@ -236,8 +276,8 @@ module _ (s : Sizes) (f g : List ℕ) (x : Both s f g) where
       go (no d) = label-kept G H (first-flow s f g x) (second-flow s f g x) (first-fits s f g x) (second-fits s f g x) (first-edges-fit s f g x) w w′ v l row y (m l (omega arith))
 
   -- what is asked of a node, and what has an edge to what it has lost, stay while others lose
-  pub met-first : (w : List ℕ) (v : ℕ) (r c m : List ℕ) → Refining G H w → LostAdded w v r c m 0 256 → LostMet H w v r m
-  met-first w v r c m y z = lost-met G H (first-flow s f g x) (second-flow s f g x) (first-fits s f g x) (second-fits s f g x) (first-edges-fit s f g x) w v r c m y z
+  pub met-first : (w : List ℕ) (v : ℕ) (r lost c m : List ℕ) → Refining G H w → ((h : ℕ) → h < 256 → has-bit lost 0 h ≡ (held w v h && not (has-bit r 0 h))) → Preceded w lost c m 0 256 → LostMet H w v r m
+  met-first w v r lost c m y z = lost-met G H (first-flow s f g x) (second-flow s f g x) (first-fits s f g x) (second-fits s f g x) (first-edges-fit s f g x) w v r lost c m y z
 
   pub met-still : (w w′ : List ℕ) (v : ℕ) (r m : List ℕ) → v < s .nodes → Shrank G H w w′ → NodeMatched G H w v → LostMet H w v r m → NodeMatched G H w′ v × LostMet H w′ v r m
   met-still w w′ v r m hv y n z =

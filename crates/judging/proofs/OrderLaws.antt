@@ -47,8 +47,3 @@ none-reaches n a b e = (below a (or-none-l (leb n a) (leb n b) e), below b (or-n
         go : Dec (k < n) → k < n
         go (yes h) = h
         go (no h) = absurd (subst T (sym (le-leb n k (omega arith)) ∙ f) tt)
-
--- a smaller part lies within a larger one
-pub outside-wide : (a b c d : ℕ) (w w′ : List ℕ) → c ≤ a → b ≤ d → Outside a b w w′ → Outside c d w w′
-outside-wide a b c d w w′ l h o q (inl x) = o q (inl (omega arith))
-outside-wide a b c d w w′ l h o q (inr x) = o q (inr (omega arith))

@@ -5,5 +5,6 @@ pub mod Ranking
 pub mod Sheets
 pub mod Simulation
 pub mod Refinement
+pub mod Words
 pub mod Judge
 pub mod Compare

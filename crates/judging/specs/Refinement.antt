@@ -111,10 +111,10 @@ In r h = T (has-bit r 0 h)
 abbrev pub Within : ℕ → List ℕ → Type 0
 Within n r = (h : ℕ) → h < 256 → In r h → h < n
 
--- from c to c′ by adding the predecessors of the nodes from a up to b that v held and that the row r has not
-pub record LostAdded (w : List ℕ) (v : ℕ) (r c c′ : List ℕ) (a b : ℕ) : Type 0 where
-  pub grown : (x : ℕ) → x < 256 → In c x → In c′ x
-  pub added : (h x : ℕ) → a ≤ h → h < b → x < 256 → T (held w v h) → (In r h → ⊥) → T (comes w h x) → In c′ x
+-- from m to m′ by adding the predecessors of those nodes from a up to b that the row c has
+pub record Preceded (w c m m′ : List ℕ) (a b : ℕ) : Type 0 where
+  pub grown : (x : ℕ) → x < 256 → In m x → In m′ x
+  pub added : (h x : ℕ) → a ≤ h → h < b → x < 256 → In c h → T (comes w h x) → In m′ x
 
 -- the row m has every node with an edge to a node that v held and that the row r has not
 abbrev pub LostMet : Graph → List ℕ → ℕ → List ℕ → List ℕ → Type 0
@@ -129,12 +129,17 @@ pub record Lacking (w : List ℕ) (l n : ℕ) (c : List ℕ) : Type 0 where
   pub without-edge : (x : ℕ) → x < 256 → In c x → (x < n) × ((y : ℕ) → y < 256 → T (follows w x l y) → ⊥)
   pub with-edge : (x : ℕ) → x < n → (In c x → ⊥) → (y : ℕ) × (y < 256) × T (follows w x l y)
 
--- from c to c′ by taking out, of the nodes from a up to b, those of which an edge with label l leads into the row r
-pub record Sifted (w : List ℕ) (l : ℕ) (r c c′ : List ℕ) (a b : ℕ) : Type 0 where
-  pub fewer : (x : ℕ) → x < 256 → In c′ x → In c x
-  pub beside : (x : ℕ) → x < 256 → (x < a) ⊎ (b ≤ x) → In c x → In c′ x
-  pub taken-out : (x : ℕ) → a ≤ x → x < b → In c x → (In c′ x → ⊥) → Meets w l r x
-  pub left-in : (x : ℕ) → a ≤ x → x < b → In c′ x → Meets w l r x → ⊥
+-- from d to d′ by adding node x, where no edge of it with label l leads into the row r
+pub record Asked (w : List ℕ) (l : ℕ) (r d d′ : List ℕ) (x : ℕ) : Type 0 where
+  pub grown : (y : ℕ) → y < 256 → In d y → In d′ y
+  pub unmet : (y : ℕ) → y < 256 → In d′ y → In d y ⊎ (Meets w l r y → ⊥)
+  pub met : (In d′ x → ⊥) → Meets w l r x
+
+-- from d to d′ by adding those nodes from a up to b that the row c has and of which no edge with label l leads into the row r
+pub record Sifted (w : List ℕ) (l : ℕ) (r c d d′ : List ℕ) (a b : ℕ) : Type 0 where
+  pub grown : (x : ℕ) → x < 256 → In d x → In d′ x
+  pub unmet : (x : ℕ) → x < 256 → In d′ x → In d x ⊎ (Meets w l r x → ⊥)
+  pub met : (x : ℕ) → a ≤ x → x < b → In c x → (In d′ x → ⊥) → Meets w l r x
 
 module _ (G H : Graph) where
   -- ---- the search

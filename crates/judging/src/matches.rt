@@ -2,7 +2,6 @@
 // into the row. `hand_on` states that all edges into v are matched by the row once it is handed on: nodes that may have lost their match are found, those that have another are
 // sifted out, the rest is dropped.
 ghost use mathlib.Core.Path.{_≡_};
-ghost use mathlib.Core.Bool.{not};
 ghost use Prim.Native.Nat.{ℕ, _+_, _*_, _-_, _≤_, _<_};
 ghost use lib.Dec.{T};
 ghost use lib.ListN.{length};
@@ -11,18 +10,18 @@ ghost use Rattle.files.specs.Cells.{has-bit};
 ghost use Rattle.files.specs.Decode.{decode-graph};
 ghost use Rattle.files.specs.Record.{count};
 ghost use Rattle.files.specs.Refusal.{nodes-of};
-ghost use Rattle.judging.specs.Refinement.{Both, rel, edge, labelled-into, Within, LostAdded, Sifted, LostMet, Contained, Refining, Shrank, NodeMatched, LabelMatched};
+ghost use Rattle.judging.specs.Refinement.{Both, rel, edge, labelled-into, Within, Preceded, Asked, Sifted, LostMet, Contained, Refining, Shrank, NodeMatched, LabelMatched};
 ghost use Rattle.judging.specs.Simulation.{related};
 use crate::rows::add_row;
 use crate::rows::any_at;
 use crate::rows::drop_row;
 use crate::rows::keep_row;
 use crate::rows::meets;
-use crate::rows::without;
+use crate::rows::row_without;
 use crate::sizes::Sizes;
-use files::cells::drop_bit;
 use files::cells::get16;
-use files::cells::has_bit;
+use files::cells::get32;
+use files::cells::put_bit;
 use files::encode::LINE;
 use files::graph::EdgeAt;
 use files::graph::edge_at;
@@ -52,89 +51,71 @@ fn add_sources(first: &[u8], second: &[u8], s: Sizes, work: &[u8], slot: usize, 
     }
 }
 
-// Adds the predecessors of node h, where v held h and the row has it no longer.
-fn add_lost_at(work: &[u8], v: usize, row: &[u8], met: &mut [u8], h: usize)
-    requires { ⌜ ((32 ≤ length (now row)) × (32 ≤ length (now met))) × ((165152 ≤ length (now work)) × ((v < 256) × (h < 256))) ⌝ }
-    ensures { λ _. ⌜ LostAdded (now (work .entry)) v (now (row .entry)) (now (met .entry)) (now (met .exit)) h (h + 1) ⌝ }
+// Adds the predecessors of those nodes of a row that stand in its word k.
+fn add_before_word(work: &[u8], nodes: &[u8], met: &mut [u8], k: usize)
+    requires { ⌜ ((32 ≤ length (now nodes)) × (32 ≤ length (now met))) × ((165152 ≤ length (now work)) × (k < 8)) ⌝ }
+    ensures { λ _. ⌜ Preceded (now (work .entry)) (now (nodes .entry)) (now (met .entry)) (now (met .exit)) (32 * k) (32 * k + 32) ⌝ }
 {
-    if has_bit(work, Sizes::HELD + LINE * v, h) & !has_bit(row, 0, h) {
+    let mut rest = get32(nodes, 0, k);
+    while rest != 0 {
+        let h = 32 * k + (u32::trailing_zeros(rest) as usize);
         add_row(
             met,
             work,
             Sizes::NEIGHBOURS + LINE * (Sizes::ROWS * h + Sizes::BEFORE),
         );
+        rest = rest & (rest - 1);
     }
 }
 
-// The same for the eight nodes of byte k.
-fn add_lost_byte(work: &[u8], v: usize, row: &[u8], met: &mut [u8], k: usize)
-    requires { ⌜ ((32 ≤ length (now row)) × (32 ≤ length (now met))) × ((165152 ≤ length (now work)) × ((v < 256) × (k < 32))) ⌝ }
-    ensures { λ _. ⌜ LostAdded (now (work .entry)) v (now (row .entry)) (now (met .entry)) (now (met .exit)) (8 * k) (8 * k + 8) ⌝ }
-{
-    let mut i = 0;
-    while i < 8 {
-        add_lost_at(work, v, row, met, 8 * k + i);
-        i += 1;
-    }
-}
-
-// The same for all nodes; a byte in which nothing was lost is passed over.
-fn add_lost(work: &[u8], v: usize, row: &[u8], met: &mut [u8])
-    requires { ⌜ ((32 ≤ length (now row)) × (32 ≤ length (now met))) × ((165152 ≤ length (now work)) × (v < 256)) ⌝ }
-    ensures { λ _. ⌜ LostAdded (now (work .entry)) v (now (row .entry)) (now (met .entry)) (now (met .exit)) 0 256 ⌝ }
+// The same for all nodes of the row.
+fn add_before(work: &[u8], nodes: &[u8], met: &mut [u8])
+    requires { ⌜ ((32 ≤ length (now nodes)) × (32 ≤ length (now met))) × (165152 ≤ length (now work)) ⌝ }
+    ensures { λ _. ⌜ Preceded (now (work .entry)) (now (nodes .entry)) (now (met .entry)) (now (met .exit)) 0 256 ⌝ }
 {
     let mut k = 0;
-    while k < LINE {
-        let at = k;
+    while k < 8 {
+        add_before_word(work, nodes, met, k);
         k += 1;
-        if without(work[Sizes::HELD + LINE * v + at], row[at]) == 0 {
-            continue;
-        }
-        add_lost_byte(work, v, row, met, at);
     }
 }
 
-// Takes node x out, if an edge of it with this label leads into the row.
+// Adds node x, unless an edge of it with this label leads into the row.
 fn sift_at(work: &[u8], label: usize, row: &[u8], gone: &mut [u8], x: usize)
     requires { ⌜ ((32 ≤ length (now row)) × (32 ≤ length (now gone))) × ((165152 ≤ length (now work)) × ((label < 9) × (x < 256))) ⌝ }
-    ensures { λ _. ⌜ Sifted (now (work .entry)) label (now (row .entry)) (now (gone .entry)) (now (gone .exit)) x (x + 1) ⌝ }
+    ensures { λ _. ⌜ Asked (now (work .entry)) label (now (row .entry)) (now (gone .entry)) (now (gone .exit)) x ⌝ }
 {
-    if has_bit(gone, 0, x) {
-        if meets(
-            row,
-            work,
-            Sizes::NEIGHBOURS + LINE * (Sizes::ROWS * x + label),
-        ) {
-            drop_bit(gone, 0, x);
-        }
+    if !meets(
+        row,
+        work,
+        Sizes::NEIGHBOURS + LINE * (Sizes::ROWS * x + label),
+    ) {
+        put_bit(gone, 0, x);
     }
 }
 
-// The same for the eight nodes of byte k.
-fn sift_byte(work: &[u8], label: usize, row: &[u8], gone: &mut [u8], k: usize)
-    requires { ⌜ ((32 ≤ length (now row)) × (32 ≤ length (now gone))) × ((165152 ≤ length (now work)) × ((label < 9) × (k < 32))) ⌝ }
-    ensures { λ _. ⌜ Sifted (now (work .entry)) label (now (row .entry)) (now (gone .entry)) (now (gone .exit)) (8 * k) (8 * k + 8) ⌝ }
+// The same for those nodes found that stand in word k of their row.
+fn sift_word(work: &[u8], label: usize, row: &[u8], found: &[u8], gone: &mut [u8], k: usize)
+    requires { ⌜ ((32 ≤ length (now row)) × ((32 ≤ length (now found)) × (32 ≤ length (now gone)))) × ((165152 ≤ length (now work)) × ((label < 9) × (k < 8))) ⌝ }
+    ensures { λ _. ⌜ Sifted (now (work .entry)) label (now (row .entry)) (now (found .entry)) (now (gone .entry)) (now (gone .exit)) (32 * k) (32 * k + 32) ⌝ }
 {
-    let mut i = 0;
-    while i < 8 {
-        sift_at(work, label, row, gone, 8 * k + i);
-        i += 1;
+    let mut rest = get32(found, 0, k);
+    while rest != 0 {
+        let x = 32 * k + (u32::trailing_zeros(rest) as usize);
+        sift_at(work, label, row, gone, x);
+        rest = rest & (rest - 1);
     }
 }
 
-// The same for all nodes; a byte without any is passed over.
-fn sift(work: &[u8], label: usize, row: &[u8], gone: &mut [u8])
-    requires { ⌜ ((32 ≤ length (now row)) × (32 ≤ length (now gone))) × ((165152 ≤ length (now work)) × (label < 9)) ⌝ }
-    ensures { λ _. ⌜ Sifted (now (work .entry)) label (now (row .entry)) (now (gone .entry)) (now (gone .exit)) 0 256 ⌝ }
+// The same for all nodes found.
+fn sift(work: &[u8], label: usize, row: &[u8], found: &[u8], gone: &mut [u8])
+    requires { ⌜ ((32 ≤ length (now row)) × ((32 ≤ length (now found)) × (32 ≤ length (now gone)))) × ((165152 ≤ length (now work)) × (label < 9)) ⌝ }
+    ensures { λ _. ⌜ Sifted (now (work .entry)) label (now (row .entry)) (now (found .entry)) (now (gone .entry)) (now (gone .exit)) 0 256 ⌝ }
 {
     let mut k = 0;
-    while k < LINE {
-        let at = k;
+    while k < 8 {
+        sift_word(work, label, row, found, gone, k);
         k += 1;
-        if gone[at] == 0 {
-            continue;
-        }
-        sift_byte(work, label, row, gone, at);
     }
 }
 
@@ -177,10 +158,11 @@ fn hand_on_by(
     if get16(work, Sizes::HEADS, slot) == 0 {
         return;
     }
+    let mut found = [0u8; LINE];
+    add_sources(first, second, s, work, slot, &mut found);
+    keep_row(&mut found, met);
     let mut gone = [0u8; LINE];
-    add_sources(first, second, s, work, slot, &mut gone);
-    keep_row(&mut gone, met);
-    sift(work, label, row, &mut gone);
+    sift(work, label, row, &found, &mut gone);
     if !any_at(&gone, 0) {
         return;
     }
@@ -192,8 +174,9 @@ pub(crate) fn hand_on(first: &[u8], second: &[u8], s: Sizes, work: &mut [u8], v:
     requires { ⌜ (32 ≤ length (now row)) × ((Both s (now first) (now second)) × ((v < s .nodes) × ((Refining (decode-graph (now first)) (decode-graph (now second)) (now work)) × ((NodeMatched (decode-graph (now first)) (decode-graph (now second)) (now work) v) × (Contained (decode-graph (now first)) (decode-graph (now second)) v (now row)))))) ⌝ }
     ensures { λ _. ⌜ (Shrank (decode-graph (now (first .entry))) (decode-graph (now (second .entry))) (now (work .entry)) (now (work .exit))) × ((l : ℕ) → l < 9 → LabelMatched (decode-graph (now (first .entry))) (decode-graph (now (second .entry))) (now (work .exit)) v l (now (row .entry))) ⌝ }
 {
+    let lost = row_without(work, Sizes::HELD + LINE * v, row);
     let mut met = [0u8; LINE];
-    add_lost(work, v, row, &mut met);
+    add_before(work, &lost, &mut met);
     let mut label = 0;
     while label < 9 {
         hand_on_by(first, second, s, work, v, label, row, &met);

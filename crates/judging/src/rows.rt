@@ -31,6 +31,20 @@ pub(crate) fn row_at(work: &[u8], at: usize) -> [u8; LINE]
     row
 }
 
+// What the row from `at` on has and another has not.
+pub(crate) fn row_without(work: &[u8], at: usize, row: &[u8]) -> [u8; LINE]
+    requires { ⌜ (at + 32 ≤ length (now work)) × (32 ≤ length (now row)) ⌝ }
+    ensures { λ r. ⌜ (length r ≡ 32) × ((h : ℕ) → h < 256 → has-bit r 0 h ≡ (has-bit (now (work .entry)) at h && not (has-bit (now (row .entry)) 0 h))) ⌝ }
+{
+    let mut rest = [0u8; LINE];
+    let mut k = 0;
+    while k < LINE {
+        rest[k] = without(work[at + k], row[k]);
+        k += 1;
+    }
+    rest
+}
+
 // Stores a row from `at` on.
 pub(crate) fn put_row(work: &mut [u8], at: usize, row: &[u8])
     requires { ⌜ (at + 32 ≤ length (now work)) × (32 ≤ length (now row)) ⌝ }

@@ -1,20 +1,20 @@
 -- Laws of stores, over every width: what is read back of the same cell, another cell, another region and a byte outside; the same of bits and runs. Then each definition as the code writes it.
 use mathlib.Core.Path.{_≡_, refl, sym, ap, ap₂, _∙_}
 use mathlib.Core.Logic.{_⊎_, inl, inr}
-use mathlib.Core.Bool.{Bool, true, false, _&&_}
+use mathlib.Core.Bool.{Bool, true}
 use mathlib.Core.List.{List, _++_, append-assoc}
 use Prim.Native.Nat.{ℕ, zero, suc, _+_, _*_, _-_, _/_, _%_, _^_, _≤_, _<_}
 use native.Mathlib.Nat.{eq-or-lt-of-le, mul-suc, mul-le-mul-left, pow-suc, mod-eq-of-lt, one-mul, zero-add}
 use native.Mathlib.Numerals.{add-one}
 use native.Mathlib.Decide.{ℕ-discrete, decLt}
 use native.Mathlib.Omega.{arith}
-use lib.Bits.{bitOr, bitAnd, or-shr, or-mod, and-shr, and-mod, or-zero-r, and-zero-r, and-mask, or-add-and}
+use lib.Bits.{bitOr, bitAnd, or-shr, or-mod, and-shr, and-mod, or-zero-r, and-mask, or-add-and}
 use lib.Dec.{eqb, eqb→eq, eqb-refl, not-T}
 use lib.ListN.{length, getD, set, take, drop, length-set, length-append, List·getD-append}
 use lib.Pow.{shl-exact}
 use lib.Seq.{getD-set-same, getD-set-other, set-out, getD-take, getD-drop, getD-append-add, length-take-le, sets-eq, length-sets, paste, paste-suc, take-length, take-at, drop-append-add, drop-drop}
-use Rattle.files.specs.Basics.Tests.{one, one-true, one-false, all, all-e, upto, upto-i, and-l, and-r}
-use Rattle.files.specs.Cells.{little, put-little, cell, put-cell, has-bit, put-bit, drop-bit, put-at}
+use Rattle.files.specs.Basics.Tests.{one, one-true, one-false, all, all-e, upto, upto-i}
+use Rattle.files.specs.Cells.{little, put-little, cell, put-cell, has-bit, put-bit, put-at}
 
 -- ---- numbers of n bytes
 
@@ -100,16 +100,12 @@ cells-on f l l′ base w i v put fits small e held j h = ap (λ (m : List ℕ). 
 abbrev pub digit : ℕ → ℕ → ℕ
 digit x j = x / 2 ^ j % 2
 
--- the digits of the two masks, computed
-weights : (k j : ℕ) → k < 8 → j < 8 → (digit (2 ^ k) j ≡ one (eqb k j)) × (digit (255 - 2 ^ k) j ≡ 1 - one (eqb k j))
-weights k j h m =
-    let t = all-e (right k) (upto 8) (all-e (λ (a : ℕ). all (right a) (upto 8)) (upto 8) tt k (upto-i 8 k h)) j (upto-i 8 j m) in
-    let a = eqb (digit (2 ^ k) j) (one (eqb k j)) in
-    let b = eqb (digit (255 - 2 ^ k) j) (1 - one (eqb k j)) in
-    (eqb→eq (digit (2 ^ k) j) (one (eqb k j)) (and-l a b t), eqb→eq (digit (255 - 2 ^ k) j) (1 - one (eqb k j)) (and-r a b t))
+-- the digits of a mask, computed
+weights : (k j : ℕ) → k < 8 → j < 8 → digit (2 ^ k) j ≡ one (eqb k j)
+weights k j h m = eqb→eq (digit (2 ^ k) j) (one (eqb k j)) (all-e (right k) (upto 8) (all-e (λ (a : ℕ). all (right a) (upto 8)) (upto 8) tt k (upto-i 8 k h)) j (upto-i 8 j m))
   where
     right : ℕ → ℕ → Bool
-    right k j = eqb (digit (2 ^ k) j) (one (eqb k j)) && eqb (digit (255 - 2 ^ k) j) (1 - one (eqb k j))
+    right k j = eqb (digit (2 ^ k) j) (one (eqb k j))
 
 -- a store that changes a byte by g reads back as the byte, changed
 at-same : (l : List ℕ) (base h : ℕ) (g : ℕ → ℕ) → base + h / 8 < length l
@@ -147,32 +143,17 @@ digit-and x y j = ap (λ (n : ℕ). n % 2) (and-shr x y j) ∙ and-mod (x / 2 ^ 
 or-one : (a : ℕ) → a < 2 → bitOr a 1 ≡ 1
 or-one a h = omega (arith, or-add-and a 1, and-mask a 1)
 
-and-one : (a : ℕ) → a < 2 → bitAnd a 1 ≡ a
-and-one a h = omega (arith, and-mask a 1)
-
--- digit k itself, by either mask, and digit j beside it
+-- digit k itself, and digit j beside it
 module _ (x k : ℕ) (h : k < 8) where
   or-here : digit (bitOr x (2 ^ k)) k ≡ 1
-  or-here = digit-or x (2 ^ k) k ∙ ap (bitOr (digit x k)) ((weights k k h h) .0 ∙ one-true (eqb k k) (eqb-refl k)) ∙ or-one (digit x k) (omega arith)
-
-  and-here : digit (bitAnd x (255 - 2 ^ k)) k ≡ 0
-  and-here =
-      digit-and x (255 - 2 ^ k) k
-      ∙ ap (bitAnd (digit x k)) ((weights k k h h) .1 ∙ ap (λ (n : ℕ). 1 - n) (one-true (eqb k k) (eqb-refl k)))
-      ∙ and-zero-r (digit x k)
+  or-here = digit-or x (2 ^ k) k ∙ ap (bitOr (digit x k)) (weights k k h h ∙ one-true (eqb k k) (eqb-refl k)) ∙ or-one (digit x k) (omega arith)
 
   module _ (j : ℕ) (m : j < 8) (f : k ≡ j → ⊥) where
     apart : one (eqb k j) ≡ 0
     apart = one-false (eqb k j) (not-T (eqb k j) (λ t. f (eqb→eq k j t)))
 
     or-beside : digit (bitOr x (2 ^ k)) j ≡ digit x j
-    or-beside = digit-or x (2 ^ k) j ∙ ap (bitOr (digit x j)) ((weights k j h m) .0 ∙ apart) ∙ or-zero-r (digit x j)
-
-    and-beside : digit (bitAnd x (255 - 2 ^ k)) j ≡ digit x j
-    and-beside =
-        digit-and x (255 - 2 ^ k) j
-        ∙ ap (bitAnd (digit x j)) ((weights k j h m) .1 ∙ ap (λ (n : ℕ). 1 - n) apart)
-        ∙ and-one (digit x j) (omega arith)
+    or-beside = digit-or x (2 ^ k) j ∙ ap (bitOr (digit x j)) (weights k j h m ∙ apart) ∙ or-zero-r (digit x j)
 
 pub length-put-bit : (l : List ℕ) (base h : ℕ) → length (put-bit l base h) ≡ length l
 unfolding put-bit
@@ -191,23 +172,6 @@ bit-other l base h k f = at-other l base h k (λ x. bitOr x (2 ^ (h % 8))) (λ d
 pub bit-outside : (l : List ℕ) (base h q : ℕ) → (q ≡ base + h / 8 → ⊥) → getD (put-bit l base h) q 0 ≡ getD l q 0
 unfolding put-bit
 bit-outside l base h q f = getD-set-other l (base + h / 8) q (bitOr (getD l (base + h / 8) 0) (2 ^ (h % 8))) 0 f
-
-pub length-drop-bit : (l : List ℕ) (base h : ℕ) → length (drop-bit l base h) ≡ length l
-unfolding drop-bit
-length-drop-bit l base h = simp length-set
-
-pub drop-same : (l : List ℕ) (base h : ℕ) → base + h / 8 < length l → has-bit (drop-bit l base h) base h ≡ false
-unfolding drop-bit
-drop-same l base h r =
-    at-same l base h (λ x. bitAnd x (255 - 2 ^ (h % 8))) r ∙ ap (λ (x : ℕ). eqb x 1) (and-here (getD l (base + h / 8) 0) (h % 8) (omega arith))
-
-pub drop-other : (l : List ℕ) (base h k : ℕ) → (h ≡ k → ⊥) → has-bit (drop-bit l base h) base k ≡ has-bit l base k
-unfolding drop-bit
-drop-other l base h k f = at-other l base h k (λ x. bitAnd x (255 - 2 ^ (h % 8))) (λ d x. and-beside x (h % 8) (omega arith) (k % 8) (omega arith) d) f
-
-pub drop-outside : (l : List ℕ) (base h q : ℕ) → (q ≡ base + h / 8 → ⊥) → getD (drop-bit l base h) q 0 ≡ getD l q 0
-unfolding drop-bit
-drop-outside l base h q f = getD-set-other l (base + h / 8) q (bitAnd (getD l (base + h / 8) 0) (255 - 2 ^ (h % 8))) 0 f
 
 -- ---- runs
 
@@ -295,10 +259,6 @@ bit-byte v w a b h e = has-bit-is v a h ∙ ap (λ (x : ℕ). eqb (x / 2 ^ (h % 
 pub put-bit-is : (l : List ℕ) (base h : ℕ) → put-bit l base h ≡ set l (base + h / 8) (bitOr (getD l (base + h / 8) 0) (2 ^ (h % 8)))
 unfolding put-bit
 put-bit-is l base h = refl
-
-pub drop-bit-is : (l : List ℕ) (base h : ℕ) → drop-bit l base h ≡ set l (base + h / 8) (bitAnd (getD l (base + h / 8) 0) (255 - 2 ^ (h % 8)))
-unfolding drop-bit
-drop-bit-is l base h = refl
 
 pub put-at-is : (l : List ℕ) (p : ℕ) (xs : List ℕ) → put-at l p xs ≡ take p l ++ xs ++ drop (p + length xs) l
 unfolding put-at

@@ -1,7 +1,7 @@
 -- Laws of handing on a row: candidates as they are found, sifting them, dropping what is left of them, and that edges are matched by the row then.
 use mathlib.Core.Path.{_≡_, refl, sym, ap, subst, _∙_}
 use mathlib.Core.Logic.{_⊎_, inl, inr}
-use mathlib.Core.Bool.{Bool, true, false, not, _&&_, _||_}
+use mathlib.Core.Bool.{Bool, true, false, not, _&&_}
 use mathlib.Core.List.{List}
 use Prim.Native.Nat.{ℕ, _+_, _*_, _/_, _≤_, _<_}
 use native.Mathlib.Decide.{ℕ-discrete, decLt}
@@ -9,120 +9,45 @@ use native.Mathlib.Omega.{arith}
 use lib.Dec.{T, T-not}
 use lib.ListN.{length, getD}
 use Rattle.files.specs.Basics.Lists.{index-i, index-e}
-use Rattle.files.specs.Basics.Tests.{and-i, and-l, and-r, or-e, or-l, or-r, eq-eqb}
-use Rattle.files.specs.Cells.{has-bit, drop-bit}
-use Rattle.files.specs.Cells.Laws.{bit-byte, cell-agree, drop-same, drop-other}
+use Rattle.files.specs.Basics.Tests.{and-i, and-l, and-r, eq-eqb}
+use Rattle.files.specs.Cells.{has-bit}
+use Rattle.files.specs.Cells.Laws.{bit-byte, cell-agree}
 use Rattle.files.specs.Graph.{Graph, Edge, size, no-edge, Flow}
 use Rattle.judging.specs.Chains.{Outside}
 use Rattle.judging.specs.Chains.Laws.{chained-same}
-use Rattle.judging.specs.Refinement.{rel, held, edge, neighbour, follows, comes, labelled-into, Reaches, Neighbours, In, Within, LostAdded, LostMet, Meets, Sifted, Refining, Shrank, Contained, LabelMatched, NodeMatched, Leading, Candidates}
+use Rattle.judging.specs.Refinement.{rel, held, edge, neighbour, follows, comes, labelled-into, Reaches, Neighbours, In, Within, Preceded, LostMet, Meets, Sifted, Refining, Shrank, Contained, LabelMatched, NodeMatched, Leading, Candidates}
 use Rattle.judging.specs.Refinement.Preparing.{leads-into-i, leads-into-e, leads-to-i}
 use Rattle.judging.specs.Refinement.Files.{from-in, to-in}
 use Rattle.judging.specs.Simulation.{related}
 use Rattle.judging.specs.Simulation.Laws.{related-e, related-simulation}
 
--- ---- predecessors of what was lost
+-- ---- predecessors, and nodes without a match, added part by part
 
-module _ (w : List ℕ) (v : ℕ) (r : List ℕ) where
-  pub lost-none : (c : List ℕ) (a : ℕ) → LostAdded w v r c c a a
-  lost-none c a = record { grown = λ x b t. t; added = λ h x p q b. absurd (omega arith) }
+module _ (w c : List ℕ) where
+  pub preceded-none : (m : List ℕ) (a : ℕ) → Preceded w c m m a a
+  preceded-none m a = record { grown = λ x b t. t; added = λ h x p q b. absurd (omega arith) }
 
-  pub lost-on : (c c′ c″ : List ℕ) (a b d : ℕ) → LostAdded w v r c c′ a b → LostAdded w v r c′ c″ b d → LostAdded w v r c c″ a d
-  lost-on c c′ c″ a b d x y = record { grown = λ k m t. y .grown k m (x .grown k m t); added = λ h k p q m s f t. go h k p q m s f t (decLt h b) }
+  pub preceded-on : (m m′ m″ : List ℕ) (a b d : ℕ) → Preceded w c m m′ a b → Preceded w c m′ m″ b d → Preceded w c m m″ a d
+  preceded-on m m′ m″ a b d x y = record { grown = λ k i t. y .grown k i (x .grown k i t); added = λ h k p q i s t. go h k p q i s t (decLt h b) }
     where
-      go : (h k : ℕ) → a ≤ h → h < d → k < 256 → T (held w v h) → (In r h → ⊥) → T (comes w h k) → Dec (h < b) → In c″ k
-      go h k p q m s f t (yes z) = y .grown k m (x .added h k p z m s f t)
-      go h k p q m s f t (no z) = y .added h k (omega arith) q m s f t
+      go : (h k : ℕ) → a ≤ h → h < d → k < 256 → In c h → T (comes w h k) → Dec (h < b) → In m″ k
+      go h k p q i s t (yes z) = y .grown k i (x .added h k p z i s t)
+      go h k p q i s t (no z) = y .added h k (omega arith) q i s t
 
-  -- nothing was lost from b up to d
-  pub lost-over : (c c′ : List ℕ) (a b d : ℕ) → ((h : ℕ) → b ≤ h → h < d → T (held w v h) → (In r h → ⊥) → ⊥) → LostAdded w v r c c′ a b → LostAdded w v r c c′ a d
-  lost-over c c′ a b d none x = record { grown = x .grown; added = λ h k p q m s f t. go h k p q m s f t (decLt h b) }
+module _ (w : List ℕ) (l : ℕ) (r c : List ℕ) where
+  pub sifted-none : (d : List ℕ) (a : ℕ) → Sifted w l r c d d a a
+  sifted-none d a = record { grown = λ x b t. t; unmet = λ x b t. inl t; met = λ x p q. absurd (omega arith) }
+
+  pub sifted-on : (d d′ d″ : List ℕ) (a b e : ℕ) → e ≤ 256 → Sifted w l r c d d′ a b → Sifted w l r c d′ d″ b e → Sifted w l r c d d″ a e
+  sifted-on d d′ d″ a b e few y z = record { grown = λ x m t. z .grown x m (y .grown x m t); unmet = λ x m t. both x m (z .unmet x m t); met = λ x p q t f. go x p q t f (decLt x b) }
     where
-      go : (h k : ℕ) → a ≤ h → h < d → k < 256 → T (held w v h) → (In r h → ⊥) → T (comes w h k) → Dec (h < b) → In c′ k
-      go h k p q m s f t (yes z) = x .added h k p z m s f t
-      go h k p q m s f t (no z) = absurd (none h (omega arith) q s f)
+      both : (x : ℕ) → x < 256 → In d′ x ⊎ (Meets w l r x → ⊥) → In d x ⊎ (Meets w l r x → ⊥)
+      both x m (inl t) = y .unmet x m t
+      both x m (inr f) = inr f
 
-  -- the predecessors of one node
-  pub lost-one : (c c′ : List ℕ) (h : ℕ) → ((x : ℕ) → x < 256 → has-bit c′ 0 x ≡ (has-bit c 0 x || comes w h x)) → LostAdded w v r c c′ h (h + 1)
-  lost-one c c′ h bits = record {
-    grown = λ x b t. subst T (sym (bits x b)) (or-l (has-bit c 0 x) (comes w h x) t);
-    added = λ k x p q b s f t. subst T (sym (bits x b)) (or-r (has-bit c 0 x) (comes w h x) (let e : k ≡ h = omega arith in subst (λ (m : ℕ). T (comes w m x)) e t));
-  }
-
--- ---- sifting
-
-module _ (w : List ℕ) (l : ℕ) (r : List ℕ) where
-  pub sifted-none : (c : List ℕ) (a : ℕ) → Sifted w l r c c a a
-  sifted-none c a = record { fewer = λ x b t. t; beside = λ x b d t. t; taken-out = λ x p q. absurd (omega arith); left-in = λ x p q. absurd (omega arith) }
-
-  pub sifted-on : (c c′ c″ : List ℕ) (a b d : ℕ) → a ≤ b → b ≤ d → d ≤ 256 → Sifted w l r c c′ a b → Sifted w l r c′ c″ b d → Sifted w l r c c″ a d
-  sifted-on c c′ c″ a b d ab bd few y z = record {
-    fewer = λ x m t. y .fewer x m (z .fewer x m t);
-    beside = λ x m s t. both x m s t;
-    taken-out = λ x p q t f. out x p q t f (decLt x b);
-    left-in = λ x p q t. stay x p q t (decLt x b);
-  }
-    where
-      both : (x : ℕ) → x < 256 → (x < a) ⊎ (d ≤ x) → In c x → In c″ x
-      both x m (inl s) t = z .beside x m (inl (omega arith)) (y .beside x m (inl s) t)
-      both x m (inr s) t = z .beside x m (inr s) (y .beside x m (inr (omega arith)) t)
-
-      out : (x : ℕ) → a ≤ x → x < d → In c x → (In c″ x → ⊥) → Dec (x < b) → Meets w l r x
-      out x p q t f (yes h) = y .taken-out x p h t (λ i. f (z .beside x (omega arith) (inl h) i))
-      out x p q t f (no h) = z .taken-out x (omega arith) q (y .beside x (omega arith) (inr (omega arith)) t) f
-
-      stay : (x : ℕ) → a ≤ x → x < d → In c″ x → Dec (x < b) → Meets w l r x → ⊥
-      stay x p q t (yes h) = y .left-in x p h (z .fewer x (omega arith) t)
-      stay x p q t (no h) = z .left-in x (omega arith) q t
-
-  -- nothing is there from b up to d
-  pub sifted-over : (c c′ : List ℕ) (a b d : ℕ) → b ≤ d → d ≤ 256 → ((x : ℕ) → b ≤ x → x < d → In c′ x → ⊥) → Sifted w l r c c′ a b → Sifted w l r c c′ a d
-  sifted-over c c′ a b d bd few none y = record {
-    fewer = y .fewer;
-    beside = λ x m s t. both x m s t;
-    taken-out = λ x p q t f. out x p q t f (decLt x b);
-    left-in = λ x p q t. stay x p q t (decLt x b);
-  }
-    where
-      both : (x : ℕ) → x < 256 → (x < a) ⊎ (d ≤ x) → In c x → In c′ x
-      both x m (inl s) t = y .beside x m (inl s) t
-      both x m (inr s) t = y .beside x m (inr (omega arith)) t
-
-      out : (x : ℕ) → a ≤ x → x < d → In c x → (In c′ x → ⊥) → Dec (x < b) → Meets w l r x
-      out x p q t f (yes h) = y .taken-out x p h t f
-      out x p q t f (no h) = absurd (f (y .beside x (omega arith) (inr (omega arith)) t))
-
-      stay : (x : ℕ) → a ≤ x → x < d → In c′ x → Dec (x < b) → Meets w l r x → ⊥
-      stay x p q t (yes h) = y .left-in x p h t
-      stay x p q t (no h) = absurd (none x (omega arith) q t)
-
-  -- one node: not there, matched, or not
-  pub sifted-absent : (c : List ℕ) (x : ℕ) → x < 256 → has-bit c 0 x ≡ false → Sifted w l r c c x (x + 1)
-  sifted-absent c x m e = sifted-over c c x x (x + 1) (omega arith) (omega arith) (λ y p q t. let d : y ≡ x = omega arith in subst T e (subst (In c) d t)) (sifted-none c x)
-
-  pub sifted-unmet : (c : List ℕ) (x : ℕ) → (Meets w l r x → ⊥) → Sifted w l r c c x (x + 1)
-  sifted-unmet c x f = record {
-    fewer = λ y b t. t;
-    beside = λ y b d t. t;
-    taken-out = λ y p q t n. absurd (n t);
-    left-in = λ y p q t k. let d : y ≡ x = omega arith in f (subst (Meets w l r) d k);
-  }
-
-  pub sifted-met : (c c′ : List ℕ) (x : ℕ) → 32 ≤ length c → x < 256 → c′ ≡ drop-bit c 0 x → Meets w l r x → Sifted w l r c c′ x (x + 1)
-  sifted-met c c′ x room m is k = subst (λ (z : List ℕ). Sifted w l r c z x (x + 1)) (sym is) (record {
-    fewer = λ y b t. less y t (ℕ-discrete x y);
-    beside = λ y b d t. subst T (sym (drop-other c 0 x y (λ e. far y d e))) t;
-    taken-out = λ y p q t n. let d : x ≡ y = omega arith in subst (Meets w l r) d k;
-    left-in = λ y p q t j. let d : y ≡ x = omega arith in subst T (drop-same c 0 x (omega arith)) (subst (In (drop-bit c 0 x)) d t);
-  })
-    where
-      less : (y : ℕ) → In (drop-bit c 0 x) y → Dec (x ≡ y) → In c y
-      less y t (yes e) = absurd (subst T (drop-same c 0 x (omega arith)) (subst (In (drop-bit c 0 x)) (sym e) t))
-      less y t (no f) = subst T (drop-other c 0 x y f) t
-
-      far : (y : ℕ) → (y < x) ⊎ (x + 1 ≤ y) → x ≡ y → ⊥
-      far y (inl h) e = omega arith
-      far y (inr h) e = omega arith
+      go : (x : ℕ) → a ≤ x → x < e → In c x → (In d″ x → ⊥) → Dec (x < b) → Meets w l r x
+      go x p q t f (yes h) = y .met x p h t (λ i. f (z .grown x (omega arith) i))
+      go x p q t f (no h) = z .met x (omega arith) q t f
 
 -- ---- what a match is
 
@@ -234,14 +159,14 @@ module _ (G H : Graph) (fl : Flow G) (fk : Flow H) (fg : size G ≤ 256) (fh : s
         ))
 
     -- once candidates are sifted and the rest is dropped, every edge with the label into v is matched
-    pub label-matched : (c c′ w′ : List ℕ) → Candidates G H w v l r c → Sifted w l r c c′ 0 256 → Shrank G H w w′
-        → ((e h : ℕ) → e < length (G .edges) → (edge G e) .to ≡ v → (edge G e) .label ≡ l → h < 256 → T (rel w′ ((edge G e) .from) h) → In c′ h → ⊥) → LabelMatched G H w′ v l r
+    pub label-matched : (c d d′ w′ : List ℕ) → Candidates G H w v l r c → Sifted w l r c d d′ 0 256 → Shrank G H w w′
+        → ((e h : ℕ) → e < length (G .edges) → (edge G e) .to ≡ v → (edge G e) .label ≡ l → h < 256 → T (rel w′ ((edge G e) .from) h) → In d′ h → ⊥) → LabelMatched G H w′ v l r
     unfolding LabelMatched
-    label-matched c c′ w′ k s y none e h he to-is label-is b t = go (k .complete e h he to-is label-is b (y .rel-less ((edge G e) .from) h (from-in G fl e he) b t))
+    label-matched c d d′ w′ k s y none e h he to-is label-is b t = go (k .complete e h he to-is label-is b (y .rel-less ((edge G e) .from) h (from-in G fl e he) b t))
       where
         go : In c h ⊎ Reaches H (In r) h l → Reaches H (In r) h l
-        go (inr d) = d
-        go (inl i) = meets-reaches H fk fh w (x .neighbours) r l hl h (k .within h b i) (s .taken-out h (omega arith) b i (none e h he to-is label-is b t))
+        go (inr z) = z
+        go (inl i) = meets-reaches H fk fh w (x .neighbours) r l hl h (k .within h b i) (s .met h (omega arith) b i (none e h he to-is label-is b t))
 
   -- a label that no edge into v has
   pub label-none : (w : List ℕ) (v l : ℕ) (r : List ℕ) → ((e : ℕ) → e < length (G .edges) → (edge G e) .to ≡ v → (edge G e) .label ≡ l → ⊥) → LabelMatched G H w v l r
@@ -255,8 +180,13 @@ module _ (G H : Graph) (fl : Flow G) (fk : Flow H) (fg : size G ≤ 256) (fh : s
   -- ---- candidates
 
   -- what has an edge to what v has lost, by the rows of predecessors
-  pub lost-met : (w : List ℕ) (v : ℕ) (r c m : List ℕ) → Refining G H w → LostAdded w v r c m 0 256 → LostMet H w v r m
-  lost-met w v r c m x y h k hh hk t f u = y .added h k (omega arith) (omega arith) hk t f (subst T (sym (x .neighbours .predecessors h k hh hk)) u)
+  pub lost-met : (w : List ℕ) (v : ℕ) (r lost c m : List ℕ) → Refining G H w → ((h : ℕ) → h < 256 → has-bit lost 0 h ≡ (held w v h && not (has-bit r 0 h))) → Preceded w lost c m 0 256 → LostMet H w v r m
+  lost-met w v r lost c m x bits y h k hh hk t f u =
+      y .added h k (omega arith) (omega arith) hk (subst T (sym (bits h (omega arith))) (and-i (held w v h) (not (has-bit r 0 h)) t (off (has-bit r 0 h) f))) (subst T (sym (x .neighbours .predecessors h k hh hk)) u)
+    where
+      off : (p : Bool) → (T p → ⊥) → T (not p)
+      off true g = absurd (g tt)
+      off false g = tt
 
   pub lost-kept : (w w′ : List ℕ) (v : ℕ) (r m : List ℕ) → v < size G → Shrank G H w w′ → LostMet H w v r m → LostMet H w′ v r m
   lost-kept w w′ v r m hv y z h k hh hk t = z h k hh hk (subst T (y .held-kept v h hv (omega arith)) t)

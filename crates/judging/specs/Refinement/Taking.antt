@@ -8,7 +8,7 @@ use Prim.Native.Nat.{ℕ, _+_, _*_, _/_, _%_, _≤_, _<_}
 use native.Mathlib.Decide.{ℕ-discrete, decLt}
 use native.Mathlib.Omega.{arith}
 use lib.Dec.{T, ltb, lt→ltb, T-not}
-use lib.ListN.{length, getD}
+use lib.ListN.{length}
 use Rattle.files.specs.Basics.Lists.{index-i, index-e}
 use Rattle.files.specs.Basics.Tables.{tally-up, tally-more}
 use Rattle.files.specs.Basics.Tests.{decide, T-eq}

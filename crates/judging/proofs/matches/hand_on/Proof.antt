@@ -2,15 +2,16 @@ use mathlib.Core.Path.{_≡_, refl, _∙_}
 use Prim.Native.Nat.{ℕ, _-_, _≤_, _<_}
 use native.Mathlib.Omega.{arith}
 use lib.ListN.{length, replicate}
-use borrow.Author.Needs.{needs}
 use Rattle.files.specs.Decode.{decode-graph}
 use Rattle.judging.specs.Refinement.{Shrank, LabelMatched}
 use Rattle.judging.specs.Refinement.Handing.{shrank-none, shrank-on}
 use Rattle.judging.proofs.MatchLaws.{labels-kept, met-first, met-still}
+use borrow.Author.Needs.{needs}
 use Rattle.judging.proofs.matches.hand_on.Statement.{statement}
 use Rattle.judging.proofs.matches.hand_on.Tie as tie
-use Rattle.judging.proofs.matches.add_lost.Reads as add-lost-reads
+use Rattle.judging.proofs.matches.add_before.Reads as add-before-reads
 use Rattle.judging.proofs.matches.hand_on_by.Reads as hand-on-by-reads
+use Rattle.judging.proofs.rows.row_without.Reads as row-without-reads
 
 abbrev Inv-loop : tie.InvT-loop
 Inv-loop first second s work₀ v row met label₀ work label = (label ≤ 9) × (length work ≡ length work₀) × Shrank (decode-graph first) (decode-graph second) work₀ work × ((l : ℕ) → l < label → LabelMatched (decode-graph first) (decode-graph second) work v l row)
@@ -18,50 +19,67 @@ Inv-loop first second s work₀ v row met label₀ work label = (label ≤ 9) ×
 abbrev μ-loop : tie.MeasureT-loop
 μ-loop first second s work₀ v row met label₀ work label = 9 - label
 
--- src/matches.rt:196:28
-slice-aggregate-add-lost : tie.Need-slice-aggregate-add-lost Inv-loop μ-loop
-slice-aggregate-add-lost c = search needs
+-- src/matches.rt:178:48
+mul-row-without : tie.Need-mul-row-without Inv-loop μ-loop
+mul-row-without c = let k = c .before .before .before .before .before in omega (arith, k .pre .1 .1 .0, k .pre .1 .0 .few-first-nodes)
 
--- src/matches.rt:196:5
-add-lost-requires : tie.Need-add-lost-requires Inv-loop μ-loop
-add-lost-requires c κs = let k = c .before .before .before .before .before .before in ((k .pre .0, omega arith), (k .pre .1 .1 .1 .0 .room, omega (arith, k .pre .1 .1 .0, k .pre .1 .0 .few-first-nodes)))
+-- src/matches.rt:178:34
+add-row-without : tie.Need-add-row-without Inv-loop μ-loop
+add-row-without c = let k = c .before .before .before .before .before in omega (arith, k .pre .1 .1 .0, k .pre .1 .0 .few-first-nodes)
 
--- src/matches.rt:198:5
+-- src/matches.rt:178:16
+row-without-requires : tie.Need-row-without-requires Inv-loop μ-loop
+row-without-requires c κs = let k = c .before .before .before .before .before in (omega (arith, k .pre .1 .1 .0, k .pre .1 .0 .few-first-nodes, k .pre .1 .1 .1 .0 .room), k .pre .0)
+
+-- src/matches.rt:180:22
+slice-aggregate-add-before : tie.Need-slice-aggregate-add-before Inv-loop μ-loop
+slice-aggregate-add-before c = search needs
+
+-- src/matches.rt:180:29
+slice-aggregate-add-before-2 : tie.Need-slice-aggregate-add-before-2 Inv-loop μ-loop
+slice-aggregate-add-before-2 c = search needs
+
+-- src/matches.rt:180:5
+add-before-requires : tie.Need-add-before-requires Inv-loop μ-loop
+add-before-requires c κs = let k = c .before .before .before .before .before .before .before .before .before in ((omega (arith, c .before .before .before .row-without .ensures .0), omega arith), k .pre .1 .1 .1 .0 .room)
+
+-- src/matches.rt:182:5
 loop-holds : tie.Need-loop-holds Inv-loop μ-loop
-loop-holds c = let k = c .before .before .before .before .before .before .before .before in (omega arith, refl, shrank-none (decode-graph (k .args .first .now)) (decode-graph (k .args .second .now)) (k .args .work .now) (k .pre .1 .1 .1 .0), λ l h. absurd (omega (arith, h)))
+loop-holds c = let k = c .before .before .before .before .before .before .before .before .before .before .before in (omega arith, refl, shrank-none (decode-graph (k .args .first .now)) (decode-graph (k .args .second .now)) (k .args .work .now) (k .pre .1 .1 .1 .0), λ l h. absurd (omega (arith, h)))
 
--- src/matches.rt:199:59
+-- src/matches.rt:183:59
 slice-aggregate-hand-on-by : tie.Need-slice-aggregate-hand-on-by Inv-loop μ-loop
 slice-aggregate-hand-on-by c = search needs
 
--- src/matches.rt:199:9
+-- src/matches.rt:183:9
 hand-on-by-requires : tie.Need-hand-on-by-requires Inv-loop μ-loop
-hand-on-by-requires c κs = let k = c .before .before .before .before .before .before .before .before .before .before .before .before in
+hand-on-by-requires c κs = let k = c .before .before .before .before .before .before .before .before .before .before .before .before .before .before .before in
     let l = c .before .before .before .loop in
-    let p = c .before .before .before .before .before .add-lost in
-    let n = met-first (k .args .s) (k .args .first .now) (k .args .second .now) (k .pre .1 .0) (k .args .work .now) (k .args .v) (k .args .row .now) (replicate 32 0) (p .last .1 .1 .1 .0) (k .pre .1 .1 .1 .0) (p .ensures) in
-    ((k .pre .0, omega (arith, p .kept .1 .1 .1 .0)), (k .pre .1 .0, (k .pre .1 .1 .0, (c .before .before .loop-test .taken, (l .inv .2 .refining, (met-still (k .args .s) (k .args .first .now) (k .args .second .now) (k .pre .1 .0) (k .args .work .now) (l .work) (k .args .v) (k .args .row .now) (p .last .1 .1 .1 .0) (k .pre .1 .1 .0) (l .inv .2) (k .pre .1 .1 .1 .1 .0) n, k .pre .1 .1 .1 .1 .1))))))
+    let p = c .before .before .before .before .before .add-before in
+    let r = c .before .before .before .before .before .before .before .before .before .row-without in
+    let n = met-first (k .args .s) (k .args .first .now) (k .args .second .now) (k .pre .1 .0) (k .args .work .now) (k .args .v) (k .args .row .now) (r .result) (replicate 32 0) (p .last .1 .1 .0) (k .pre .1 .1 .1 .0) (r .ensures .1) (p .ensures) in
+    ((k .pre .0, omega (arith, p .kept .1 .1 .0)), (k .pre .1 .0, (k .pre .1 .1 .0, (c .before .before .loop-test .taken, (l .inv .2 .refining, (met-still (k .args .s) (k .args .first .now) (k .args .second .now) (k .pre .1 .0) (k .args .work .now) (l .work) (k .args .v) (k .args .row .now) (p .last .1 .1 .0) (k .pre .1 .1 .0) (l .inv .2) (k .pre .1 .1 .1 .1 .0) n, k .pre .1 .1 .1 .1 .1))))))
 
--- src/matches.rt:200:9
+-- src/matches.rt:184:9
 add-label : tie.Need-add-label Inv-loop μ-loop
 add-label c = omega (arith, c .before .before .before .before .before .loop-test .taken)
 
--- src/matches.rt:198:5
+-- src/matches.rt:182:5
 loop-less : tie.Need-loop-less Inv-loop μ-loop
 loop-less c = omega (arith, c .before .before .before .before .before .loop-test .taken)
 
--- src/matches.rt:198:5
+-- src/matches.rt:182:5
 loop-again : tie.Need-loop-again Inv-loop μ-loop
-loop-again c = let k = c .before .before .before .before .before .before .before .before .before .before .before .before .before .before .before in
+loop-again c = let k = c .before .before .before .before .before .before .before .before .before .before .before .before .before .before .before .before .before .before in
     let l = c .before .before .before .before .before .before .loop in
     let p = c .before .before .hand-on-by in
     (omega (arith, c .before .before .before .before .before .loop-test .taken), p .kept .1 .1 .1 .0 ∙ l .inv .1, shrank-on (decode-graph (k .args .first .now)) (decode-graph (k .args .second .now)) (k .args .work .now) (l .work) (p .last .1 .1 .1 .0) (l .inv .2) (p .ensures .0), labels-kept (k .args .s) (k .args .first .now) (k .args .second .now) (k .pre .1 .0) (l .work) (p .last .1 .1 .1 .0) (k .args .v) (k .args .row .now) (l .label) (p .ensures .0) (l .inv .3) (p .ensures .1))
 
--- src/matches.rt:191:1
+-- src/matches.rt:174:1
 same-length : tie.Need-same-length Inv-loop μ-loop
 same-length c = c .before .loop .inv .1
 
--- src/matches.rt:191:1
+-- src/matches.rt:174:1
 returns : tie.Need-returns Inv-loop μ-loop
 returns c = let l = c .before .loop in (l .inv .2, λ n h. l .inv .3 n (omega (arith, c .loop-test .left, h)))
 
@@ -71,8 +89,12 @@ hand-on-spec =
     (tie.spec
     Inv-loop
     μ-loop
-    slice-aggregate-add-lost
-    add-lost-requires
+    mul-row-without
+    add-row-without
+    row-without-requires
+    slice-aggregate-add-before
+    slice-aggregate-add-before-2
+    add-before-requires
     loop-holds
     slice-aggregate-hand-on-by
     hand-on-by-requires

@@ -73,7 +73,7 @@ same-length c = c .before .loop .inv .1
 returns : tie.Need-returns Inv-loop μ-loop
 returns c = let a = c .before .before .before .before .args in
     let l = c .before .loop in
-    (dropped-bits (a .row .now) (a .work .now) (l .work) (a .at) (l .k) (omega (arith, c .loop-test .left)) (l .inv .2) (l .inv .3), written-beside (λ j. bitAnd (getD (a .work .now) (a .at + j) 0) (255 - getD (a .row .now) j 0)) (a .work .now) (l .work) (a .at) (l .k) (l .inv .0) (omega (arith, c .loop-test .left)) (l .inv .2))
+    (dropped-bits (a .row .now) (a .work .now) (a .work .now) (l .work) (a .at) (a .at) (l .k) (omega (arith, c .loop-test .left)) (l .inv .2) (l .inv .3), written-beside (λ j. bitAnd (getD (a .work .now) (a .at + j) 0) (255 - getD (a .row .now) j 0)) (a .work .now) (l .work) (a .at) (l .k) (l .inv .0) (omega (arith, c .loop-test .left)) (l .inv .2))
 
 pub drop-row-spec : {M : Type 1} → statement M
 drop-row-spec =
