@@ -22,7 +22,7 @@ loop-holds c = (omega arith, λ u h. absurd (omega arith))
 is-entry-requires : tie.Need-is-entry-requires Inv-loop μ-loop
 is-entry-requires c κs = (c .before .before .before .before .before .before .pre .0, c .if1 .taken)
 
--- src/cover.rt:37:37
+-- src/cover.rt:37:34
 mul-has-bit : tie.Need-mul-has-bit Inv-loop μ-loop
 mul-has-bit c = let k = c .before .before .before .before .before .before .before in omega (arith, k .pre .1 .0, k .pre .0 .few-first-nodes)
 

@@ -20,55 +20,55 @@ Inv-loop work nodes met₀ k rest₀ met rest = (length met ≡ length met₀) �
 abbrev μ-loop : tie.MeasureT-loop
 μ-loop work nodes met₀ k rest₀ met rest = rest
 
--- src/matches.rt:60:9
+-- src/matches.rt:59:9
 get32-requires : tie.Need-get32-requires Inv-loop μ-loop
 get32-requires c κs = search needs
 
--- src/matches.rt:61:5
+-- src/matches.rt:60:5
 loop-holds : tie.Need-loop-holds Inv-loop μ-loop
 loop-holds c = let k = c .before .before .before .before in (refl, left-all (k .args .nodes .now) (k .args .k) (c .get32 .result) (Before (k .args .work .now) (k .args .nodes .now) (k .args .k) (k .args .met .now)) (λ b. omega (arith, c .before .before .shared-slice-known2 .given b)) (c .get32 .ensures), λ y b t. t)
 
--- src/matches.rt:62:17
+-- src/matches.rt:61:17
 mul-h : tie.Need-mul-h Inv-loop μ-loop
 mul-h c = let k = c .before .before .before .before .before .before in omega (arith, k .pre .1 .1)
 
--- src/matches.rt:62:27
+-- src/matches.rt:61:27
 cast-h : tie.Need-cast-h Inv-loop μ-loop
 cast-h c = let l = c .before .loop in omega (arith, trailing-le 32 (l .rest))
 
--- src/matches.rt:62:17
+-- src/matches.rt:61:17
 add-h : tie.Need-add-h Inv-loop μ-loop
 add-h c = let k = c .before .before .before .before .before .before in let l = c .before .loop in omega (arith, trailing-le 32 (l .rest), k .pre .1 .1)
 
--- src/matches.rt:66:41
+-- src/matches.rt:65:41
 mul-add-row : tie.Need-mul-add-row Inv-loop μ-loop
 mul-add-row c = let k = c .before .before .before .before .before .before .before in let l = c .before .before .loop in omega (arith, k .pre .1 .1, lowest-low (l .rest) (c .before .loop-test .taken) (l .inv .1 .0))
 
--- src/matches.rt:66:41
+-- src/matches.rt:65:41
 add-add-row : tie.Need-add-add-row Inv-loop μ-loop
 add-add-row c = let k = c .before .before .before .before .before .before .before in let l = c .before .before .loop in omega (arith, k .pre .1 .1, lowest-low (l .rest) (c .before .loop-test .taken) (l .inv .1 .0))
 
--- src/matches.rt:66:33
+-- src/matches.rt:65:33
 mul-add-row-2 : tie.Need-mul-add-row-2 Inv-loop μ-loop
 mul-add-row-2 c = let k = c .before .before .before .before .before .before .before in let l = c .before .before .loop in omega (arith, k .pre .1 .1, lowest-low (l .rest) (c .before .loop-test .taken) (l .inv .1 .0))
 
--- src/matches.rt:66:13
+-- src/matches.rt:65:13
 add-add-row-2 : tie.Need-add-add-row-2 Inv-loop μ-loop
 add-add-row-2 c = let k = c .before .before .before .before .before .before .before in let l = c .before .before .loop in omega (arith, k .pre .1 .1, lowest-low (l .rest) (c .before .loop-test .taken) (l .inv .1 .0))
 
--- src/matches.rt:63:9
+-- src/matches.rt:62:9
 add-row-requires : tie.Need-add-row-requires Inv-loop μ-loop
 add-row-requires c κs = let k = c .before .before .before .before .before .before .before in let l = c .before .before .loop in (omega (arith, k .pre .1 .1, k .pre .1 .0, lowest-low (l .rest) (c .before .loop-test .taken) (l .inv .1 .0)), omega (arith, l .inv .0, k .pre .0 .1))
 
--- src/matches.rt:68:24
+-- src/matches.rt:67:24
 sub-rest : tie.Need-sub-rest Inv-loop μ-loop
 sub-rest c = omega (arith, c .before .before .before .before .loop-test .taken)
 
--- src/matches.rt:61:5
+-- src/matches.rt:60:5
 loop-less : tie.Need-loop-less Inv-loop μ-loop
 loop-less c = let l = c .before .before .before .before .before .loop in omega (arith, and-le-r (l .rest) (l .rest - 1), c .before .before .before .before .loop-test .taken)
 
--- src/matches.rt:61:5
+-- src/matches.rt:60:5
 loop-again : tie.Need-loop-again Inv-loop μ-loop
 loop-again c = let k = c .before .before .before .before .before .before .before .before .before .before in
     let l = c .before .before .before .before .before .loop in
@@ -76,11 +76,11 @@ loop-again c = let k = c .before .before .before .before .before .before .before
     let r = before-turn (k .args .work .now) (k .args .nodes .now) (k .args .k) (k .args .met .now) (l .met) (p .last .0) (l .rest) _ _ (c .before .before .before .before .loop-test .taken) refl refl (p .ensures) (l .inv .1) (l .inv .2) in
     (p .kept .0 ∙ l .inv .0, r .0, r .1)
 
--- src/matches.rt:56:1
+-- src/matches.rt:55:1
 same-length : tie.Need-same-length Inv-loop μ-loop
 same-length c = c .before .loop .inv .0
 
--- src/matches.rt:56:1
+-- src/matches.rt:55:1
 returns : tie.Need-returns Inv-loop μ-loop
 returns c = let k = c .before .before .before .before .before .before in let l = c .before .loop in before-end (k .args .work .now) (k .args .nodes .now) (k .args .k) (k .args .met .now) (l .met) (l .rest) (c .loop-test .left) (l .inv .1) (l .inv .2)
 

@@ -19,39 +19,39 @@ Inv-loop first second s work₀ v row met label₀ work label = (label ≤ 9) ×
 abbrev μ-loop : tie.MeasureT-loop
 μ-loop first second s work₀ v row met label₀ work label = 9 - label
 
--- src/matches.rt:178:48
+-- src/matches.rt:177:48
 mul-row-without : tie.Need-mul-row-without Inv-loop μ-loop
 mul-row-without c = let k = c .before .before .before .before .before in omega (arith, k .pre .1 .1 .0, k .pre .1 .0 .few-first-nodes)
 
--- src/matches.rt:178:34
+-- src/matches.rt:177:34
 add-row-without : tie.Need-add-row-without Inv-loop μ-loop
 add-row-without c = let k = c .before .before .before .before .before in omega (arith, k .pre .1 .1 .0, k .pre .1 .0 .few-first-nodes)
 
--- src/matches.rt:178:16
+-- src/matches.rt:177:16
 row-without-requires : tie.Need-row-without-requires Inv-loop μ-loop
 row-without-requires c κs = let k = c .before .before .before .before .before in (omega (arith, k .pre .1 .1 .0, k .pre .1 .0 .few-first-nodes, k .pre .1 .1 .1 .0 .room), k .pre .0)
 
--- src/matches.rt:180:22
+-- src/matches.rt:179:22
 slice-aggregate-add-before : tie.Need-slice-aggregate-add-before Inv-loop μ-loop
 slice-aggregate-add-before c = search needs
 
--- src/matches.rt:180:29
+-- src/matches.rt:179:29
 slice-aggregate-add-before-2 : tie.Need-slice-aggregate-add-before-2 Inv-loop μ-loop
 slice-aggregate-add-before-2 c = search needs
 
--- src/matches.rt:180:5
+-- src/matches.rt:179:5
 add-before-requires : tie.Need-add-before-requires Inv-loop μ-loop
 add-before-requires c κs = let k = c .before .before .before .before .before .before .before .before .before in ((omega (arith, c .before .before .before .row-without .ensures .0), omega arith), k .pre .1 .1 .1 .0 .room)
 
--- src/matches.rt:182:5
+-- src/matches.rt:181:5
 loop-holds : tie.Need-loop-holds Inv-loop μ-loop
 loop-holds c = let k = c .before .before .before .before .before .before .before .before .before .before .before in (omega arith, refl, shrank-none (decode-graph (k .args .first .now)) (decode-graph (k .args .second .now)) (k .args .work .now) (k .pre .1 .1 .1 .0), λ l h. absurd (omega (arith, h)))
 
--- src/matches.rt:183:59
+-- src/matches.rt:182:59
 slice-aggregate-hand-on-by : tie.Need-slice-aggregate-hand-on-by Inv-loop μ-loop
 slice-aggregate-hand-on-by c = search needs
 
--- src/matches.rt:183:9
+-- src/matches.rt:182:9
 hand-on-by-requires : tie.Need-hand-on-by-requires Inv-loop μ-loop
 hand-on-by-requires c κs = let k = c .before .before .before .before .before .before .before .before .before .before .before .before .before .before .before in
     let l = c .before .before .before .loop in
@@ -60,26 +60,26 @@ hand-on-by-requires c κs = let k = c .before .before .before .before .before .b
     let n = met-first (k .args .s) (k .args .first .now) (k .args .second .now) (k .pre .1 .0) (k .args .work .now) (k .args .v) (k .args .row .now) (r .result) (replicate 32 0) (p .last .1 .1 .0) (k .pre .1 .1 .1 .0) (r .ensures .1) (p .ensures) in
     ((k .pre .0, omega (arith, p .kept .1 .1 .0)), (k .pre .1 .0, (k .pre .1 .1 .0, (c .before .before .loop-test .taken, (l .inv .2 .refining, (met-still (k .args .s) (k .args .first .now) (k .args .second .now) (k .pre .1 .0) (k .args .work .now) (l .work) (k .args .v) (k .args .row .now) (p .last .1 .1 .0) (k .pre .1 .1 .0) (l .inv .2) (k .pre .1 .1 .1 .1 .0) n, k .pre .1 .1 .1 .1 .1))))))
 
--- src/matches.rt:184:9
+-- src/matches.rt:183:9
 add-label : tie.Need-add-label Inv-loop μ-loop
 add-label c = omega (arith, c .before .before .before .before .before .loop-test .taken)
 
--- src/matches.rt:182:5
+-- src/matches.rt:181:5
 loop-less : tie.Need-loop-less Inv-loop μ-loop
 loop-less c = omega (arith, c .before .before .before .before .before .loop-test .taken)
 
--- src/matches.rt:182:5
+-- src/matches.rt:181:5
 loop-again : tie.Need-loop-again Inv-loop μ-loop
 loop-again c = let k = c .before .before .before .before .before .before .before .before .before .before .before .before .before .before .before .before .before .before in
     let l = c .before .before .before .before .before .before .loop in
     let p = c .before .before .hand-on-by in
     (omega (arith, c .before .before .before .before .before .loop-test .taken), p .kept .1 .1 .1 .0 ∙ l .inv .1, shrank-on (decode-graph (k .args .first .now)) (decode-graph (k .args .second .now)) (k .args .work .now) (l .work) (p .last .1 .1 .1 .0) (l .inv .2) (p .ensures .0), labels-kept (k .args .s) (k .args .first .now) (k .args .second .now) (k .pre .1 .0) (l .work) (p .last .1 .1 .1 .0) (k .args .v) (k .args .row .now) (l .label) (p .ensures .0) (l .inv .3) (p .ensures .1))
 
--- src/matches.rt:174:1
+-- src/matches.rt:173:1
 same-length : tie.Need-same-length Inv-loop μ-loop
 same-length c = c .before .loop .inv .1
 
--- src/matches.rt:174:1
+-- src/matches.rt:173:1
 returns : tie.Need-returns Inv-loop μ-loop
 returns c = let l = c .before .loop in (l .inv .2, λ n h. l .inv .3 n (omega (arith, c .loop-test .left, h)))
 

@@ -22,11 +22,11 @@ abbrev μ-loop : tie.MeasureT-loop
 loop-holds : tie.Need-loop-holds Inv-loop μ-loop
 loop-holds c = (omega arith, refl, lacking-none (c .before .args .work .now) (c .before .args .label))
 
--- src/refine.rt:43:61
+-- src/refine.rt:43:54
 mul-any-at : tie.Need-mul-any-at Inv-loop μ-loop
 mul-any-at c = search needs
 
--- src/refine.rt:43:61
+-- src/refine.rt:43:54
 add-any-at : tie.Need-add-any-at Inv-loop μ-loop
 add-any-at c = search needs
 

@@ -30,19 +30,19 @@ returns c = search needs
 cast-label : tie.Need-cast-label
 cast-label c = search needs
 
--- src/relation.rt:102:54
+-- src/relation.rt:104:37
 mul-put-bit : tie.Need-mul-put-bit
 mul-put-bit c = omega (arith, (edge-fits (c .before .before .before .before .before .before .before .before .before .before .args .s) (c .before .before .before .before .before .before .before .before .before .before .args .first .now) (c .before .before .before .before .before .before .before .before .before .before .args .second .now) (c .before .before .before .before .before .before .before .before .before .before .pre .0) (c .before .before .before .before .before .before .before .before .before .before .args .j) (c .before .before .before .before .x .given .0 .0) (c .before .before .before .before .before .before .before .before .before .before .pre .1 .0) (held-edge (c .before .before .before .before .before .before .edge-at .result) _ (edge (decode-graph (c .before .before .before .before .before .before .before .before .before .before .args .second .now)) (c .before .before .before .before .before .before .before .before .before .before .args .j)) (c .before .before .before .before .x .given .1) (c .before .before .before .before .before .before .edge-at .ensures))) .0, (edge-fits (c .before .before .before .before .before .before .before .before .before .before .args .s) (c .before .before .before .before .before .before .before .before .before .before .args .first .now) (c .before .before .before .before .before .before .before .before .before .before .args .second .now) (c .before .before .before .before .before .before .before .before .before .before .pre .0) (c .before .before .before .before .before .before .before .before .before .before .args .j) (c .before .before .before .before .x .given .0 .0) (c .before .before .before .before .before .before .before .before .before .before .pre .1 .0) (held-edge (c .before .before .before .before .before .before .edge-at .result) _ (edge (decode-graph (c .before .before .before .before .before .before .before .before .before .before .args .second .now)) (c .before .before .before .before .before .before .before .before .before .before .args .j)) (c .before .before .before .before .x .given .1) (c .before .before .before .before .before .before .edge-at .ensures))) .1, (edge-fits (c .before .before .before .before .before .before .before .before .before .before .args .s) (c .before .before .before .before .before .before .before .before .before .before .args .first .now) (c .before .before .before .before .before .before .before .before .before .before .args .second .now) (c .before .before .before .before .before .before .before .before .before .before .pre .0) (c .before .before .before .before .before .before .before .before .before .before .args .j) (c .before .before .before .before .x .given .0 .0) (c .before .before .before .before .before .before .before .before .before .before .pre .1 .0) (held-edge (c .before .before .before .before .before .before .edge-at .result) _ (edge (decode-graph (c .before .before .before .before .before .before .before .before .before .before .args .second .now)) (c .before .before .before .before .before .before .before .before .before .before .args .j)) (c .before .before .before .before .x .given .1) (c .before .before .before .before .before .before .edge-at .ensures))) .2)
 
--- src/relation.rt:102:54
+-- src/relation.rt:104:37
 add-put-bit : tie.Need-add-put-bit
 add-put-bit c = omega (arith, (edge-fits (c .before .before .before .before .before .before .before .before .before .before .args .s) (c .before .before .before .before .before .before .before .before .before .before .args .first .now) (c .before .before .before .before .before .before .before .before .before .before .args .second .now) (c .before .before .before .before .before .before .before .before .before .before .pre .0) (c .before .before .before .before .before .before .before .before .before .before .args .j) (c .before .before .before .before .x .given .0 .0) (c .before .before .before .before .before .before .before .before .before .before .pre .1 .0) (held-edge (c .before .before .before .before .before .before .edge-at .result) _ (edge (decode-graph (c .before .before .before .before .before .before .before .before .before .before .args .second .now)) (c .before .before .before .before .before .before .before .before .before .before .args .j)) (c .before .before .before .before .x .given .1) (c .before .before .before .before .before .before .edge-at .ensures))) .0, (edge-fits (c .before .before .before .before .before .before .before .before .before .before .args .s) (c .before .before .before .before .before .before .before .before .before .before .args .first .now) (c .before .before .before .before .before .before .before .before .before .before .args .second .now) (c .before .before .before .before .before .before .before .before .before .before .pre .0) (c .before .before .before .before .before .before .before .before .before .before .args .j) (c .before .before .before .before .x .given .0 .0) (c .before .before .before .before .before .before .before .before .before .before .pre .1 .0) (held-edge (c .before .before .before .before .before .before .edge-at .result) _ (edge (decode-graph (c .before .before .before .before .before .before .before .before .before .before .args .second .now)) (c .before .before .before .before .before .before .before .before .before .before .args .j)) (c .before .before .before .before .x .given .1) (c .before .before .before .before .before .before .edge-at .ensures))) .1, (edge-fits (c .before .before .before .before .before .before .before .before .before .before .args .s) (c .before .before .before .before .before .before .before .before .before .before .args .first .now) (c .before .before .before .before .before .before .before .before .before .before .args .second .now) (c .before .before .before .before .before .before .before .before .before .before .pre .0) (c .before .before .before .before .before .before .before .before .before .before .args .j) (c .before .before .before .before .x .given .0 .0) (c .before .before .before .before .before .before .before .before .before .before .pre .1 .0) (held-edge (c .before .before .before .before .before .before .edge-at .result) _ (edge (decode-graph (c .before .before .before .before .before .before .before .before .before .before .args .second .now)) (c .before .before .before .before .before .before .before .before .before .before .args .j)) (c .before .before .before .before .x .given .1) (c .before .before .before .before .before .before .edge-at .ensures))) .2)
 
--- src/relation.rt:102:39
+-- src/relation.rt:104:29
 mul-put-bit-2 : tie.Need-mul-put-bit-2
 mul-put-bit-2 c = omega (arith, (edge-fits (c .before .before .before .before .before .before .before .before .before .before .args .s) (c .before .before .before .before .before .before .before .before .before .before .args .first .now) (c .before .before .before .before .before .before .before .before .before .before .args .second .now) (c .before .before .before .before .before .before .before .before .before .before .pre .0) (c .before .before .before .before .before .before .before .before .before .before .args .j) (c .before .before .before .before .x .given .0 .0) (c .before .before .before .before .before .before .before .before .before .before .pre .1 .0) (held-edge (c .before .before .before .before .before .before .edge-at .result) _ (edge (decode-graph (c .before .before .before .before .before .before .before .before .before .before .args .second .now)) (c .before .before .before .before .before .before .before .before .before .before .args .j)) (c .before .before .before .before .x .given .1) (c .before .before .before .before .before .before .edge-at .ensures))) .0, (edge-fits (c .before .before .before .before .before .before .before .before .before .before .args .s) (c .before .before .before .before .before .before .before .before .before .before .args .first .now) (c .before .before .before .before .before .before .before .before .before .before .args .second .now) (c .before .before .before .before .before .before .before .before .before .before .pre .0) (c .before .before .before .before .before .before .before .before .before .before .args .j) (c .before .before .before .before .x .given .0 .0) (c .before .before .before .before .before .before .before .before .before .before .pre .1 .0) (held-edge (c .before .before .before .before .before .before .edge-at .result) _ (edge (decode-graph (c .before .before .before .before .before .before .before .before .before .before .args .second .now)) (c .before .before .before .before .before .before .before .before .before .before .args .j)) (c .before .before .before .before .x .given .1) (c .before .before .before .before .before .before .edge-at .ensures))) .1, (edge-fits (c .before .before .before .before .before .before .before .before .before .before .args .s) (c .before .before .before .before .before .before .before .before .before .before .args .first .now) (c .before .before .before .before .before .before .before .before .before .before .args .second .now) (c .before .before .before .before .before .before .before .before .before .before .pre .0) (c .before .before .before .before .before .before .before .before .before .before .args .j) (c .before .before .before .before .x .given .0 .0) (c .before .before .before .before .before .before .before .before .before .before .pre .1 .0) (held-edge (c .before .before .before .before .before .before .edge-at .result) _ (edge (decode-graph (c .before .before .before .before .before .before .before .before .before .before .args .second .now)) (c .before .before .before .before .before .before .before .before .before .before .args .j)) (c .before .before .before .before .x .given .1) (c .before .before .before .before .before .before .edge-at .ensures))) .2)
 
--- src/relation.rt:102:19
+-- src/relation.rt:104:9
 add-put-bit-2 : tie.Need-add-put-bit-2
 add-put-bit-2 c = omega (arith, (edge-fits (c .before .before .before .before .before .before .before .before .before .before .args .s) (c .before .before .before .before .before .before .before .before .before .before .args .first .now) (c .before .before .before .before .before .before .before .before .before .before .args .second .now) (c .before .before .before .before .before .before .before .before .before .before .pre .0) (c .before .before .before .before .before .before .before .before .before .before .args .j) (c .before .before .before .before .x .given .0 .0) (c .before .before .before .before .before .before .before .before .before .before .pre .1 .0) (held-edge (c .before .before .before .before .before .before .edge-at .result) _ (edge (decode-graph (c .before .before .before .before .before .before .before .before .before .before .args .second .now)) (c .before .before .before .before .before .before .before .before .before .before .args .j)) (c .before .before .before .before .x .given .1) (c .before .before .before .before .before .before .edge-at .ensures))) .0, (edge-fits (c .before .before .before .before .before .before .before .before .before .before .args .s) (c .before .before .before .before .before .before .before .before .before .before .args .first .now) (c .before .before .before .before .before .before .before .before .before .before .args .second .now) (c .before .before .before .before .before .before .before .before .before .before .pre .0) (c .before .before .before .before .before .before .before .before .before .before .args .j) (c .before .before .before .before .x .given .0 .0) (c .before .before .before .before .before .before .before .before .before .before .pre .1 .0) (held-edge (c .before .before .before .before .before .before .edge-at .result) _ (edge (decode-graph (c .before .before .before .before .before .before .before .before .before .before .args .second .now)) (c .before .before .before .before .before .before .before .before .before .before .args .j)) (c .before .before .before .before .x .given .1) (c .before .before .before .before .before .before .edge-at .ensures))) .1, (edge-fits (c .before .before .before .before .before .before .before .before .before .before .args .s) (c .before .before .before .before .before .before .before .before .before .before .args .first .now) (c .before .before .before .before .before .before .before .before .before .before .args .second .now) (c .before .before .before .before .before .before .before .before .before .before .pre .0) (c .before .before .before .before .before .before .before .before .before .before .args .j) (c .before .before .before .before .x .given .0 .0) (c .before .before .before .before .before .before .before .before .before .before .pre .1 .0) (held-edge (c .before .before .before .before .before .before .edge-at .result) _ (edge (decode-graph (c .before .before .before .before .before .before .before .before .before .before .args .second .now)) (c .before .before .before .before .before .before .before .before .before .before .args .j)) (c .before .before .before .before .x .given .1) (c .before .before .before .before .before .before .edge-at .ensures))) .2)
 
@@ -50,23 +50,23 @@ add-put-bit-2 c = omega (arith, (edge-fits (c .before .before .before .before .b
 put-bit-requires : tie.Need-put-bit-requires
 put-bit-requires c κs = let b = edge-fits (c .before .before .before .before .before .before .before .before .before .before .args .s) (c .before .before .before .before .before .before .before .before .before .before .args .first .now) (c .before .before .before .before .before .before .before .before .before .before .args .second .now) (c .before .before .before .before .before .before .before .before .before .before .pre .0) (c .before .before .before .before .before .before .before .before .before .before .args .j) (c .before .before .before .before .x .given .0 .0) (c .before .before .before .before .before .before .before .before .before .before .pre .1 .0) (held-edge (c .before .before .before .before .before .before .edge-at .result) _ (edge (decode-graph (c .before .before .before .before .before .before .before .before .before .before .args .second .now)) (c .before .before .before .before .before .before .before .before .before .before .args .j)) (c .before .before .before .before .x .given .1) (c .before .before .before .before .before .before .edge-at .ensures)) in omega (arith, b .0, b .1, b .2, c .before .before .before .before .before .before .before .before .before .before .pre .1 .1)
 
--- src/relation.rt:103:56
+-- src/relation.rt:109:37
 mul-put-bit-3 : tie.Need-mul-put-bit-3
 mul-put-bit-3 c = omega (arith, (edge-fits (c .before .before .before .before .before .before .before .before .before .before .before .before .before .before .before .args .s) (c .before .before .before .before .before .before .before .before .before .before .before .before .before .before .before .args .first .now) (c .before .before .before .before .before .before .before .before .before .before .before .before .before .before .before .args .second .now) (c .before .before .before .before .before .before .before .before .before .before .before .before .before .before .before .pre .0) (c .before .before .before .before .before .before .before .before .before .before .before .before .before .before .before .args .j) (c .before .before .before .before .before .before .before .before .before .x .given .0 .0) (c .before .before .before .before .before .before .before .before .before .before .before .before .before .before .before .pre .1 .0) (held-edge (c .before .before .before .before .before .before .before .before .before .before .before .edge-at .result) _ (edge (decode-graph (c .before .before .before .before .before .before .before .before .before .before .before .before .before .before .before .args .second .now)) (c .before .before .before .before .before .before .before .before .before .before .before .before .before .before .before .args .j)) (c .before .before .before .before .before .before .before .before .before .x .given .1) (c .before .before .before .before .before .before .before .before .before .before .before .edge-at .ensures))) .0, (edge-fits (c .before .before .before .before .before .before .before .before .before .before .before .before .before .before .before .args .s) (c .before .before .before .before .before .before .before .before .before .before .before .before .before .before .before .args .first .now) (c .before .before .before .before .before .before .before .before .before .before .before .before .before .before .before .args .second .now) (c .before .before .before .before .before .before .before .before .before .before .before .before .before .before .before .pre .0) (c .before .before .before .before .before .before .before .before .before .before .before .before .before .before .before .args .j) (c .before .before .before .before .before .before .before .before .before .x .given .0 .0) (c .before .before .before .before .before .before .before .before .before .before .before .before .before .before .before .pre .1 .0) (held-edge (c .before .before .before .before .before .before .before .before .before .before .before .edge-at .result) _ (edge (decode-graph (c .before .before .before .before .before .before .before .before .before .before .before .before .before .before .before .args .second .now)) (c .before .before .before .before .before .before .before .before .before .before .before .before .before .before .before .args .j)) (c .before .before .before .before .before .before .before .before .before .x .given .1) (c .before .before .before .before .before .before .before .before .before .before .before .edge-at .ensures))) .1, (edge-fits (c .before .before .before .before .before .before .before .before .before .before .before .before .before .before .before .args .s) (c .before .before .before .before .before .before .before .before .before .before .before .before .before .before .before .args .first .now) (c .before .before .before .before .before .before .before .before .before .before .before .before .before .before .before .args .second .now) (c .before .before .before .before .before .before .before .before .before .before .before .before .before .before .before .pre .0) (c .before .before .before .before .before .before .before .before .before .before .before .before .before .before .before .args .j) (c .before .before .before .before .before .before .before .before .before .x .given .0 .0) (c .before .before .before .before .before .before .before .before .before .before .before .before .before .before .before .pre .1 .0) (held-edge (c .before .before .before .before .before .before .before .before .before .before .before .edge-at .result) _ (edge (decode-graph (c .before .before .before .before .before .before .before .before .before .before .before .before .before .before .before .args .second .now)) (c .before .before .before .before .before .before .before .before .before .before .before .before .before .before .before .args .j)) (c .before .before .before .before .before .before .before .before .before .x .given .1) (c .before .before .before .before .before .before .before .before .before .before .before .edge-at .ensures))) .2)
 
--- src/relation.rt:103:56
+-- src/relation.rt:109:37
 add-put-bit-3 : tie.Need-add-put-bit-3
 add-put-bit-3 c = omega (arith, (edge-fits (c .before .before .before .before .before .before .before .before .before .before .before .before .before .before .before .args .s) (c .before .before .before .before .before .before .before .before .before .before .before .before .before .before .before .args .first .now) (c .before .before .before .before .before .before .before .before .before .before .before .before .before .before .before .args .second .now) (c .before .before .before .before .before .before .before .before .before .before .before .before .before .before .before .pre .0) (c .before .before .before .before .before .before .before .before .before .before .before .before .before .before .before .args .j) (c .before .before .before .before .before .before .before .before .before .x .given .0 .0) (c .before .before .before .before .before .before .before .before .before .before .before .before .before .before .before .pre .1 .0) (held-edge (c .before .before .before .before .before .before .before .before .before .before .before .edge-at .result) _ (edge (decode-graph (c .before .before .before .before .before .before .before .before .before .before .before .before .before .before .before .args .second .now)) (c .before .before .before .before .before .before .before .before .before .before .before .before .before .before .before .args .j)) (c .before .before .before .before .before .before .before .before .before .x .given .1) (c .before .before .before .before .before .before .before .before .before .before .before .edge-at .ensures))) .0, (edge-fits (c .before .before .before .before .before .before .before .before .before .before .before .before .before .before .before .args .s) (c .before .before .before .before .before .before .before .before .before .before .before .before .before .before .before .args .first .now) (c .before .before .before .before .before .before .before .before .before .before .before .before .before .before .before .args .second .now) (c .before .before .before .before .before .before .before .before .before .before .before .before .before .before .before .pre .0) (c .before .before .before .before .before .before .before .before .before .before .before .before .before .before .before .args .j) (c .before .before .before .before .before .before .before .before .before .x .given .0 .0) (c .before .before .before .before .before .before .before .before .before .before .before .before .before .before .before .pre .1 .0) (held-edge (c .before .before .before .before .before .before .before .before .before .before .before .edge-at .result) _ (edge (decode-graph (c .before .before .before .before .before .before .before .before .before .before .before .before .before .before .before .args .second .now)) (c .before .before .before .before .before .before .before .before .before .before .before .before .before .before .before .args .j)) (c .before .before .before .before .before .before .before .before .before .x .given .1) (c .before .before .before .before .before .before .before .before .before .before .before .edge-at .ensures))) .1, (edge-fits (c .before .before .before .before .before .before .before .before .before .before .before .before .before .before .before .args .s) (c .before .before .before .before .before .before .before .before .before .before .before .before .before .before .before .args .first .now) (c .before .before .before .before .before .before .before .before .before .before .before .before .before .before .before .args .second .now) (c .before .before .before .before .before .before .before .before .before .before .before .before .before .before .before .pre .0) (c .before .before .before .before .before .before .before .before .before .before .before .before .before .before .before .args .j) (c .before .before .before .before .before .before .before .before .before .x .given .0 .0) (c .before .before .before .before .before .before .before .before .before .before .before .before .before .before .before .pre .1 .0) (held-edge (c .before .before .before .before .before .before .before .before .before .before .before .edge-at .result) _ (edge (decode-graph (c .before .before .before .before .before .before .before .before .before .before .before .before .before .before .before .args .second .now)) (c .before .before .before .before .before .before .before .before .before .before .before .before .before .before .before .args .j)) (c .before .before .before .before .before .before .before .before .before .x .given .1) (c .before .before .before .before .before .before .before .before .before .before .before .edge-at .ensures))) .2)
 
--- src/relation.rt:103:41
+-- src/relation.rt:109:29
 mul-put-bit-4 : tie.Need-mul-put-bit-4
 mul-put-bit-4 c = omega (arith, (edge-fits (c .before .before .before .before .before .before .before .before .before .before .before .before .before .before .before .args .s) (c .before .before .before .before .before .before .before .before .before .before .before .before .before .before .before .args .first .now) (c .before .before .before .before .before .before .before .before .before .before .before .before .before .before .before .args .second .now) (c .before .before .before .before .before .before .before .before .before .before .before .before .before .before .before .pre .0) (c .before .before .before .before .before .before .before .before .before .before .before .before .before .before .before .args .j) (c .before .before .before .before .before .before .before .before .before .x .given .0 .0) (c .before .before .before .before .before .before .before .before .before .before .before .before .before .before .before .pre .1 .0) (held-edge (c .before .before .before .before .before .before .before .before .before .before .before .edge-at .result) _ (edge (decode-graph (c .before .before .before .before .before .before .before .before .before .before .before .before .before .before .before .args .second .now)) (c .before .before .before .before .before .before .before .before .before .before .before .before .before .before .before .args .j)) (c .before .before .before .before .before .before .before .before .before .x .given .1) (c .before .before .before .before .before .before .before .before .before .before .before .edge-at .ensures))) .0, (edge-fits (c .before .before .before .before .before .before .before .before .before .before .before .before .before .before .before .args .s) (c .before .before .before .before .before .before .before .before .before .before .before .before .before .before .before .args .first .now) (c .before .before .before .before .before .before .before .before .before .before .before .before .before .before .before .args .second .now) (c .before .before .before .before .before .before .before .before .before .before .before .before .before .before .before .pre .0) (c .before .before .before .before .before .before .before .before .before .before .before .before .before .before .before .args .j) (c .before .before .before .before .before .before .before .before .before .x .given .0 .0) (c .before .before .before .before .before .before .before .before .before .before .before .before .before .before .before .pre .1 .0) (held-edge (c .before .before .before .before .before .before .before .before .before .before .before .edge-at .result) _ (edge (decode-graph (c .before .before .before .before .before .before .before .before .before .before .before .before .before .before .before .args .second .now)) (c .before .before .before .before .before .before .before .before .before .before .before .before .before .before .before .args .j)) (c .before .before .before .before .before .before .before .before .before .x .given .1) (c .before .before .before .before .before .before .before .before .before .before .before .edge-at .ensures))) .1, (edge-fits (c .before .before .before .before .before .before .before .before .before .before .before .before .before .before .before .args .s) (c .before .before .before .before .before .before .before .before .before .before .before .before .before .before .before .args .first .now) (c .before .before .before .before .before .before .before .before .before .before .before .before .before .before .before .args .second .now) (c .before .before .before .before .before .before .before .before .before .before .before .before .before .before .before .pre .0) (c .before .before .before .before .before .before .before .before .before .before .before .before .before .before .before .args .j) (c .before .before .before .before .before .before .before .before .before .x .given .0 .0) (c .before .before .before .before .before .before .before .before .before .before .before .before .before .before .before .pre .1 .0) (held-edge (c .before .before .before .before .before .before .before .before .before .before .before .edge-at .result) _ (edge (decode-graph (c .before .before .before .before .before .before .before .before .before .before .before .before .before .before .before .args .second .now)) (c .before .before .before .before .before .before .before .before .before .before .before .before .before .before .before .args .j)) (c .before .before .before .before .before .before .before .before .before .x .given .1) (c .before .before .before .before .before .before .before .before .before .before .before .edge-at .ensures))) .2)
 
--- src/relation.rt:103:19
+-- src/relation.rt:109:9
 add-put-bit-4 : tie.Need-add-put-bit-4
 add-put-bit-4 c = omega (arith, (edge-fits (c .before .before .before .before .before .before .before .before .before .before .before .before .before .before .before .args .s) (c .before .before .before .before .before .before .before .before .before .before .before .before .before .before .before .args .first .now) (c .before .before .before .before .before .before .before .before .before .before .before .before .before .before .before .args .second .now) (c .before .before .before .before .before .before .before .before .before .before .before .before .before .before .before .pre .0) (c .before .before .before .before .before .before .before .before .before .before .before .before .before .before .before .args .j) (c .before .before .before .before .before .before .before .before .before .x .given .0 .0) (c .before .before .before .before .before .before .before .before .before .before .before .before .before .before .before .pre .1 .0) (held-edge (c .before .before .before .before .before .before .before .before .before .before .before .edge-at .result) _ (edge (decode-graph (c .before .before .before .before .before .before .before .before .before .before .before .before .before .before .before .args .second .now)) (c .before .before .before .before .before .before .before .before .before .before .before .before .before .before .before .args .j)) (c .before .before .before .before .before .before .before .before .before .x .given .1) (c .before .before .before .before .before .before .before .before .before .before .before .edge-at .ensures))) .0, (edge-fits (c .before .before .before .before .before .before .before .before .before .before .before .before .before .before .before .args .s) (c .before .before .before .before .before .before .before .before .before .before .before .before .before .before .before .args .first .now) (c .before .before .before .before .before .before .before .before .before .before .before .before .before .before .before .args .second .now) (c .before .before .before .before .before .before .before .before .before .before .before .before .before .before .before .pre .0) (c .before .before .before .before .before .before .before .before .before .before .before .before .before .before .before .args .j) (c .before .before .before .before .before .before .before .before .before .x .given .0 .0) (c .before .before .before .before .before .before .before .before .before .before .before .before .before .before .before .pre .1 .0) (held-edge (c .before .before .before .before .before .before .before .before .before .before .before .edge-at .result) _ (edge (decode-graph (c .before .before .before .before .before .before .before .before .before .before .before .before .before .before .before .args .second .now)) (c .before .before .before .before .before .before .before .before .before .before .before .before .before .before .before .args .j)) (c .before .before .before .before .before .before .before .before .before .x .given .1) (c .before .before .before .before .before .before .before .before .before .before .before .edge-at .ensures))) .1, (edge-fits (c .before .before .before .before .before .before .before .before .before .before .before .before .before .before .before .args .s) (c .before .before .before .before .before .before .before .before .before .before .before .before .before .before .before .args .first .now) (c .before .before .before .before .before .before .before .before .before .before .before .before .before .before .before .args .second .now) (c .before .before .before .before .before .before .before .before .before .before .before .before .before .before .before .pre .0) (c .before .before .before .before .before .before .before .before .before .before .before .before .before .before .before .args .j) (c .before .before .before .before .before .before .before .before .before .x .given .0 .0) (c .before .before .before .before .before .before .before .before .before .before .before .before .before .before .before .pre .1 .0) (held-edge (c .before .before .before .before .before .before .before .before .before .before .before .edge-at .result) _ (edge (decode-graph (c .before .before .before .before .before .before .before .before .before .before .before .before .before .before .before .args .second .now)) (c .before .before .before .before .before .before .before .before .before .before .before .before .before .before .before .args .j)) (c .before .before .before .before .before .before .before .before .before .x .given .1) (c .before .before .before .before .before .before .before .before .before .before .before .edge-at .ensures))) .2)
 
--- src/relation.rt:103:5
+-- src/relation.rt:107:5
 put-bit-requires-2 : tie.Need-put-bit-requires-2
 put-bit-requires-2 c κs = let b = edge-fits (c .before .before .before .before .before .before .before .before .before .before .before .before .before .before .before .args .s) (c .before .before .before .before .before .before .before .before .before .before .before .before .before .before .before .args .first .now) (c .before .before .before .before .before .before .before .before .before .before .before .before .before .before .before .args .second .now) (c .before .before .before .before .before .before .before .before .before .before .before .before .before .before .before .pre .0) (c .before .before .before .before .before .before .before .before .before .before .before .before .before .before .before .args .j) (c .before .before .before .before .before .before .before .before .before .x .given .0 .0) (c .before .before .before .before .before .before .before .before .before .before .before .before .before .before .before .pre .1 .0) (held-edge (c .before .before .before .before .before .before .before .before .before .before .before .edge-at .result) _ (edge (decode-graph (c .before .before .before .before .before .before .before .before .before .before .before .before .before .before .before .args .second .now)) (c .before .before .before .before .before .before .before .before .before .before .before .before .before .before .before .args .j)) (c .before .before .before .before .before .before .before .before .before .x .given .1) (c .before .before .before .before .before .before .before .before .before .before .before .edge-at .ensures)) in omega (arith, b .0, b .1, b .2, c .before .before .before .before .before .before .before .before .before .before .before .before .before .before .before .pre .1 .1, c .before .before .before .before .put-bit .kept .0)
 

@@ -18,43 +18,43 @@ Inv-loop work₀ at row k₀ work k = (k ≤ 32) × (length work ≡ length work
 abbrev μ-loop : tie.MeasureT-loop
 μ-loop work₀ at row k₀ work k = 32 - k
 
--- src/rows.rt:64:5
+-- src/rows.rt:78:5
 loop-holds : tie.Need-loop-holds Inv-loop μ-loop
 loop-holds c = (omega arith, refl, bytes-none _ (c .before .before .args .work .now) (c .before .before .args .at), λ j h. absurd (omega arith))
 
--- src/rows.rt:65:37
+-- src/rows.rt:79:37
 add-without : tie.Need-add-without Inv-loop μ-loop
 add-without c = search needs
 
--- src/rows.rt:65:32
+-- src/rows.rt:79:32
 slice-read-without : tie.Need-slice-read-without Inv-loop μ-loop
 slice-read-without c = search needs
 
--- src/rows.rt:65:46
+-- src/rows.rt:79:46
 shared-slice-read-without : tie.Need-shared-slice-read-without Inv-loop μ-loop
 shared-slice-read-without c = search needs
 
--- src/rows.rt:65:24
+-- src/rows.rt:79:24
 without-requires : tie.Need-without-requires Inv-loop μ-loop
 without-requires c κs = search needs
 
--- src/rows.rt:65:14
+-- src/rows.rt:79:14
 add-work : tie.Need-add-work Inv-loop μ-loop
 add-work c = search needs
 
--- src/rows.rt:65:9
+-- src/rows.rt:79:9
 slice-write-work : tie.Need-slice-write-work Inv-loop μ-loop
 slice-write-work c = omega (arith, c .before .before .before .loop-test .taken, c .before .before .before .before .loop .inv .1, c .before .before .before .before .before .before .before .pre .0)
 
--- src/rows.rt:66:9
+-- src/rows.rt:80:9
 add-k : tie.Need-add-k Inv-loop μ-loop
 add-k c = search needs
 
--- src/rows.rt:64:5
+-- src/rows.rt:78:5
 loop-less : tie.Need-loop-less Inv-loop μ-loop
 loop-less c = search needs
 
--- src/rows.rt:64:5
+-- src/rows.rt:78:5
 loop-again : tie.Need-loop-again Inv-loop μ-loop
 loop-again c = let a = c .before .before .before .before .before .before .before .args in
     let l = c .before .before .before .before .loop in
@@ -65,11 +65,11 @@ loop-again c = let a = c .before .before .before .before .before .before .before
       below-more (λ j. getD (a .row .now) j 0 < 256) (l .k) (l .inv .3) (c .without .ensures .1),
     )
 
--- src/rows.rt:59:1
+-- src/rows.rt:73:1
 same-length : tie.Need-same-length Inv-loop μ-loop
 same-length c = c .before .loop .inv .1
 
--- src/rows.rt:59:1
+-- src/rows.rt:73:1
 returns : tie.Need-returns Inv-loop μ-loop
 returns c = let a = c .before .before .before .before .args in
     let l = c .before .loop in
