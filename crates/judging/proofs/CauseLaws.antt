@@ -19,10 +19,11 @@ use Rattle.files.specs.Basics.Lists.{index-e}
 use Rattle.files.specs.Basics.Tests.{and-l, and-r}
 use Rattle.files.specs.Cells.{cell, put-cell}
 use Rattle.files.specs.Cells.Laws.{cells-on, cell-apart}
-use Rattle.files.specs.Decode.{decode-graph, decode-property, Filed}
+use Rattle.files.specs.Decode.{decode-graph, decode-property, row-of, Filed}
 use Rattle.files.specs.Decode.Graphs.{decoded-filed}
+use Rattle.files.specs.Decode.Values.{row-written}
 use Rattle.files.specs.Graph.{Graph, size, node, no-edge}
-use Rattle.files.specs.Property.{Row, always, never, returns, not-returns, in-method, not-in-method, both, either, box, row, names}
+use Rattle.files.specs.Property.{Row, both, either, box, row, names}
 use Rattle.files.specs.declared.graph.GraphEdge.{GraphEdge}
 use Rattle.files.specs.declared.property.PropertyRow.{PropertyRow}
 use Rattle.judging.specs.declared.causes.Cause.{Cause}
@@ -206,52 +207,22 @@ module _ (G : Graph) (P : List Row) where
 
 -- ---- a row by its operator
 
-pub is-both : (x : Row) → (row-held x) .operator ≡ 7 → x ≡ both ((row-held x) .a) ((row-held x) .b)
-is-both always e = absurd (omega arith)
-is-both never e = absurd (omega arith)
-is-both returns e = absurd (omega arith)
-is-both not-returns e = absurd (omega arith)
-is-both (in-method a) e = absurd (omega arith)
-is-both (not-in-method a) e = absurd (omega arith)
-is-both (both a b) e = refl
-is-both (either a b) e = absurd (omega arith)
-is-both (box l b) e = absurd (omega arith)
-
-pub is-either : (x : Row) → (row-held x) .operator ≡ 8 → x ≡ either ((row-held x) .a) ((row-held x) .b)
-is-either always e = absurd (omega arith)
-is-either never e = absurd (omega arith)
-is-either returns e = absurd (omega arith)
-is-either not-returns e = absurd (omega arith)
-is-either (in-method a) e = absurd (omega arith)
-is-either (not-in-method a) e = absurd (omega arith)
-is-either (both a b) e = absurd (omega arith)
-is-either (either a b) e = refl
-is-either (box l b) e = absurd (omega arith)
-
-pub is-box : (x : Row) → (row-held x) .operator ≡ 9 → x ≡ box ((row-held x) .a) ((row-held x) .b)
-is-box always e = absurd (omega arith)
-is-box never e = absurd (omega arith)
-is-box returns e = absurd (omega arith)
-is-box not-returns e = absurd (omega arith)
-is-box (in-method a) e = absurd (omega arith)
-is-box (not-in-method a) e = absurd (omega arith)
-is-box (both a b) e = absurd (omega arith)
-is-box (either a b) e = absurd (omega arith)
-is-box (box l b) e = refl
-
 -- row r, read as u
 module _ (s : Shape) (g p : List ℕ) (ready : Ready s g p) (v r : ℕ) (hr : r < s .rows) (u : PropertyRow) (is : u ≡ row-held (row (decode-property p) r)) where
   operator-is : u .operator ≡ (row-held (row (decode-property p) r)) .operator
   operator-is = ap (λ (x : PropertyRow). x .operator) is
 
+  by-operator : (o : ℕ) → u .operator ≡ o → row (decode-property p) r ≡ row-of o (u .a) (u .b)
+  by-operator o e = sym ((row-written (row (decode-property p) r)) .0) ∙ ap (λ (x : PropertyRow). row-of (x .operator) (x .a) (x .b)) (sym is) ∙ ap (λ (n : ℕ). row-of n (u .a) (u .b)) e
+
   both-read : u .operator ≡ 7 → row (decode-property p) r ≡ both (u .a) (u .b)
-  both-read e = is-both (row (decode-property p) r) (sym operator-is ∙ e) ∙ ap (λ (x : PropertyRow). both (x .a) (x .b)) (sym is)
+  both-read = by-operator 7
 
   either-read : u .operator ≡ 8 → row (decode-property p) r ≡ either (u .a) (u .b)
-  either-read e = is-either (row (decode-property p) r) (sym operator-is ∙ e) ∙ ap (λ (x : PropertyRow). either (x .a) (x .b)) (sym is)
+  either-read = by-operator 8
 
   box-read : u .operator ≡ 9 → row (decode-property p) r ≡ box (u .a) (u .b)
-  box-read e = is-box (row (decode-property p) r) (sym operator-is ∙ e) ∙ ap (λ (x : PropertyRow). box (x .a) (x .b)) (sym is)
+  box-read = by-operator 9
 
   named-rows : T (names (s .rows) (row (decode-property p) r))
   named-rows =

@@ -21,6 +21,7 @@ pub fn inputs() -> io::Result<Vec<Timed>> {
     let mut random = Random::new(1);
     let largest = largest_graph(&mut random);
     let mut inputs = vec![
+        pair("empty files", vec![], vec![]),
         pair("P8", [ENTRY, ENTRY, [2, 0, 0, 1, 0, 0], BACK].concat(), self_loop()),
         pair("P9", self_loop(), ENTRY.to_vec()),
         pair("40 nodes, 80 edges", typical_graph(&mut random), typical_graph(&mut random)),

@@ -44,7 +44,7 @@ not-le m n s = fails (leb m n) (λ t. absurd (omega (arith, leb→le m n t, ltb�
 -- ---- properties
 
 -- a row's record: it reads as the row, its kind is 3, and its operator is 8 for an "or" alone
-row-written : (R : Row) → (to-row (row-rec R) ≡ R) × ((row-rec R) .kind ≡ 3) × (eqb ((row-rec R) .first) 8 ≡ is-either R)
+pub row-written : (R : Row) → (to-row (row-rec R) ≡ R) × ((row-rec R) .kind ≡ 3) × (eqb ((row-rec R) .first) 8 ≡ is-either R)
 row-written always = (refl, refl, refl)
 row-written never = (refl, refl, refl)
 row-written returns = (refl, refl, refl)
