@@ -38,15 +38,15 @@ pub(crate) fn source_of(graph: &[u8], nodes: usize, e: usize) -> usize
 }
 
 // Adds all that the sources of a slot's edges are related to.
-fn add_sources(first: &[u8], second: &[u8], s: Sizes, work: &[u8], slot: usize, gone: &mut [u8])
-    requires { ⌜ (32 ≤ length (now gone)) × ((Both s (now first) (now second)) × ((slot < 9 * s .nodes) × ((Refining (decode-graph (now first)) (decode-graph (now second)) (now work)) × (Within (s .nodes2) (now gone))))) ⌝ }
-    ensures { λ _. ⌜ (Within (s .nodes2) (now (gone .exit))) × ((e h : ℕ) → e < s .edges → T (labelled-into (decode-graph (now (first .entry))) slot e) → h < 256 → T (rel (now (work .entry)) ((edge (decode-graph (now (first .entry))) e) .from) h) → T (has-bit (now (gone .exit)) 0 h)) ⌝ }
+fn add_sources(first: &[u8], second: &[u8], s: Sizes, work: &[u8], slot: usize, found: &mut [u8])
+    requires { ⌜ (32 ≤ length (now found)) × ((Both s (now first) (now second)) × ((slot < 9 * s .nodes) × ((Refining (decode-graph (now first)) (decode-graph (now second)) (now work)) × (Within (s .nodes2) (now found))))) ⌝ }
+    ensures { λ _. ⌜ (Within (s .nodes2) (now (found .exit))) × ((e h : ℕ) → e < s .edges → T (labelled-into (decode-graph (now (first .entry))) slot e) → h < 256 → T (rel (now (work .entry)) ((edge (decode-graph (now (first .entry))) e) .from) h) → T (has-bit (now (found .exit)) 0 h)) ⌝ }
 {
     let mut at = get16(work, Sizes::HEADS, slot) as usize;
     while at > 0 {
         let e = at - 1;
         let u = source_of(first, s.nodes, e);
-        add_row(gone, work, LINE * u);
+        add_row(found, work, LINE * u);
         at = get16(work, Sizes::NEXTS, e) as usize;
     }
 }

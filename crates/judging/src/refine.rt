@@ -1,5 +1,5 @@
-// The largest simulation: every node holds the whole second graph at first, and what lacks a label is dropped; then, until no row has lost anything since it was last taken, what it has lost is handed on. The order in which rows are
-// taken changes no result. `refine` states that at the end the relation is the largest simulation.
+// The largest simulation: every node holds the whole second graph at first, and what lacks a label is dropped; then, until no row has lost anything since it was last taken,
+// what it has lost is handed on. The order in which rows are taken changes no result. `refine` states that at the end the relation is the largest simulation.
 ghost use mathlib.Core.Path.{_≡_};
 ghost use mathlib.Core.Bool.{not};
 ghost use Prim.Native.Nat.{ℕ, _≤_, _<_};

@@ -15,10 +15,10 @@ use Rattle.judging.proofs.matches.source_of.Reads as source-of-reads
 use Rattle.judging.proofs.rows.add_row.Reads as add-row-reads
 
 abbrev Inv-loop : tie.InvT-loop
-Inv-loop first second s work slot gone₀ at₀ gone at = (length gone ≡ length gone₀) × Within (s .nodes2) gone × Walk (labelled-into (decode-graph first) slot) (length ((decode-graph first) .edges)) at (λ e. (h : ℕ) → h < 256 → T (rel work ((edge (decode-graph first) e) .from) h) → In gone h)
+Inv-loop first second s work slot found₀ at₀ found at = (length found ≡ length found₀) × Within (s .nodes2) found × Walk (labelled-into (decode-graph first) slot) (length ((decode-graph first) .edges)) at (λ e. (h : ℕ) → h < 256 → T (rel work ((edge (decode-graph first) e) .from) h) → In found h)
 
 abbrev μ-loop : tie.MeasureT-loop
-μ-loop first second s work slot gone₀ at₀ gone at = at
+μ-loop first second s work slot found₀ at₀ found at = at
 
 -- src/matches.rt:45:18
 get16-requires : tie.Need-get16-requires Inv-loop μ-loop
@@ -64,7 +64,7 @@ loop-less c = slot-less (c .before .before .before .before .before .before .befo
 loop-again : tie.Need-loop-again Inv-loop μ-loop
 loop-again c = let k = c .before .before .before .before .before .before .before .before .before .before .before .before .before in
     let l = c .before .before .before .before .before .before .before .loop in
-    let r = source-added (c .before .before .before .before .before .before .before .before .before .before .before .before .before .args .s) (c .before .before .before .before .before .before .before .before .before .before .before .before .before .args .first .now) (c .before .before .before .before .before .before .before .before .before .before .before .before .before .args .second .now) (c .before .before .before .before .before .before .before .before .before .before .before .before .before .pre .1 .0) (k .args .slot) (k .pre .1 .1 .0) (k .args .work .now) (l .gone) (c .before .before .before .add-row .last .0) (l .at) (c .get162 .result) (c .before .before .before .before .before .source-of .result) (k .pre .1 .1 .1 .0) (l .inv .2) (c .before .before .before .before .before .before .loop-test .taken) (c .get162 .ensures) (c .before .before .before .before .before .source-of .ensures) (c .before .before .before .add-row .ensures) (l .inv .1) in
+    let r = source-added (c .before .before .before .before .before .before .before .before .before .before .before .before .before .args .s) (c .before .before .before .before .before .before .before .before .before .before .before .before .before .args .first .now) (c .before .before .before .before .before .before .before .before .before .before .before .before .before .args .second .now) (c .before .before .before .before .before .before .before .before .before .before .before .before .before .pre .1 .0) (k .args .slot) (k .pre .1 .1 .0) (k .args .work .now) (l .found) (c .before .before .before .add-row .last .0) (l .at) (c .get162 .result) (c .before .before .before .before .before .source-of .result) (k .pre .1 .1 .1 .0) (l .inv .2) (c .before .before .before .before .before .before .loop-test .taken) (c .get162 .ensures) (c .before .before .before .before .before .source-of .ensures) (c .before .before .before .add-row .ensures) (l .inv .1) in
     (c .before .before .before .add-row .kept .0 ∙ l .inv .0, r .0, r .1)
 
 -- src/matches.rt:41:1
@@ -73,7 +73,7 @@ same-length c = c .before .loop .inv .0
 
 -- src/matches.rt:41:1
 returns : tie.Need-returns Inv-loop μ-loop
-returns c = (c .before .loop .inv .1, all-added (c .before .before .before .before .before .before .before .args .s) (c .before .before .before .before .before .before .before .args .first .now) (c .before .before .before .before .before .before .before .args .second .now) (c .before .before .before .before .before .before .before .pre .1 .0) (c .before .before .before .before .before .before .before .args .slot) (c .before .before .before .before .before .before .before .pre .1 .1 .0) (c .before .before .before .before .before .before .before .args .work .now) (c .before .loop .gone) (c .before .loop .at) (omega (arith, c .loop-test .left)) (c .before .loop .inv .2))
+returns c = (c .before .loop .inv .1, all-added (c .before .before .before .before .before .before .before .args .s) (c .before .before .before .before .before .before .before .args .first .now) (c .before .before .before .before .before .before .before .args .second .now) (c .before .before .before .before .before .before .before .pre .1 .0) (c .before .before .before .before .before .before .before .args .slot) (c .before .before .before .before .before .before .before .pre .1 .1 .0) (c .before .before .before .before .before .before .before .args .work .now) (c .before .loop .found) (c .before .loop .at) (omega (arith, c .loop-test .left)) (c .before .loop .inv .2))
 
 pub add-sources-spec : {M : Type 1} → statement M
 add-sources-spec =
