@@ -42,11 +42,10 @@ written-beside f l₀ l at k a c b = let e : k ≡ 32 = omega arith in subst (λ
 pub stored-bits : (row w₀ w : List ℕ) (at k : ℕ) → 32 ≤ k → Bytes (λ j. getD row j 0) w₀ at k w → (h : ℕ) → h < 256 → has-bit w at h ≡ has-bit row 0 h
 stored-bits row w₀ w at k all b h m = written (λ j. getD row j 0) w₀ w at k all b h m ∙ sym (own-lit row h)
 
--- what a row has and another has not, written over it or elsewhere
-pub dropped-bits : (row w l₀ l : List ℕ) (at to k : ℕ) → 32 ≤ k → Bytes (λ j. bitAnd (getD w (at + j) 0) (255 - getD row j 0)) l₀ to k l → ((j : ℕ) → j < k → getD row j 0 < 256)
-    → (h : ℕ) → h < 256 → has-bit l to h ≡ (has-bit w at h && not (has-bit row 0 h))
-dropped-bits row w l₀ l at to k all b low h m =
-    written (λ j. bitAnd (getD w (at + j) 0) (255 - getD row j 0)) l₀ l to k all b h m
+pub rest-bits : (row w : List ℕ) (at : ℕ) (r₀ r : List ℕ) (k : ℕ) → 32 ≤ k → Bytes (λ j. bitAnd (getD w (at + j) 0) (255 - getD row j 0)) r₀ 0 k r → ((j : ℕ) → j < k → getD row j 0 < 256)
+    → (h : ℕ) → h < 256 → has-bit r 0 h ≡ (has-bit w at h && not (has-bit row 0 h))
+rest-bits row w at r₀ r k all b low h m =
+    written (λ j. bitAnd (getD w (at + j) 0) (255 - getD row j 0)) r₀ r 0 k all b h m
     ∙ lit-and (getD w (at + h / 8) 0) (255 - getD row (h / 8) 0) (h % 8)
     ∙ ap₂ _&&_ (sym (row-lit w at h)) (lit-not (getD row (h / 8) 0) (h % 8) (low (h / 8) (omega arith)) (omega arith) ∙ ap not (sym (own-lit row h)))
 

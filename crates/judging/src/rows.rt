@@ -69,16 +69,13 @@ pub(crate) fn add_row(row: &mut [u8], work: &[u8], at: usize)
     }
 }
 
-// Takes a row out of the row from `at` on.
+// Takes a row out of the row from `at` on. What is left is made apart: stored byte by byte where it is read, it would have to be read byte by byte.
 pub(crate) fn drop_row(work: &mut [u8], at: usize, row: &[u8])
     requires { ⌜ (at + 32 ≤ length (now work)) × (32 ≤ length (now row)) ⌝ }
     ensures { λ _. ⌜ ((h : ℕ) → h < 256 → has-bit (now (work .exit)) at h ≡ (has-bit (now (work .entry)) at h && not (has-bit (now (row .entry)) 0 h))) × (Outside at (at + 32) (now (work .entry)) (now (work .exit))) ⌝ }
 {
-    let mut k = 0;
-    while k < LINE {
-        work[at + k] = without(work[at + k], row[k]);
-        k += 1;
-    }
+    let rest = row_without(work, at, row);
+    put_row(work, at, &rest);
 }
 
 // Whether a row and the row from `at` on have a bit in common.

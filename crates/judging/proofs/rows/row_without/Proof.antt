@@ -7,7 +7,7 @@ use lib.ListN.{length, getD, set, length-set}
 use borrow.Author.Needs.{needs}
 use Rattle.judging.specs.Refinement.Rows.{bytes-on}
 use Rattle.judging.proofs.LevelLaws.{below-more}
-use Rattle.judging.proofs.RowLaws.{dropped-bits}
+use Rattle.judging.proofs.RowLaws.{rest-bits}
 use borrow.Author.Needs.{needs}
 use Rattle.judging.proofs.rows.row_without.Statement.{statement}
 use Rattle.judging.proofs.rows.row_without.Tie as tie
@@ -60,7 +60,7 @@ loop-again c = let a = c .before .before .before .before .before .before .before
 
 -- src/rows.rt:35:1
 returns : tie.Need-returns Inv-loop μ-loop
-returns c = let a = c .before .before .before .before .args in let l = c .before .loop in (l .inv .1, dropped-bits (a .row .now) (a .work .now) (l .rest) (l .rest) (a .at) 0 (l .k) (omega (arith, c .loop-test .left)) (l .inv .2, λ q d. refl) (l .inv .3))
+returns c = let a = c .before .before .before .before .args in let l = c .before .loop in (l .inv .1, rest-bits (a .row .now) (a .work .now) (a .at) (l .rest) (l .rest) (l .k) (omega (arith, c .loop-test .left)) (l .inv .2, λ q d. refl) (l .inv .3))
 
 pub row-without-spec : {M : Type 1} → statement M
 row-without-spec =
