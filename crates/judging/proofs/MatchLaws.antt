@@ -341,14 +341,14 @@ module _ (s : Sizes) (f g : List ℕ) (x : Both s f g) where
       (λ e he. (first-edge-in s f g x e (omega (arith, he, first-edges s f g x))) .2) leading)
 
   module _ (v : ℕ) (w w′ : List ℕ) (hv : v < s .nodes) (m : Matching G H (s .nodes) w) (y : Took G H v w w′) where
-    pub matching-still : Matching G H (s .nodes) w′
-    matching-still = matching-on G H (first-flow s f g x) (second-flow s f g x) (first-fits s f g x) (second-fits s f g x) (first-edges-fit s f g x) (s .nodes) (s .nodes) v w w′ (omega (arith, first-size s f g x)) (omega (arith, hv, first-size s f g x)) (λ u l. inl l) m y
-
     low : v < size G
     low = omega (arith, hv, first-size s f g x)
 
     sized : Matching G H (size G) w
     sized = subst (λ (n : ℕ). Matching G H n w) (sym (first-size s f g x)) m
+
+    pub matching-still : Matching G H (s .nodes) w′
+    matching-still = subst (λ (n : ℕ). Matching G H n w′) (first-size s f g x) (matching-on G H (first-flow s f g x) (second-flow s f g x) (first-fits s f g x) (second-fits s f g x) (first-edges-fit s f g x) v w w′ low sized y)
 
     pub load-down : load (s .nodes) w′ ≤ load (s .nodes) w
     load-down = subst (λ (n : ℕ). load n w′ ≤ load n w) (first-size s f g x) (load-le G H (first-flow s f g x) (second-flow s f g x) (first-fits s f g x) (second-fits s f g x) (first-edges-fit s f g x) v w w′ low sized y)

@@ -157,7 +157,6 @@ module _ (G H : Graph) where
     pub refining : Refining w′
     pub rel-less : (g h : ℕ) → g < size G → h < 256 → T (rel w′ g h) → T (rel w g h)
     pub held-kept : (g h : ℕ) → g < size G → h < 256 → held w′ g h ≡ held w g h
-    pub past : (q : ℕ) → 16384 ≤ q → getD w′ q 0 ≡ getD w q 0
 
   -- the row r has what the largest simulation gives v
   abbrev pub Contained : ℕ → List ℕ → Type 0
@@ -187,7 +186,6 @@ module _ (G H : Graph) where
     pub held-now : (h : ℕ) → h < 256 → held w′ v h ≡ rel w v h
     pub held-kept : (g h : ℕ) → g < size G → h < 256 → (g ≡ v → ⊥) → held w′ g h ≡ held w g h
     pub matched : NodeMatched w′ v
-    pub past : (q : ℕ) → 16384 ≤ q → getD w′ q 0 ≡ getD w q 0
 
   -- node v holds what it is related to, and the edges into it are matched by what it holds
   pub record MatchedAt (w : List ℕ) (v : ℕ) : Type 0 where

@@ -1,8 +1,12 @@
 // What the programs print on standard output: words, numbers, and bytes as decimals, a record or a relation's line to a line. What is printed is tested, not proved; it is proved
 // that nothing is read past its end and that every call returns.
 ghost use mathlib.Core.Path.{_≡_};
-ghost use Prim.Native.Nat.{_+_, _*_, _≤_, min};
-ghost use lib.ListN.{length};
+ghost use Prim.Native.Nat.{min};
+
+mod parts;
+
+use crate::parts::say_line;
+use crate::parts::say_record;
 use files::cells::wide;
 use files::encode::LINE;
 use files::record::Record;
@@ -45,14 +49,6 @@ pub fn at_most(n: usize, all: usize) -> usize
     if n < all { n } else { all }
 }
 
-// Record i of what a call wrote.
-fn say_record(out: &[u8], i: usize)
-    requires { ⌜ 6 * i + 6 ≤ length (now out) ⌝ }
-{
-    let p = Record::LEN * i;
-    say_bytes(&out[p..p + Record::LEN]);
-}
-
 // The first n records of what a call wrote, or all that there are.
 pub fn say_records(out: &[u8], n: usize) {
     let end = at_most(n, out.len() / Record::LEN);
@@ -68,14 +64,6 @@ pub fn say_graph(out: &[u8], nodes: usize, edges: usize) {
     let all = out.len() / Record::LEN;
     let first = at_most(nodes, all);
     say_records(out, first + at_most(edges, all - first));
-}
-
-// Line g of a relation.
-fn say_line(out: &[u8], g: usize)
-    requires { ⌜ 32 * g + 32 ≤ length (now out) ⌝ }
-{
-    let p = LINE * g;
-    say_bytes(&out[p..p + LINE]);
 }
 
 // The lines of a relation.

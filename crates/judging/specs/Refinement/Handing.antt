@@ -67,10 +67,10 @@ module _ (H : Graph) (fk : Flow H) (fh : size H ≤ 256) (w : List ℕ) (near : 
 
 module _ (G H : Graph) where
   pub shrank-none : (w : List ℕ) → Refining G H w → Shrank G H w w
-  shrank-none w r = record { refining = r; rel-less = λ g h a b t. t; held-kept = λ g h a b. refl; past = λ q l. refl }
+  shrank-none w r = record { refining = r; rel-less = λ g h a b t. t; held-kept = λ g h a b. refl }
 
   pub shrank-on : (u v w : List ℕ) → Shrank G H u v → Shrank G H v w → Shrank G H u w
-  shrank-on u v w x y = record { refining = y .refining; rel-less = λ g h a b t. x .rel-less g h a b (y .rel-less g h a b t); held-kept = λ g h a b. y .held-kept g h a b ∙ x .held-kept g h a b; past = λ q l. y .past q l ∙ x .past q l }
+  shrank-on u v w x y = record { refining = y .refining; rel-less = λ g h a b t. x .rel-less g h a b (y .rel-less g h a b t); held-kept = λ g h a b. y .held-kept g h a b ∙ x .held-kept g h a b }
 
 module _ (G H : Graph) (fl : Flow G) (fk : Flow H) (fg : size G ≤ 256) (fh : size H ≤ 256) (eg : length (G .edges) ≤ 4096) where
   -- what is looked up stands past the rows of the relation and of what is held, and on both sides of the order
@@ -136,7 +136,6 @@ module _ (G H : Graph) (fl : Flow G) (fk : Flow H) (fg : size G ≤ 256) (fh : s
         refining = looked-up-kept w w′ (λ q l d. o q (inr (omega arith))) long x (λ g h a b t. less g h b t) all;
         rel-less = λ g h a b t. less g h b t;
         held-kept = λ g h a b. bit-byte w′ w (8192 + 32 * g) (8192 + 32 * g) h (o (8192 + 32 * g + h / 8) (inr (omega arith)));
-        past = λ q l. o q (inr (omega arith));
       },
       λ h b t i. T-not (has-bit c 0 h) (and-r (rel w u h) (not (has-bit c 0 h)) (subst T (bits h b) t)) i,
     )

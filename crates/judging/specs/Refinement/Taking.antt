@@ -54,7 +54,6 @@ module _ (G H : Graph) (fl : Flow G) (fk : Flow H) (fg : size G ≤ 256) (fh : s
       held-now = λ h b. now h b ∙ was h b;
       held-kept = λ g h a b n. other g h a b n ∙ x .held-kept g h a b;
       matched = matched;
-      past = λ q l. o q (inr (omega arith)) ∙ x .past q l;
     }
       where
         in-both : (g h : ℕ) → T (related G H g h) → (g < size G) × (h < 256)
@@ -87,13 +86,8 @@ module _ (G H : Graph) (fl : Flow G) (fk : Flow H) (fg : size G ≤ 256) (fh : s
   pub at-matching : (n : ℕ) (w : List ℕ) → Refining G H w → ((v : ℕ) → v < n → MatchedAt G H w v) → Matching G H n w
   at-matching n w r x = record { refining = r; holding = λ v h l b t. (x v l) .holding h b t; node-matched = λ v l. (x v l) .node-matched }
 
-  -- the nodes below m are those below n, and v
-  pub matching-on : (n m v : ℕ) (w w′ : List ℕ) → m ≤ size G → v < size G → ((u : ℕ) → u < m → (u < n) ⊎ (u ≡ v)) → Matching G H n w → Took G H v w w′ → Matching G H m w′
-  matching-on n m v w w′ hm hv which x y = at-matching m w′ (y .refining) (λ u l. at-took v u w w′ hv (omega arith) (x .refining) (go u (which u l)) y)
-    where
-      go : (u : ℕ) → (u < n) ⊎ (u ≡ v) → MatchedAt G H w u ⊎ (u ≡ v)
-      go u (inl l) = inl (matching-at n u w l x)
-      go u (inr e) = inr e
+  pub matching-on : (v : ℕ) (w w′ : List ℕ) → v < size G → Matching G H (size G) w → Took G H v w w′ → Matching G H (size G) w′
+  matching-on v w w′ hv x y = at-matching (size G) w′ (y .refining) (λ u l. at-took v u w w′ hv l (x .refining) (inl (matching-at (size G) u w l x)) y)
 
   -- ---- before any row is taken
 

@@ -1,0 +1,22 @@
+// One record, or one line of a relation, of what a call wrote. Both ask that it stands there; the calls of lib.rt that use them ask for nothing.
+ghost use Prim.Native.Nat.{_+_, _*_, _≤_};
+ghost use lib.ListN.{length};
+use crate::say_bytes;
+use files::encode::LINE;
+use files::record::Record;
+
+// Record i of what a call wrote.
+pub(crate) fn say_record(out: &[u8], i: usize)
+    requires { ⌜ 6 * i + 6 ≤ length (now out) ⌝ }
+{
+    let p = Record::LEN * i;
+    say_bytes(&out[p..p + Record::LEN]);
+}
+
+// Line g of a relation.
+pub(crate) fn say_line(out: &[u8], g: usize)
+    requires { ⌜ 32 * g + 32 ≤ length (now out) ⌝ }
+{
+    let p = LINE * g;
+    say_bytes(&out[p..p + LINE]);
+}
