@@ -1,23 +1,23 @@
--- For the code that reads off the largest simulation: which entries meet a node, and the relation's lines, in two accepted files.
-use mathlib.Core.Path.{_≡_, sym, ap, ap₂, subst, _∙_}
+-- For the code that reads off the largest simulation: whether an entry is related to a node, and the relation's lines, in two accepted files.
+use mathlib.Core.Path.{_≡_, sym, ap, subst, _∙_}
 use mathlib.Core.Bool.{Bool, true, false, not, _&&_}
 use mathlib.Core.List.{List, _++_}
 use Prim.Native.Nat.{ℕ, _+_, _*_, _≤_, _<_}
 use native.Mathlib.Numerals.{add-one}
 use native.Mathlib.Omega.{arith}
-use lib.Dec.{T}
+use lib.Dec.{T, ltb, ltb→lt, lt→ltb, not-T}
 use lib.ListN.{length, drop}
+use Rattle.files.specs.Basics.Tests.{and-l, and-r, and-i}
 use Rattle.files.specs.Cells.{has-bit, put-at}
 use Rattle.files.specs.Decode.{decode-graph}
 use Rattle.files.specs.Graph.{Graph, size, node}
 use Rattle.files.specs.Line.{relation-line}
 use Rattle.judging.specs.declared.sizes.Sizes.{Sizes}
-use Rattle.judging.specs.Refinement.{Both, Settled}
+use Rattle.judging.specs.Refinement.{Both, Chosen, Settled}
 use Rattle.judging.specs.Refinement.Cover.{settled-e, lines-of, lines-more, lines-all}
 use Rattle.judging.specs.Refinement.Files.{first-size, second-size}
-use Rattle.judging.specs.Simulation.{covered, uncovered, relation-bytes}
+use Rattle.judging.specs.Simulation.{covered, uncovered, related, relation-bytes}
 use Rattle.judging.specs.Simulation.Laws.{meets, misses, covered-at, covered-none, uncovered-at, uncovered-none}
-use Rattle.judging.proofs.CauseLaws.{none-on}
 
 module _ (s : Sizes) (f g : List ℕ) (both : Both s f g) where
   abbrev G : Graph
@@ -37,21 +37,25 @@ module _ (s : Sizes) (f g : List ℕ) (both : Both s f g) where
       e ∙ sym (uncovered-none G H (λ u h. n u (omega (arith, h, e))))
 
   module _ (w : List ℕ) (found : Settled G H w) where
-    -- ---- which entries meet a node
+    -- ---- whether an entry is related to a node, by a row of the entries
 
-    module _ (v : ℕ) (is-node : v < s .nodes) where
-      meets-is : (h : ℕ) → h < s .nodes2 → (t b : Bool) → t ≡ (node H h) .entry → b ≡ has-bit w (32 * v) h → (t && b) ≡ meets G H v h
-      meets-is h l t b x y = ap₂ _&&_ x (y ∙ settled-e G H w found v h (omega (arith, is-node, first-size s f g both)) (omega (arith, l, both .few-second-nodes)))
+    abbrev entry : ℕ → Bool
+    entry h = (node H h) .entry
 
-      pub met : (h : ℕ) → h < s .nodes2 → (t b : Bool) → t ≡ (node H h) .entry → b ≡ has-bit w (32 * v) h → (t && b) ≡ true → true ≡ covered G H v
-      met h l t b x y e = sym (covered-at G H v h (omega (arith, l, second-size s f g both)) (subst T (sym (sym (meets-is h l t b x y) ∙ e)) tt))
-
-      pub unmet : (h : ℕ) → h < s .nodes2 → ((u : ℕ) → u < h → T (not (meets G H v u))) → (t b : Bool) → t ≡ (node H h) .entry → b ≡ has-bit w (32 * v) h → (t && b) ≡ false
-          → (u : ℕ) → u < h + 1 → T (not (meets G H v u))
-      unmet h l n t b x y e = none-on (meets G H v) h n (sym (meets-is h l t b x y) ∙ e)
-
-      pub met-none : (h : ℕ) → s .nodes2 ≤ h → ((u : ℕ) → u < h → T (not (meets G H v u))) → false ≡ covered G H v
-      met-none h l n = sym (covered-none G H v (λ u k. n u (omega (arith, k, l, second-size s f g both))))
+    pub covered-by : (c : List ℕ) → Chosen entry (s .nodes2) c → (v : ℕ) → v < s .nodes → (t : Bool)
+        → (T t → (h : ℕ) × (h < 256) × T (has-bit c 0 h) × T (has-bit w (32 * v) h)) → (T (not t) → (h : ℕ) → h < 256 → T (has-bit c 0 h) → T (has-bit w (32 * v) h) → ⊥) → t ≡ covered G H v
+    covered-by c chosen v is-node true some no-other =
+        let a = some tt in
+        let is : T (entry (a .0) && ltb (a .0) (s .nodes2)) = subst T (chosen (a .0) (a .1)) (a .2) in
+        let below : a .0 < s .nodes2 = ltb→lt (a .0) (s .nodes2) (and-r (entry (a .0)) (ltb (a .0) (s .nodes2)) is) in
+        let kept : T (related G H v (a .0)) = subst T (settled-e G H w found v (a .0) (omega (arith, is-node, first-size s f g both)) (a .1)) (a .3) in
+        sym (covered-at G H v (a .0) (omega (arith, below, second-size s f g both)) (and-i (entry (a .0)) (related G H v (a .0)) (and-l (entry (a .0)) (ltb (a .0) (s .nodes2)) is) kept))
+    covered-by c chosen v is-node false some no-other = sym (covered-none G H v (λ h l. not-T (meets G H v h) (λ m.
+        let below : h < s .nodes2 = omega (arith, l, second-size s f g both) in
+        let few : h < 256 = omega (arith, below, both .few-second-nodes) in
+        no-other tt h few
+          (subst T (sym (chosen h few)) (and-i (entry h) (ltb h (s .nodes2)) (and-l (entry h) (related G H v h) m) (lt→ltb h (s .nodes2) below)))
+          (subst T (sym (settled-e G H w found v h (omega (arith, is-node, first-size s f g both)) few)) (and-r (entry h) (related G H v h) m)))))
 
     -- ---- the relation's lines
 

@@ -8,9 +8,9 @@ use native.Mathlib.Decide.{ℕ-discrete}
 use native.Mathlib.Omega.{arith}
 use lib.Bits.{bitAnd}
 use lib.Count.{trailingZeros}
-use lib.Dec.{T, eqb, eqb→eq, ltb, ltb→lt, lt→ltb}
+use lib.Dec.{T, eqb→eq, ltb}
 use lib.ListN.{length, replicate}
-use Rattle.files.specs.Basics.Tests.{or-e, or-l, or-r, eq-eqb, same-test, T-eq}
+use Rattle.files.specs.Basics.Tests.{or-e, or-l, or-r, eq-eqb}
 use Rattle.files.specs.Cells.{cell, has-bit, put-bit}
 use Rattle.files.specs.Cells.Laws.{bit-byte, bit-same, bit-other}
 use Rattle.files.specs.Decode.{decode-graph}
@@ -35,17 +35,6 @@ none-within n h b t = absurd (subst T (zero-bit (replicate 32 0) 0 h (zero-byte 
 pub not-off : (b : Bool) → not b ≡ false → T b
 not-off true e = tt
 not-off false e = subst T e tt
-
--- the row of all nodes below n, one by one
-pub all-below-none : (h : ℕ) → has-bit (replicate 32 0) 0 h ≡ ltb h 0
-all-below-none h = zero-bit (replicate 32 0) 0 h (zero-byte (replicate 32 0) refl (0 + h / 8)) ∙ same-test false (ltb h 0) (λ t. absurd t) (λ t. absurd (omega (arith, ltb→lt h 0 t)))
-
-pub all-below-more : (r r′ : List ℕ) (n : ℕ) → 32 ≤ length r → n < 256 → r′ ≡ put-bit r 0 n → ((h : ℕ) → h < 256 → has-bit r 0 h ≡ ltb h n) → (h : ℕ) → h < 256 → has-bit r′ 0 h ≡ ltb h (n + 1)
-all-below-more r r′ n room few put was h b = ap (λ (z : List ℕ). has-bit z 0 h) put ∙ go (ℕ-discrete n h)
-  where
-    go : Dec (n ≡ h) → has-bit (put-bit r 0 n) 0 h ≡ ltb h (n + 1)
-    go (yes e) = subst (λ (k : ℕ). has-bit (put-bit r 0 n) 0 k ≡ ltb k (n + 1)) e (bit-same r 0 n (omega arith) ∙ sym (T-eq (ltb n (n + 1)) (lt→ltb n (n + 1) (omega arith))))
-    go (no f) = bit-other r 0 n h f ∙ was h b ∙ same-test (ltb h n) (ltb h (n + 1)) (λ t. lt→ltb h (n + 1) (let z = ltb→lt h n t in omega arith)) (λ t. lt→ltb h n (let z = ltb→lt h (n + 1) t in omega (arith, z, f)))
 
 -- a row put where it is held, for one node more
 pub held-turn : (w₀ w w′ r : List ℕ) (n v : ℕ) → v < 256 → ((h : ℕ) → h < 256 → has-bit r 0 h ≡ ltb h n) → ((h : ℕ) → h < 256 → held w′ v h ≡ has-bit r 0 h) → Outside (8192 + 32 * v) (8192 + 32 * v + 32) w w′

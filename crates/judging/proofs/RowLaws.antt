@@ -1,18 +1,23 @@
--- For the code on rows of bits: a row whose bytes are all written, and what bytes put together by "or" tell of two rows.
+-- For the code on rows of bits: a row whose bytes are all written, a row of chosen nodes, and what bytes put together by "or" tell of two rows.
 use mathlib.Core.Path.{_≡_, refl, sym, ap, ap₂, subst, _∙_}
 use mathlib.Core.Bool.{Bool, true, false, not, _&&_, _||_}
 use mathlib.Core.List.{List}
 use Prim.Native.Nat.{ℕ, _+_, _*_, _-_, _/_, _%_, _≤_, _<_}
 use native.Mathlib.Nat.{zero-add}
+use native.Mathlib.Decide.{ℕ-discrete}
 use native.Mathlib.Numerals.{add-one}
 use native.Mathlib.Omega.{arith}
 use lib.Bits.{bitOr, bitAnd}
 use lib.Dec.{T, ltb, ltb→lt, lt→ltb, T-not}
-use lib.ListN.{getD}
-use Rattle.files.specs.Basics.Tests.{and-l, and-r, and-i, same-test}
-use Rattle.files.specs.Cells.{has-bit}
+use lib.ListN.{length, getD, replicate}
+use Rattle.files.specs.Basics.Tests.{and-l, and-r, and-i, same-test, T-eq}
+use Rattle.files.specs.Cells.{has-bit, put-bit}
+use Rattle.files.specs.Cells.Laws.{bit-same, bit-other}
 use Rattle.judging.specs.Chains.{Outside}
+use Rattle.judging.specs.Refinement.{Chosen}
 use Rattle.judging.specs.Refinement.Rows.{Bytes, lit, lit-or, lit-and, lit-not, lit-zero, some-lit, joined, joined-e, joined-i, row-lit, byte-lit, row-bits}
+use Rattle.judging.proofs.ChainLaws.{zero-byte}
+use Rattle.judging.proofs.ClearedLaws.{zero-bit}
 
 -- a bit of a row that stands by itself
 pub own-lit : (l : List ℕ) (h : ℕ) → has-bit l 0 h ≡ lit (getD l (h / 8) 0) (h % 8)
@@ -52,6 +57,32 @@ rest-bits row w at r₀ r k all b low h m =
 pub kept-bits : (other r₀ r : List ℕ) (k : ℕ) → 32 ≤ k → Bytes (λ j. bitAnd (getD r₀ j 0) (getD other j 0)) r₀ 0 k r → (h : ℕ) → h < 256 → has-bit r 0 h ≡ (has-bit r₀ 0 h && has-bit other 0 h)
 kept-bits other r₀ r k all b h m =
     written (λ j. bitAnd (getD r₀ j 0) (getD other j 0)) r₀ r 0 k all b h m ∙ lit-and (getD r₀ (h / 8) 0) (getD other (h / 8) 0) (h % 8) ∙ ap₂ _&&_ (sym (own-lit r₀ h)) (sym (own-lit other h))
+
+-- ---- a row of chosen nodes, one by one
+
+pub chosen-none : (p : ℕ → Bool) → Chosen p 0 (replicate 32 0)
+chosen-none p x b =
+    zero-bit (replicate 32 0) 0 x (zero-byte (replicate 32 0) refl (0 + x / 8))
+    ∙ same-test false (p x && ltb x 0) (λ t. absurd t) (λ t. absurd (omega (arith, ltb→lt x 0 (and-r (p x) (ltb x 0) t))))
+
+module _ (p : ℕ → Bool) (r : List ℕ) (n : ℕ) (was : Chosen p n r) where
+  -- a node other than n is chosen below n + 1 where it is below n
+  chosen-beside : (x : ℕ) → (n ≡ x → ⊥) → (p x && ltb x n) ≡ (p x && ltb x (n + 1))
+  chosen-beside x f = ap (λ (b : Bool). p x && b) (same-test (ltb x n) (ltb x (n + 1)) (λ t. lt→ltb x (n + 1) (let z = ltb→lt x n t in omega arith)) (λ t. lt→ltb x n (let z = ltb→lt x (n + 1) t in omega (arith, z, f))))
+
+  pub chosen-put : (r′ : List ℕ) → 32 ≤ length r → n < 256 → r′ ≡ put-bit r 0 n → p n ≡ true → Chosen p (n + 1) r′
+  chosen-put r′ room few put is x b = ap (λ (z : List ℕ). has-bit z 0 x) put ∙ go (ℕ-discrete n x)
+    where
+      go : Dec (n ≡ x) → has-bit (put-bit r 0 n) 0 x ≡ (p x && ltb x (n + 1))
+      go (yes e) = subst (λ (k : ℕ). has-bit (put-bit r 0 n) 0 k ≡ (p k && ltb k (n + 1))) e (bit-same r 0 n (omega arith) ∙ sym (ap₂ _&&_ is (T-eq (ltb n (n + 1)) (lt→ltb n (n + 1) (omega arith)))))
+      go (no f) = bit-other r 0 n x f ∙ was x b ∙ chosen-beside x f
+
+  pub chosen-over : p n ≡ false → Chosen p (n + 1) r
+  chosen-over not-is x b = was x b ∙ go (ℕ-discrete n x)
+    where
+      go : Dec (n ≡ x) → (p x && ltb x n) ≡ (p x && ltb x (n + 1))
+      go (yes e) = subst (λ (k : ℕ). (p k && ltb k n) ≡ (p k && ltb k (n + 1))) e (ap (λ (c : Bool). c && ltb n n) not-is ∙ sym (ap (λ (c : Bool). c && ltb n (n + 1)) not-is))
+      go (no f) = chosen-beside x f
 
 -- ---- bytes put together
 

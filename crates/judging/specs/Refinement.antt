@@ -124,6 +124,10 @@ LostMet H w v r m = (h x : ℕ) → h < size H → x < 256 → T (held w v h) �
 abbrev pub Meets : List ℕ → ℕ → List ℕ → ℕ → Type 0
 Meets w l r x = (y : ℕ) × (y < 256) × In r y × T (follows w x l y)
 
+-- the row c has, of the nodes below n, those that p tells
+abbrev pub Chosen : (ℕ → Bool) → ℕ → List ℕ → Type 0
+Chosen p n c = (x : ℕ) → x < 256 → has-bit c 0 x ≡ (p x && ltb x n)
+
 -- the row c has, of the nodes below n, those without an edge of label l
 pub record Lacking (w : List ℕ) (l n : ℕ) (c : List ℕ) : Type 0 where
   pub without-edge : (x : ℕ) → x < 256 → In c x → (x < n) × ((y : ℕ) → y < 256 → T (follows w x l y) → ⊥)

@@ -6,10 +6,11 @@ ghost use Prim.Native.Nat.{_*_, _≤_, _<_};
 ghost use lib.ListN.{length, drop};
 ghost use Rattle.files.specs.Graph.{node};
 ghost use Rattle.files.specs.Decode.{decode-graph};
-ghost use Rattle.judging.specs.Refinement.{Both, Settled};
+ghost use Rattle.judging.specs.Refinement.{Both, Chosen, Settled};
 ghost use Rattle.judging.specs.Simulation.{covered, uncovered, relation-bytes};
+use crate::rows::meets;
 use crate::sizes::Sizes;
-use files::cells::has_bit;
+use files::cells::put_bit;
 use files::encode::LINE;
 use files::encode::put_line;
 use files::graph::NodeAt;
@@ -26,31 +27,46 @@ fn is_entry(first: &[u8], second: &[u8], s: Sizes, h: usize) -> bool
     v.entry
 }
 
-// Whether an entry of the second graph is related to node g.
-fn is_covered(first: &[u8], second: &[u8], s: Sizes, work: &[u8], g: usize) -> bool
-    requires { ⌜ ((Both s (now first) (now second))) × ((g < s .nodes) × ((165152 ≤ length (now work)) × (Settled (decode-graph (now first)) (decode-graph (now second)) (now work)))) ⌝ }
-    ensures { λ t. ⌜ t ≡ covered (decode-graph (now (first .entry))) (decode-graph (now (second .entry))) g ⌝ }
+// The entries of the second graph.
+fn entries(first: &[u8], second: &[u8], s: Sizes) -> [u8; LINE]
+    requires { ⌜ Both s (now first) (now second) ⌝ }
+    ensures { λ r. ⌜ (length r ≡ 32) × (Chosen (λ h. (node (decode-graph (now (second .entry))) h) .entry) (s .nodes2) r) ⌝ }
 {
+    let mut row = [0u8; LINE];
     let mut h = 0;
     while h < s.nodes2 {
-        let entry = is_entry(first, second, s, h);
-        if entry & has_bit(work, LINE * g, h) {
-            return true;
+        if is_entry(first, second, s, h) {
+            put_bit(&mut row, 0, h);
         }
         h += 1;
     }
-    false
+    row
+}
+
+// Whether an entry of the second graph is related to node g.
+fn is_covered(first: &[u8], second: &[u8], s: Sizes, work: &[u8], entries: &[u8], g: usize) -> bool
+    requires { ⌜ (32 ≤ length (now entries)) × ((Both s (now first) (now second)) × ((g < s .nodes) × ((165152 ≤ length (now work)) × ((Settled (decode-graph (now first)) (decode-graph (now second)) (now work)) × (Chosen (λ h. (node (decode-graph (now second)) h) .entry) (s .nodes2) (now entries)))))) ⌝ }
+    ensures { λ t. ⌜ t ≡ covered (decode-graph (now (first .entry))) (decode-graph (now (second .entry))) g ⌝ }
+{
+    meets(entries, work, LINE * g)
 }
 
 // Whether node g is an entry that no entry of the second graph is related to.
-fn is_uncovered(first: &[u8], second: &[u8], s: Sizes, work: &[u8], g: usize) -> bool
-    requires { ⌜ ((Both s (now first) (now second))) × ((g < s .nodes) × ((165152 ≤ length (now work)) × (Settled (decode-graph (now first)) (decode-graph (now second)) (now work)))) ⌝ }
+fn is_uncovered(
+    first: &[u8],
+    second: &[u8],
+    s: Sizes,
+    work: &[u8],
+    entries: &[u8],
+    g: usize,
+) -> bool
+    requires { ⌜ (32 ≤ length (now entries)) × ((Both s (now first) (now second)) × ((g < s .nodes) × ((165152 ≤ length (now work)) × ((Settled (decode-graph (now first)) (decode-graph (now second)) (now work)) × (Chosen (λ h. (node (decode-graph (now second)) h) .entry) (s .nodes2) (now entries)))))) ⌝ }
     ensures { λ t. ⌜ t ≡ ((node (decode-graph (now (first .entry))) g) .entry && not (covered (decode-graph (now (first .entry))) (decode-graph (now (second .entry))) g)) ⌝ }
 {
     let NodeAt::Is(v) = node_at(first, g, 1) else {
         return false;
     };
-    let covered = is_covered(first, second, s, work, g);
+    let covered = is_covered(first, second, s, work, entries, g);
     v.entry & !covered
 }
 
@@ -59,9 +75,10 @@ pub(crate) fn first_uncovered(first: &[u8], second: &[u8], s: Sizes, work: &[u8]
     requires { ⌜ ((Both s (now first) (now second))) × ((165152 ≤ length (now work)) × (Settled (decode-graph (now first)) (decode-graph (now second)) (now work))) ⌝ }
     ensures { λ t. ⌜ t ≡ uncovered (decode-graph (now (first .entry))) (decode-graph (now (second .entry))) ⌝ }
 {
+    let row = entries(first, second, s);
     let mut g = 0;
     while g < s.nodes {
-        if is_uncovered(first, second, s, work, g) {
+        if is_uncovered(first, second, s, work, &row, g) {
             return g;
         }
         g += 1;

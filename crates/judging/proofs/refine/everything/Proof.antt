@@ -1,11 +1,12 @@
 use mathlib.Core.Path.{_≡_, refl, ap, _∙_}
+use mathlib.Core.Bool.{true}
 use Prim.Native.Nat.{ℕ, _-_, _≤_, _<_}
 use native.Mathlib.Omega.{arith}
 use lib.Dec.{ltb}
 use lib.ListN.{length}
 use borrow.Author.Needs.{needs}
 use Rattle.files.specs.Cells.{has-bit}
-use Rattle.judging.proofs.MatchLaws.{all-below-none, all-below-more}
+use Rattle.judging.proofs.RowLaws.{chosen-none, chosen-put}
 use Rattle.judging.proofs.refine.everything.Statement.{statement}
 use Rattle.judging.proofs.refine.everything.Tie as tie
 use Rattle.files.proofs.cells.put_bit.Reads as put-bit-reads
@@ -18,7 +19,7 @@ abbrev μ-loop : tie.MeasureT-loop
 
 -- src/refine.rt:83:5
 loop-holds : tie.Need-loop-holds Inv-loop μ-loop
-loop-holds c = (omega arith, refl, λ h b. all-below-none h)
+loop-holds c = (omega arith, refl, chosen-none (λ h. true))
 
 -- src/refine.rt:84:17
 slice-aggregate-put-bit : tie.Need-slice-aggregate-put-bit Inv-loop μ-loop
@@ -38,7 +39,7 @@ loop-less c = search needs
 
 -- src/refine.rt:83:5
 loop-again : tie.Need-loop-again Inv-loop μ-loop
-loop-again c = let l = c .before .before .before .before .before .loop in let p = c .before .put-bit in (omega (arith, c .before .before .before .if1 .taken), p .kept .0 ∙ l .inv .1, all-below-more (l .row) (p .last .0) (l .x) (omega (arith, l .inv .1)) (omega (arith, c .before .before .before .if1 .taken, c .before .before .before .before .before .before .pre)) (p .ensures) (l .inv .2))
+loop-again c = let l = c .before .before .before .before .before .loop in let p = c .before .put-bit in (omega (arith, c .before .before .before .if1 .taken), p .kept .0 ∙ l .inv .1, chosen-put (λ h. true) (l .row) (l .x) (l .inv .2) (p .last .0) (omega (arith, l .inv .1)) (omega (arith, c .before .before .before .if1 .taken, c .before .before .before .before .before .before .pre)) (p .ensures) refl)
 
 -- src/refine.rt:77:1
 returns : tie.Need-returns Inv-loop μ-loop
