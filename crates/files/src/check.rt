@@ -113,8 +113,8 @@ fn from_two(limits: Limits, kind: FileKind, records: &[u8], first: usize, positi
     }
 }
 
-// Checks a whole file.
-fn check(kind: FileKind, file: &[u8], position: u8, limits: Limits) -> Checked
+// Checks a whole file of this kind, which stands at a position among a call's files.
+pub fn check(kind: FileKind, file: &[u8], position: u8, limits: Limits) -> Checked
     ensures { λ r. ⌜ r ≡ checked limits (kind-of kind) (now (file .entry)) position ⌝ }
 {
     if file.len() % Record::LEN == 0 {
@@ -123,7 +123,7 @@ fn check(kind: FileKind, file: &[u8], position: u8, limits: Limits) -> Checked
     Checked::Refused(Refusal::at(1, position, 0))
 }
 
-// Checks a graph file, which stands at a position among a call's files.
+// Checks a graph file.
 pub fn check_graph(file: &[u8], position: u8, limits: Limits) -> Checked
     ensures { λ r. ⌜ r ≡ checked limits graph (now (file .entry)) position ⌝ }
 {

@@ -61,13 +61,19 @@ module _ (L : Limits) (k : Kind) (f g : List ℕ) where
   abbrev from-files : List Check → Said → Outcome
   from-files cs s = answered (file-checks L 1 graph f (second cs)) s
 
-  -- x and y are the checks of the two files, and z is both as one
-  module _ {x y : Checked} {z : BothChecked} (first-is : x ≡ checked L graph f 1) (second-is : y ≡ checked L k g 2) (both-is : z ≡ both-checked x y) where
+  abbrev x : Checked
+  x = checked L graph f 1
+
+  abbrev y : Checked
+  y = checked L k g 2
+
+  -- z is the checks of the two files as one
+  module _ {z : BothChecked} (both-is : z ≡ both-checked x y) where
     pub files-counts : {n c m d : ℕ} → z ≡ Accepted n c m d → Counts L k f g n c m d
     files-counts {n = n} {c = c} {m = m} {d = d} e =
         let both = both-accept x y n c m d (sym both-is ∙ e) in
-        let a = accepted-counts L graph f 1 n c (sym first-is ∙ both .0) in
-        let b = accepted-counts L k g 2 m d (sym second-is ∙ both .1) in
+        let a = accepted-counts L graph f 1 n c (both .0) in
+        let b = accepted-counts L k g 2 m d (both .1) in
         record { first-within = a .0; second-within = b .0; nodes-are = a .1; records-are = a .2; nodes2-are = b .1; records2-are = b .2 }
 
     module _ (cs : List Check) (s : Said) {out : List ℕ} where
@@ -75,15 +81,15 @@ module _ (L : Limits) (k : Kind) (f g : List ℕ) where
       files-refused {r = r} e = go (both-refuse x y r (sym both-is ∙ e))
         where
           go : (x ≡ one.Refused r) ⊎ (((n : ℕ) × (c : ℕ) × (x ≡ one.Accepted n c)) × (y ≡ one.Refused r)) → Answers (from-files cs s) out out (refused-answer r)
-          go (inl q) = answers-file-refused L 1 graph f (second cs) s out x first-is r q
+          go (inl q) = answers-file-refused L 1 graph f (second cs) s out x refl r q
           go (inr q) =
-              answers-file-passed L 1 graph f (second cs) s out x first-is (q .0 .0) (q .0 .1) out (refused-answer r) (q .0 .2)
-              (answers-file-refused L 2 k g cs s out y second-is r (q .1))
+              answers-file-passed L 1 graph f (second cs) s out x refl (q .0 .0) (q .0 .1) out (refused-answer r) (q .0 .2)
+              (answers-file-refused L 2 k g cs s out y refl r (q .1))
 
       pub files-passed : {n c m d : ℕ} {out′ : List ℕ} {a : Answer} → z ≡ Accepted n c m d → Answers (answered cs s) out out′ a → Answers (from-files cs s) out out′ a
       files-passed {n = n} {c = c} {m = m} {d = d} {out′ = out′} {a = a} e h =
           let both = both-accept x y n c m d (sym both-is ∙ e) in
-          answers-file-passed L 1 graph f (second cs) s out x first-is n c out′ a (both .0) (answers-file-passed L 2 k g cs s out y second-is m d out′ a (both .1) h)
+          answers-file-passed L 1 graph f (second cs) s out x refl n c out′ a (both .0) (answers-file-passed L 2 k g cs s out y refl m d out′ a (both .1) h)
 
   -- the outcome of a call with a published length of its work buffer
   module _ (room : ℕ) (s : Said) (out work : List ℕ) {o : Outcome} (is : o ≡ answered (whole-check 13 (short room (length work)) (file-checks L 1 graph f (second (out-check (length out) s)))) s) where

@@ -54,8 +54,8 @@ module _ (s : Sizes) (f g : List ℕ) (both : Both s f g) where
         let below : h < s .nodes2 = omega (arith, l, second-size s f g both) in
         let few : h < 256 = omega (arith, below, both .few-second-nodes) in
         no-other tt h few
-          (subst T (sym (chosen h few)) (and-i (entry h) (ltb h (s .nodes2)) (and-l (entry h) (related G H v h) m) (lt→ltb h (s .nodes2) below)))
-          (subst T (sym (settled-e G H w found v h (omega (arith, is-node, first-size s f g both)) few)) (and-r (entry h) (related G H v h) m)))))
+        (subst T (sym (chosen h few)) (and-i (entry h) (ltb h (s .nodes2)) (and-l (entry h) (related G H v h) m) (lt→ltb h (s .nodes2) below)))
+        (subst T (sym (settled-e G H w found v h (omega (arith, is-node, first-size s f g both)) few)) (and-r (entry h) (related G H v h) m)))))
 
     -- ---- the relation's lines
 

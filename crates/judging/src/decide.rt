@@ -1,7 +1,7 @@
 // The call "judge": refusals in the published order, then all ranks, then the verdict and, where the property fails, its fault sheet.
 ghost use mathlib.Core.Path.{_≡_};
 ghost use Prim.Native.Nat.{_≤_, _<_};
-ghost use lib.ListN.{length, replicate};
+ghost use lib.ListN.{length};
 ghost use Rattle.files.specs.Outcome.{Answers, Does};
 ghost use Rattle.files.specs.Decode.{decode-graph, decode-property};
 ghost use Rattle.judging.specs.Judge.{judged, judged-answer, from-graph, from-verdict, Strides};
@@ -19,17 +19,17 @@ use crate::shape::Shape;
 use crate::sheet::walk;
 use crate::sheet::write_sheet;
 use files::cells::clear;
-use files::check::check_graph;
-use files::check::check_property;
+use files::offence::FileKind;
 use files::record::Limits;
 use files::record::Record;
 use files::refusal::Refusal;
 
-// All ranks, in a buffer of zeros.
+// All ranks, whatever the buffer held.
 fn find_ranks(graph: &[u8], property: &[u8], s: Shape, work: &mut [u8])
-    requires { ⌜ (Ready s (now graph) (now property)) × ((now work ≡ replicate (length (now work)) 0) × (41664 ≤ length (now work))) ⌝ }
+    requires { ⌜ (Ready s (now graph) (now property)) × (41664 ≤ length (now work)) ⌝ }
     ensures { λ _. ⌜ Ranked (decode-graph (now (graph .entry))) (decode-property (now (property .entry))) (now (work .exit)) ⌝ }
 {
+    clear(work);
     index(graph, property, s, work);
     let tail = start(graph, property, s, work);
     levels(graph, property, s, work, tail);
@@ -57,9 +57,9 @@ fn fail(
     Judged::Fails(n)
 }
 
-// The verdict on two accepted files, in a buffer of zeros.
+// The verdict on two accepted files.
 fn decide(graph: &[u8], property: &[u8], s: Shape, out: &mut [u8], work: &mut [u8]) -> Judged
-    requires { ⌜ (Ready s (now graph) (now property)) × ((now work ≡ replicate (length (now work)) 0) × (41664 ≤ length (now work))) ⌝ }
+    requires { ⌜ (Ready s (now graph) (now property)) × (41664 ≤ length (now work)) ⌝ }
     ensures { λ r. ⌜ Answers (from-verdict (now (graph .entry)) (now (property .entry)) (length (now (out .entry)))) (now (out .entry)) (now (out .exit)) (judged-answer r) ⌝ }
 {
     find_ranks(graph, property, s, work);
@@ -78,11 +78,10 @@ fn judge_files(
     work: &mut [u8],
     limits: Limits,
 ) -> Judged
-    requires { ⌜ (Strides limits) × ((now work ≡ replicate (length (now work)) 0) × (41664 ≤ length (now work))) ⌝ }
+    requires { ⌜ (Strides limits) × (41664 ≤ length (now work)) ⌝ }
     ensures { λ r. ⌜ Answers (from-graph limits (now (graph .entry)) (now (property .entry)) (length (now (out .entry)))) (now (out .entry)) (now (out .exit)) (judged-answer r) ⌝ }
 {
-    let second = check_property(property, 2, limits);
-    match check_both(check_graph(graph, 1, limits), second) {
+    match check_both(graph, property, FileKind::Property, limits) {
         BothChecked::Refused(refusal) => Judged::Refused(refusal),
         BothChecked::Accepted {
             nodes,
@@ -114,7 +113,6 @@ pub fn judge_within(
     if work.len() < Shape::ROOM {
         return Judged::Refused(Refusal::whole(13));
     }
-    clear(work);
     let answer = judge_files(graph, property, out, work, limits);
     clear(work);
     answer

@@ -13,8 +13,8 @@ use crate::cover::write_relation;
 use crate::refine::refine;
 use crate::sizes::Sizes;
 use files::cells::clear;
-use files::check::check_graph;
 use files::encode::LINE;
+use files::offence::FileKind;
 use files::record::Limits;
 use files::refusal::Refusal;
 
@@ -46,8 +46,7 @@ fn compare_files(
     requires { ⌜ (Strides limits) × (165152 ≤ length (now work)) ⌝ }
     ensures { λ t. ⌜ Answers (from-first limits (now (first .entry)) (now (second .entry)) (length (now (out .entry)))) (now (out .entry)) (now (out .exit)) (compared-answer t) ⌝ }
 {
-    let counted = check_graph(second, 2, limits);
-    match check_both(check_graph(first, 1, limits), counted) {
+    match check_both(first, second, FileKind::Graph, limits) {
         BothChecked::Refused(refusal) => Compared::Refused(refusal),
         BothChecked::Accepted {
             nodes,

@@ -16,17 +16,16 @@ ghost use Rattle.runs.specs.Composing.{composed, compose-verdict, joined
 ghost use Rattle.runs.specs.Composing.{DoesBoth, OtherSide, Room, files-checked};
 use crate::answers::Verdict;
 use crate::checks::check_side;
+use crate::checks::then_check;
 use crate::checks::then_checked;
 use crate::joining::write_join;
 use crate::regions::Regions;
 use crate::watching::watch_runs;
 use files::cells::clear;
 use files::check::Checked;
-use files::check::check_interface;
-use files::check::check_property;
-use files::check::check_rules;
 use files::interface::provided_methods;
 use files::interface::required_methods;
+use files::offence::FileKind;
 use files::record::Limits;
 use files::record::Record;
 use files::refusal::Refusal;
@@ -60,7 +59,6 @@ fn watch_joined(
     let second = Record::LEN * (s.nodes2 + s.edges2);
     let end = Record::LEN * (nodes + edges);
     write_join(graph, &store[..second], s, work);
-    clear(store);
     let whole = Regions {
         nodes: nodes,
         edges: edges,
@@ -159,10 +157,10 @@ fn check_files(
     ensures { λ r. ⌜ r ≡ files-checked limits (now (known .entry)) (now (graph .entry)) (now (other .entry)) (now (property .entry)) (now (rules .entry)) ⌝ }
 {
     let side = check_side(known, graph, 1, limits);
-    let rest = then_checked(check_rules(rules, 5, limits), side);
-    let rest = then_checked(check_property(property, 4, limits), rest);
-    let rest = then_checked(check_interface(other, 3, limits), rest);
-    then_checked(side, rest)
+    let rest = then_check(side, FileKind::Interface, other, 3, limits);
+    let rest = then_check(rest, FileKind::Property, property, 4, limits);
+    let rest = then_check(rest, FileKind::Rules, rules, 5, limits);
+    then_checked(rest, side)
 }
 
 // The files' refusals and the start method's 3, then the rest.

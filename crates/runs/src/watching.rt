@@ -1,7 +1,7 @@
 // The call "watch": refusals in the published order, then summaries, the search, and the verdict with the trail where it is bad.
 ghost use mathlib.Core.Path.{_≡_};
 ghost use Prim.Native.Nat.{_≤_};
-ghost use lib.ListN.{length, replicate};
+ghost use lib.ListN.{length};
 ghost use Rattle.files.specs.Access.{InterfaceFile};
 ghost use Rattle.files.specs.Decode.{decode-graph, decode-rules};
 ghost use Rattle.files.specs.Outcome.{Answers, Does, answered};
@@ -13,6 +13,7 @@ ghost use Rattle.runs.specs.Searching.{Says};
 ghost use Rattle.runs.specs.Watching.{watched, told, watch-verdict, from-sides, from-interface, files-checked};
 use crate::answers::Verdict;
 use crate::checks::check_side;
+use crate::checks::then_check;
 use crate::checks::then_checked;
 use crate::prepare::prepare;
 use crate::regions::Regions;
@@ -23,20 +24,21 @@ use crate::trail::count_records;
 use crate::trail::write_trail;
 use files::cells::clear;
 use files::check::Checked;
-use files::check::check_rules;
 use files::interface::provided_methods;
 use files::interface::required_methods;
+use files::offence::FileKind;
 use files::record::Limits;
 use files::record::Record;
 use files::refusal::Refusal;
 use files::sides::first_foreign;
 use files::sides::unprovided;
 
-// The item at which the trail ends, or 0 where the verdict is clean, in a buffer of zeros.
+// The item at which the trail ends, or 0 where the verdict is clean, whatever the buffer held.
 fn find_trail(graph: &[u8], rules: &[u8], s: Regions, start: u8, work: &mut [u8]) -> usize
-    requires { ⌜ (Ready s (now graph) (now rules)) × ((now work ≡ replicate (length (now work)) 0) × (46949 ≤ length (now work))) ⌝ }
+    requires { ⌜ (Ready s (now graph) (now rules)) × (46949 ≤ length (now work)) ⌝ }
     ensures { λ i. ⌜ Says (decode-graph (now (graph .entry))) (watch (decode-rules (now (rules .entry)))) start i (now (work .exit)) ⌝ }
 {
+    clear(work);
     prepare(graph, rules, s, work);
     summarize(graph, rules, s, work);
     let table = table_of(work);
@@ -59,7 +61,7 @@ fn tell(graph: &[u8], rules: &[u8], start: u8, out: &mut [u8], work: &[u8], i: u
     Verdict::Bad(n)
 }
 
-// The verdict on an accepted graph and accepted rules, in a buffer of zeros.
+// The verdict on an accepted graph and accepted rules.
 pub(crate) fn watch_runs(
     graph: &[u8],
     rules: &[u8],
@@ -68,7 +70,7 @@ pub(crate) fn watch_runs(
     work: &mut [u8],
     s: Regions,
 ) -> Verdict
-    requires { ⌜ (Ready s (now graph) (now rules)) × ((now work ≡ replicate (length (now work)) 0) × (46949 ≤ length (now work))) ⌝ }
+    requires { ⌜ (Ready s (now graph) (now rules)) × (46949 ≤ length (now work)) ⌝ }
     ensures { λ v. ⌜ Answers (told (decode-graph (now (graph .entry))) (watch (decode-rules (now (rules .entry)))) start (length (now (out .entry)))) (now (out .entry)) (now (out .exit)) (watched-answer v) ⌝ }
 {
     let i = find_trail(graph, rules, s, start, work);
@@ -86,7 +88,7 @@ fn watch_sides(
     limits: Limits,
     s: Regions,
 ) -> Verdict
-    requires { ⌜ (InterfaceFile (now interface)) × ((Ready s (now graph) (now rules)) × ((now work ≡ replicate (length (now work)) 0) × (46949 ≤ length (now work)))) ⌝ }
+    requires { ⌜ (InterfaceFile (now interface)) × ((Ready s (now graph) (now rules)) × (46949 ≤ length (now work))) ⌝ }
     ensures { λ v. ⌜ Answers (answered (from-sides limits (now (interface .entry)) (now (graph .entry)) (now (rules .entry)) start (length (now (out .entry))) (length (now (work .entry)))) (watch-verdict limits (now (interface .entry)) (now (graph .entry)) (now (rules .entry)) start (length (now (out .entry))) (length (now (work .entry))))) (now (out .entry)) (now (out .exit)) (watched-answer v) ⌝ }
 {
     let foreign = first_foreign(graph, interface);
@@ -106,8 +108,7 @@ fn check_files(interface: &[u8], graph: &[u8], rules: &[u8], limits: Limits) -> 
     ensures { λ r. ⌜ r ≡ files-checked limits (now (interface .entry)) (now (graph .entry)) (now (rules .entry)) ⌝ }
 {
     let side = check_side(interface, graph, 1, limits);
-    let rest = then_checked(check_rules(rules, 3, limits), side);
-    then_checked(side, rest)
+    then_checked(then_check(side, FileKind::Rules, rules, 3, limits), side)
 }
 
 // The files' refusals and the start method's 3, then the rest.
@@ -120,7 +121,7 @@ fn watch_files(
     work: &mut [u8],
     limits: Limits,
 ) -> Verdict
-    requires { ⌜ (Strides limits) × ((now work ≡ replicate (length (now work)) 0) × (46949 ≤ length (now work))) ⌝ }
+    requires { ⌜ (Strides limits) × (46949 ≤ length (now work)) ⌝ }
     ensures { λ v. ⌜ Answers (answered (from-interface limits (now (interface .entry)) (now (graph .entry)) (now (rules .entry)) start (length (now (out .entry))) (length (now (work .entry)))) (watch-verdict limits (now (interface .entry)) (now (graph .entry)) (now (rules .entry)) start (length (now (out .entry))) (length (now (work .entry))))) (now (out .entry)) (now (out .exit)) (watched-answer v) ⌝ }
 {
     match check_files(interface, graph, rules, limits) {
@@ -154,7 +155,6 @@ pub fn watch_within(
     if work.len() < Regions::ROOM {
         return Verdict::Refused(Refusal::whole(13));
     }
-    clear(work);
     let answer = watch_files(interface, graph, rules, start, out, work, limits);
     clear(work);
     answer

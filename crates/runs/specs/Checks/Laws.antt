@@ -22,6 +22,11 @@ no-clash n c f q = let z : _≡_ {A = ℕ} 0 1 = ap number-of q in absurd (omega
     number-of (Accepted a b) = 0
     number-of (Refused r) = 1
 
+-- checks in a row may be put together from either side
+pub then-assoc : (x y z : Checked) → then-checked (then-checked x y) z ≡ then-checked x (then-checked y z)
+then-assoc (Accepted n c) y z = refl
+then-assoc (Refused f) y z = refl
+
 -- both accept where the second of two is come to and accepts
 pub then-accepts : (x y : Checked) (n c : ℕ) → then-checked x y ≡ Accepted n c → ((a : ℕ) × (b : ℕ) × (x ≡ Accepted a b)) × (y ≡ Accepted n c)
 then-accepts (Accepted a b) y n c q = ((a, b, refl), q)

@@ -3,6 +3,9 @@ use Rattle.judging.proofs.DecideLaws.{answers-clean}
 use borrow.Author.Needs.{needs}
 use Rattle.judging.proofs.decide.decide.Statement.{statement}
 use Rattle.judging.proofs.decide.decide.Tie as tie
+use Rattle.judging.proofs.causes.first_failing.Reads as first-failing-reads
+use Rattle.judging.proofs.decide.fail.Reads as fail-reads
+use Rattle.judging.proofs.decide.find_ranks.Reads as find-ranks-reads
 
 -- src/decide.rt:65:5
 find-ranks-requires : tie.Need-find-ranks-requires
@@ -15,7 +18,7 @@ first-failing-requires c κs = search needs
 -- src/decide.rt:68:9
 fail-requires : tie.Need-fail-requires
 fail-requires c κs = let k = c .before .before .before .before .before .before .before .before .before .before .before .before .before .before in
-    (k .pre .0, (omega (arith, c .before .before .before .before .before .before .before .before .find-ranks .kept .1 .1 .1 .0, k .pre .1 .1), (c .before .before .before .before .before .before .before .before .find-ranks .ensures, (c .before .before .before .before .first-failing .ensures, c .before .before .if1 .taken))))
+    (k .pre .0, (omega (arith, c .before .before .before .before .before .before .before .before .find-ranks .kept .1 .1 .1 .0, k .pre .1), (c .before .before .before .before .before .before .before .before .find-ranks .ensures, (c .before .before .before .before .first-failing .ensures, c .before .before .if1 .taken))))
 
 -- src/decide.rt:68:9
 same-length : tie.Need-same-length

@@ -4,41 +4,34 @@ use Rattle.judging.proofs.DecideLaws.{both-ready}
 use borrow.Author.Needs.{needs}
 use Rattle.judging.proofs.decide.judge_files.Statement.{statement}
 use Rattle.judging.proofs.decide.judge_files.Tie as tie
+use Rattle.judging.proofs.checks.check_both.Reads as check-both-reads
+use Rattle.judging.proofs.decide.decide.Reads as decide-reads
 
--- src/decide.rt:84:9
-check-property-requires : tie.Need-check-property-requires
-check-property-requires c κs = search needs
-
--- src/decide.rt:85:22
-check-graph-requires : tie.Need-check-graph-requires
-check-graph-requires c κs = search needs
-
--- src/decide.rt:85:11
+-- src/decide.rt:84:11
 check-both-requires : tie.Need-check-both-requires
 check-both-requires c κs = search needs
 
--- src/decide.rt:86:30
+-- src/decide.rt:85:30
 enum-known-refusal : tie.Need-enum-known-refusal
 enum-known-refusal c = search needs
 
--- src/decide.rt:88:13
+-- src/decide.rt:87:13
 enum-known-nodes : tie.Need-enum-known-nodes
 enum-known-nodes c = search needs
 
--- src/decide.rt:95:24
-sub-t15 : tie.Need-sub-t15
-sub-t15 c = let b = c .before .before .before in let n = files-counts _ _ _ _ (b .before .check-graph .ensures) (b .before .before .check-property .ensures) (b .check-both .ensures) (c .before .nodes .given .1) in nodes-first _ _ (n .first-within) (n .nodes-are) (n .records-are)
+-- src/decide.rt:94:24
+sub-t14 : tie.Need-sub-t14
+sub-t14 c = let n = files-counts _ _ _ _ (c .before .before .before .check-both .ensures) (c .before .nodes .given .1) in nodes-first _ _ (n .first-within) (n .nodes-are) (n .records-are)
 
--- src/decide.rt:98:13
+-- src/decide.rt:97:13
 decide-requires : tie.Need-decide-requires
-decide-requires c κs = let b = c .before .before .before .before .before in
-    let n = files-counts _ _ _ _ (b .before .check-graph .ensures) (b .before .before .check-property .ensures) (b .check-both .ensures) (c .before .before .before .nodes .given .1) in
-    let k = b .before .before .before .before .before .before .before in
+decide-requires c κs = let k = c .before .before .before .before .before .before .before .before .before .before in
+    let n = files-counts _ _ _ _ (c .before .before .before .before .before .check-both .ensures) (c .before .before .before .nodes .given .1) in
     (both-ready _ (k .pre .0) _ _ (n .first-within) (n .second-within) _ _ _ (n .nodes-are) (n .records-are) (n .records2-are), k .pre .1)
 
 -- src/decide.rt:74:1
 returns : tie.Need-returns
-returns c = let b = c .before .before .before in files-refused _ _ _ _ (b .before .check-graph .ensures) (b .before .before .check-property .ensures) (b .check-both .ensures) _ _ (c .before .refusal .given .1)
+returns c = files-refused _ _ _ _ (c .before .before .before .check-both .ensures) _ _ (c .before .refusal .given .1)
 
 -- src/decide.rt:74:1
 same-length : tie.Need-same-length
@@ -50,18 +43,16 @@ same-length-2 c = search needs
 
 -- src/decide.rt:74:1
 returns-2 : tie.Need-returns-2
-returns-2 c = let b = c .before .before .before .before .before .before .before .before .before .before in files-passed _ _ _ _ (b .before .check-graph .ensures) (b .before .before .check-property .ensures) (b .check-both .ensures) _ _ (c .before .before .before .before .before .before .before .before .nodes .given .1) (c .before .before .before .before .decide .ensures)
+returns-2 c = files-passed _ _ _ _ (c .before .before .before .before .before .before .before .before .before .before .check-both .ensures) _ _ (c .before .before .before .before .before .before .before .before .nodes .given .1) (c .before .before .before .before .decide .ensures)
 
 pub judge-files-spec : {M : Type 1} → statement M
 judge-files-spec =
     tie.close
     (tie.spec
-    check-property-requires
-    check-graph-requires
     check-both-requires
     enum-known-refusal
     enum-known-nodes
-    sub-t15
+    sub-t14
     decide-requires
     returns
     same-length

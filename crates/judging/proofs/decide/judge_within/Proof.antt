@@ -1,7 +1,4 @@
-use mathlib.Core.Path.{sym, ap, _∙_}
-use native.Mathlib.Omega.{arith}
-use Prim.Native.Nat.{ℕ}
-use lib.ListN.{length, replicate}
+use lib.ListN.{length}
 use Rattle.files.specs.Decode.{decode-graph, decode-property}
 use Rattle.files.specs.Refusal.{property}
 use Rattle.judging.proofs.CallLaws.{does-short, does-checked}
@@ -10,42 +7,39 @@ use Rattle.judging.specs.Judge.Steps.{judged-is}
 use borrow.Author.Needs.{needs}
 use Rattle.judging.proofs.decide.judge_within.Statement.{statement}
 use Rattle.judging.proofs.decide.judge_within.Tie as tie
+use Rattle.files.proofs.cells.clear.Reads as clear-reads
+use Rattle.files.proofs.refusal.Refusal.whole.Reads as whole-reads
+use Rattle.judging.proofs.decide.judge_files.Reads as judge-files-reads
 
--- src/decide.rt:115:32
+-- src/decide.rt:114:32
 whole-requires : tie.Need-whole-requires
 whole-requires c κs = search needs
 
--- src/decide.rt:115:9
+-- src/decide.rt:114:9
 returns : tie.Need-returns
 returns c = let a = c .before .before .before .before .before .before .args in does-short (a .limits) property (a .graph .now) (a .property .now) judge-room (judge-said (decode-graph (a .graph .now)) (decode-property (a .property .now))) (a .out .now) (a .work .now) (judged-is (a .limits) (a .graph .now) (a .property .now) (length (a .out .now)) (length (a .work .now))) (c .before .if1 .taken) (c .whole .ensures)
+
+-- src/decide.rt:116:9
+judge-files-requires : tie.Need-judge-files-requires
+judge-files-requires c κs = search needs
 
 -- src/decide.rt:117:5
 clear-requires : tie.Need-clear-requires
 clear-requires c κs = search needs
 
--- src/decide.rt:118:9
-judge-files-requires : tie.Need-judge-files-requires
-judge-files-requires c κs = let k = c .before .before .before .before .before .before .before .before .before .before .before in
-    let x = c .before .before .before .before .clear in
-    (k .pre, (x .ensures ∙ ap (λ (n : ℕ). replicate n 0) (sym (x .kept .0)), omega (arith, x .kept .0, c .before .before .before .before .before .before .if1 .left)))
-
--- src/decide.rt:119:5
-clear-requires-2 : tie.Need-clear-requires-2
-clear-requires-2 c κs = search needs
-
--- src/decide.rt:104:1
+-- src/decide.rt:103:1
 same-length : tie.Need-same-length
 same-length c = search needs
 
--- src/decide.rt:104:1
+-- src/decide.rt:103:1
 same-length-2 : tie.Need-same-length-2
 same-length-2 c = search needs
 
--- src/decide.rt:104:1
+-- src/decide.rt:103:1
 returns-2 : tie.Need-returns-2
-returns-2 c = let a = c .before .before .before .before .before .before .before .before .before .before .before .before .before .before .before .before .before .before .before .before .args in
+returns-2 c = let a = c .before .before .before .before .before .before .before .before .before .before .before .before .before .before .before .before .args in
     let j = c .before .before .before .before .before .before .before .before .judge-files in
-    does-checked (a .limits) property (a .graph .now) (a .property .now) judge-room (judge-said (decode-graph (a .graph .now)) (decode-property (a .property .now))) (a .out .now) (a .work .now) (judged-is (a .limits) (a .graph .now) (a .property .now) (length (a .out .now)) (length (a .work .now))) (j .last .1 .1 .1 .0) (c .before .before .before .before .before .before .before .before .before .before .before .before .before .before .before .if1 .left) (j .ensures) (j .kept .1 .1 .1 .0 ∙ c .before .before .before .before .before .before .before .before .before .before .before .before .before .clear .kept .0) (c .before .before .clear2 .ensures)
+    does-checked (a .limits) property (a .graph .now) (a .property .now) judge-room (judge-said (decode-graph (a .graph .now)) (decode-property (a .property .now))) (a .out .now) (a .work .now) (judged-is (a .limits) (a .graph .now) (a .property .now) (length (a .out .now)) (length (a .work .now))) (j .last .1 .1 .1 .0) (c .before .before .before .before .before .before .before .before .before .before .before .if1 .left) (j .ensures) (j .kept .1 .1 .1 .0) (c .before .before .clear .ensures)
 
 pub judge-within-spec : {M : Type 1} → statement M
 judge-within-spec =
@@ -53,9 +47,8 @@ judge-within-spec =
     (tie.spec
     whole-requires
     returns
-    clear-requires
     judge-files-requires
-    clear-requires-2
+    clear-requires
     same-length
     same-length-2
     returns-2)

@@ -1,36 +1,32 @@
 -- Each check is its definition, so that both together are.
-use mathlib.Core.Path.{ap₂, _∙_}
+use mathlib.Core.Path.{ap, _∙_}
+use Prim.Native.Nat.{_+_}
+use Rattle.files.specs.Checking.{checked}
+use Rattle.files.specs.Refusal.{graph}
+use Rattle.files.specs.declared.check.Checked.{Checked}
 use Rattle.runs.specs.Checks.{then-checked}
 use borrow.Author.Needs.{needs}
 use Rattle.runs.proofs.checks.check_side.Statement.{statement}
 use Rattle.runs.proofs.checks.check_side.Tie as tie
+use Rattle.files.proofs.check.check_interface.Reads as check-interface-reads
+use Rattle.runs.proofs.checks.then_check.Reads as then-check-reads
 
--- src/checks.rt:25:38
-add-check-graph : tie.Need-add-check-graph
-add-check-graph c = search needs
-
--- src/checks.rt:25:9
-check-graph-requires : tie.Need-check-graph-requires
-check-graph-requires c κs = search needs
-
--- src/checks.rt:26:18
+-- src/checks.rt:44:9
 check-interface-requires : tie.Need-check-interface-requires
 check-interface-requires c κs = search needs
 
--- src/checks.rt:26:5
-then-checked-requires : tie.Need-then-checked-requires
-then-checked-requires c κs = search needs
+-- src/checks.rt:45:48
+add-then-check : tie.Need-add-then-check
+add-then-check c = search needs
 
--- src/checks.rt:21:1
+-- src/checks.rt:45:5
+then-check-requires : tie.Need-then-check-requires
+then-check-requires c κs = search needs
+
+-- src/checks.rt:40:1
 returns : tie.Need-returns
-returns c = c .then-checked .ensures ∙ ap₂ then-checked (c .before .check-interface .ensures) (c .before .before .check-graph .ensures)
+returns c = let a = c .before .before .before .before .args in c .then-check .ensures ∙ ap (λ (x : Checked). then-checked x (checked (a .limits) graph (a .graph .now) (a .position + 1))) (c .before .check-interface .ensures)
 
 pub check-side-spec : {M : Type 1} → statement M
 check-side-spec =
-    tie.close
-    (tie.spec
-    add-check-graph
-    check-graph-requires
-    check-interface-requires
-    then-checked-requires
-    returns)
+    tie.close (tie.spec check-interface-requires add-then-check then-check-requires returns)

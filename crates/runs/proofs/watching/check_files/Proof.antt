@@ -1,36 +1,37 @@
 -- Each check is its definition, so that the whole is; the side is checked once and counts twice: by its refusal, and for its counts at the end.
-use mathlib.Core.Path.{ap₂, _∙_}
-use Rattle.runs.specs.Checks.{then-checked}
+use mathlib.Core.Path.{ap, ap₂, _∙_}
+use Rattle.files.specs.Checking.{checked}
+use Rattle.files.specs.Refusal.{rules}
+use Rattle.files.specs.declared.check.Checked.{Checked}
+use Rattle.runs.specs.Checks.{then-checked, side-checked}
+use Rattle.runs.specs.Checks.Laws.{then-assoc}
 use borrow.Author.Needs.{needs}
 use Rattle.runs.proofs.watching.check_files.Statement.{statement}
 use Rattle.runs.proofs.watching.check_files.Tie as tie
+use Rattle.runs.proofs.checks.check_side.Reads as check-side-reads
+use Rattle.runs.proofs.checks.then_check.Reads as then-check-reads
+use Rattle.runs.proofs.checks.then_checked.Reads as then-checked-reads
 
--- src/watching.rt:108:9
+-- src/watching.rt:110:9
 check-side-requires : tie.Need-check-side-requires
 check-side-requires c κs = search needs
 
--- src/watching.rt:109:29
-check-rules-requires : tie.Need-check-rules-requires
-check-rules-requires c κs = search needs
+-- src/watching.rt:111:18
+then-check-requires : tie.Need-then-check-requires
+then-check-requires c κs = search needs
 
--- src/watching.rt:109:9
+-- src/watching.rt:111:5
 then-checked-requires : tie.Need-then-checked-requires
 then-checked-requires c κs = search needs
 
--- src/watching.rt:110:5
-then-checked-requires-2 : tie.Need-then-checked-requires-2
-then-checked-requires-2 c κs = search needs
-
--- src/watching.rt:105:1
+-- src/watching.rt:107:1
 returns : tie.Need-returns
-returns c = let side = c .before .before .before .check-side .ensures in c .then-checked2 .ensures ∙ ap₂ then-checked side (c .before .then-checked .ensures ∙ ap₂ then-checked (c .before .before .check-rules .ensures) side)
+returns c = let a = c .before .before .before .before .before .before .args in
+    let is-side = c .before .before .check-side .ensures in
+    let side = side-checked (a .limits) (a .interface .now) (a .graph .now) 1 in
+    let last = checked (a .limits) rules (a .rules .now) 3 in
+    c .then-checked .ensures ∙ ap₂ then-checked (c .before .then-check .ensures ∙ ap (λ (x : Checked). then-checked x last) is-side) is-side ∙ then-assoc side last side
 
 pub check-files-spec : {M : Type 1} → statement M
 check-files-spec =
-    tie.close
-    (tie.spec
-    check-side-requires
-    check-rules-requires
-    then-checked-requires
-    then-checked-requires-2
-    returns)
+    tie.close (tie.spec check-side-requires then-check-requires then-checked-requires returns)

@@ -1,34 +1,47 @@
-use mathlib.Core.Path.{_∙_}
+use mathlib.Core.Path.{sym, ap, _∙_}
 use mathlib.Core.Logic.{inr}
+use Prim.Native.Nat.{ℕ}
 use native.Mathlib.Omega.{arith}
-use borrow.Author.Needs.{needs}
+use lib.ListN.{replicate}
 use Rattle.files.specs.Decode.{decode-graph, decode-rules}
 use Rattle.files.specs.Rules.{watch}
 use Rattle.judging.proofs.ChainLaws.{zero-byte}
 use Rattle.runs.specs.Worklist.Loops.{table-yields}
+use borrow.Author.Needs.{needs}
 use Rattle.runs.proofs.watching.find_trail.Statement.{statement}
 use Rattle.runs.proofs.watching.find_trail.Tie as tie
+use Rattle.files.proofs.cells.clear.Reads as clear-reads
+use Rattle.runs.proofs.prepare.prepare.Reads as prepare-reads
+use Rattle.runs.proofs.search.search.Reads as search-reads
+use Rattle.runs.proofs.summaries.summarize.Reads as summarize-reads
+use Rattle.runs.proofs.summaries.table_of.Reads as table-of-reads
 
+-- src/watching.rt:41:5
+clear-requires : tie.Need-clear-requires
+clear-requires c κs = search needs
+
+-- src/watching.rt:42:5
 prepare-requires : tie.Need-prepare-requires
-prepare-requires c κs = search needs
+prepare-requires c κs = let k = c .before .before .before .before .before .before .before .before in let x = c .before .before .before .clear in (k .pre .0, (x .ensures ∙ ap (λ (n : ℕ). replicate n 0) (sym (x .kept .0)), omega (arith, x .kept .0, k .pre .1)))
 
+-- src/watching.rt:43:5
 summarize-requires : tie.Need-summarize-requires
-summarize-requires c κs =
-    let k = c .before .before .before .before .before .before .before .before in
-    let a = k .args in
+summarize-requires c κs = let k = c .before .before .before .before .before .before .before .before .before .before .before .before in
+    let x = c .before .before .before .before .before .before .before .clear in
+    let zeros = x .ensures ∙ ap (λ (n : ℕ). replicate n 0) (sym (x .kept .0)) in
     let p = c .before .before .before .prepare in
-    (k .pre .0, (p .ensures .0, (omega (arith, p .kept .1 .1 .1 .0, k .pre .1 .1), λ q h. p .ensures .1 q (inr h) ∙ zero-byte (a .work .now) (k .pre .1 .0) q)))
+    (k .pre .0, (p .ensures .0, (omega (arith, p .kept .1 .1 .1 .0, x .kept .0, k .pre .1), λ q h. p .ensures .1 q (inr h) ∙ zero-byte (x .last .0) zeros q)))
 
+-- src/watching.rt:44:17
 table-of-requires : tie.Need-table-of-requires
-table-of-requires c κs =
-    let k = c .before .before .before .before .before .before .before .before .before .before .before .before in
-    let a = k .args in
-    omega (arith, (c .before .before .before .summarize) .kept .1 .1 .1 .0, (c .before .before .before .before .before .before .before .prepare) .kept .1 .1 .1 .0, k .pre .1 .1)
+table-of-requires c κs = search needs
 
+-- src/watching.rt:45:5
 search-requires : tie.Need-search-requires
-search-requires c κs =
-    let k = c .before .before .before .before .before .before .before .before .before .before .before .before .before .before .before in
+search-requires c κs = let k = c .before .before .before .before .before .before .before .before .before .before .before .before .before .before .before .before .before .before .before in
     let a = k .args in
+    let x = c .before .before .before .before .before .before .before .before .before .before .before .before .before .before .clear in
+    let zeros = x .ensures ∙ ap (λ (n : ℕ). replicate n 0) (sym (x .kept .0)) in
     let p = c .before .before .before .before .before .before .before .before .before .before .prepare in
     let s = c .before .before .before .before .before .before .summarize in
     let t = c .before .before .table-of in (
@@ -36,18 +49,20 @@ search-requires c κs =
       (
         table-yields (decode-graph (a .graph .now)) (watch (decode-rules (a .rules .now))) (s .last .1 .1 .1 .0) (t .result) (s .ensures .0) (t .ensures),
         (
-          omega (arith, s .kept .1 .1 .1 .0, p .kept .1 .1 .1 .0, k .pre .1 .1),
+          omega (arith, s .kept .1 .1 .1 .0, p .kept .1 .1 .1 .0, x .kept .0, k .pre .1),
           (
             s .ensures .1 .0,
-            λ q h. s .ensures .1 .1 q h ∙ p .ensures .1 q (inr (omega (arith, h))) ∙ zero-byte (a .work .now) (k .pre .1 .0) q,
+            λ q h. s .ensures .1 .1 q h ∙ p .ensures .1 q (inr (omega (arith, h))) ∙ zero-byte (x .last .0) zeros q,
           ),
         ),
       ),
     )
 
+-- src/watching.rt:37:1
 same-length : tie.Need-same-length
 same-length c = search needs
 
+-- src/watching.rt:37:1
 returns : tie.Need-returns
 returns c = search needs
 
@@ -55,6 +70,7 @@ pub find-trail-spec : {M : Type 1} → statement M
 find-trail-spec =
     tie.close
     (tie.spec
+    clear-requires
     prepare-requires
     summarize-requires
     table-of-requires

@@ -1,49 +1,47 @@
-use mathlib.Core.Path.{sym, ap, _∙_}
+use mathlib.Core.Path.{ap, _∙_}
 use Prim.Native.Nat.{ℕ}
 use lib.ListN.{replicate}
 use native.Mathlib.Omega.{arith}
-use borrow.Author.Needs.{needs}
 use Rattle.runs.specs.Watching.Steps.{does-nothing, does-watch}
 use Rattle.runs.specs.Answer.{watched-answer}
+use borrow.Author.Needs.{needs}
 use Rattle.runs.proofs.watching.watch_within.Statement.{statement}
 use Rattle.runs.proofs.watching.watch_within.Tie as tie
+use Rattle.files.proofs.cells.clear.Reads as clear-reads
+use Rattle.files.proofs.refusal.Refusal.whole.Reads as whole-reads
+use Rattle.runs.proofs.watching.watch_files.Reads as watch-files-reads
 
+-- src/watching.rt:156:33
 whole-requires : tie.Need-whole-requires
 whole-requires c κs = search needs
 
+-- src/watching.rt:156:9
 returns : tie.Need-returns
-returns c =
-    let k = c .before .before .before .before .before .before .before in
-    let a = k .args in
+returns c = let a = c .before .before .before .before .before .before .before .args in
     does-nothing (a .limits) (a .interface .now) (a .graph .now) (a .rules .now) (a .start) (a .out .now) (a .work .now) (c .whole .result) (c .before .if1 .taken) (c .whole .ensures)
 
+-- src/watching.rt:158:9
+watch-files-requires : tie.Need-watch-files-requires
+watch-files-requires c κs = search needs
+
+-- src/watching.rt:159:5
 clear-requires : tie.Need-clear-requires
 clear-requires c κs = search needs
 
-watch-files-requires : tie.Need-watch-files-requires
-watch-files-requires c κs =
-    let k = c .before .before .before .before .before .before .before .before .before .before .before .before in
-    let a = k .args in
-    let x = c .before .before .before .before .clear in
-    (k .pre, (x .ensures ∙ ap (λ (n : ℕ). replicate n 0) (sym (x .kept .0)), omega (arith, x .kept .0, c .before .before .before .before .before .before .if1 .left)))
-
-clear-requires-2 : tie.Need-clear-requires-2
-clear-requires-2 c κs = search needs
-
+-- src/watching.rt:143:1
 same-length : tie.Need-same-length
 same-length c = search needs
 
+-- src/watching.rt:143:1
 same-length-2 : tie.Need-same-length-2
 same-length-2 c = search needs
 
+-- src/watching.rt:143:1
 returns-2 : tie.Need-returns-2
-returns-2 c =
-    let k = c .before .before .before .before .before .before .before .before .before .before .before .before .before .before .before .before .before .before .before .before .before in
-    let a = k .args in
+returns-2 c = let a = c .before .before .before .before .before .before .before .before .before .before .before .before .before .before .before .before .before .args in
     let j = c .before .before .before .before .before .before .before .before .watch-files in
-    let x = c .before .before .before .before .before .before .before .before .before .before .before .before .before .clear in
-    let y = c .before .before .clear2 in
-    does-watch (a .limits) (a .interface .now) (a .graph .now) (a .rules .now) (a .start) (a .out .now) (a .work .now) (j .last .1 .1 .1 .1 .0) (y .last .0) (watched-answer (j .result)) (omega (arith, c .before .before .before .before .before .before .before .before .before .before .before .before .before .before .before .if1 .left)) (j .ensures) (y .ensures ∙ ap (λ (n : ℕ). replicate n 0) (j .kept .1 .1 .1 .1 .1 .0 ∙ x .kept .0))
+    let y = c .before .before .clear in
+    does-watch (a .limits) (a .interface .now) (a .graph .now) (a .rules .now) (a .start) (a .out .now) (a .work .now) (j .last .1 .1 .1 .1 .0) (y .last .0) (watched-answer (j .result)) (omega (arith, c .before .before .before .before .before .before .before .before .before .before .before .if1 .left)) (j .ensures) (y .ensures ∙ ap (λ (n : ℕ). replicate n 0) (j .kept .1 .1 .1 .1 .1 .0))
 
 pub watch-within-spec : {M : Type 1} → statement M
 watch-within-spec =
@@ -51,9 +49,8 @@ watch-within-spec =
     (tie.spec
     whole-requires
     returns
-    clear-requires
     watch-files-requires
-    clear-requires-2
+    clear-requires
     same-length
     same-length-2
     returns-2)
