@@ -17,9 +17,9 @@ use Rattle.files.specs.Decode.{decode-graph}
 use Rattle.files.specs.Graph.{Graph, size}
 use Rattle.judging.specs.declared.sizes.Sizes.{Sizes}
 use Rattle.judging.specs.Chains.{Outside, last-where}
-use Rattle.judging.specs.Refinement.{Both, rel, held, load, edge, follows, comes, labelled-into, In, Within, Lacking, Meets, Preceded, LostMet, Asked, Sifted, Refining, Shrank, Contained, LabelMatched, NodeMatched, Leading, Candidates, Took, Matching, Settled}
+use Rattle.judging.specs.Refinement.{Both, rel, held, load, edge, follows, comes, labelled-into, In, Within, Lacking, Meets, Preceded, Preceding, LostMet, Asked, Sifted, Refining, Shrank, Contained, LabelMatched, NodeMatched, Leading, Candidates, Took, Matching, Settled}
 use Rattle.judging.specs.Refinement.Files.{first-size, second-size, first-edges, first-flow, second-flow, first-fits, second-fits, first-edges-fit, first-edge-in}
-use Rattle.judging.specs.Refinement.Handing.{looked-up-kept, lost-met, lost-kept, row-dropped, shrank-on, unmet-apart, label-matched, label-none, label-kept, node-kept, order-beside, candidates-met, lacking-apart, leading-by, leading-kept}
+use Rattle.judging.specs.Refinement.Handing.{looked-up-kept, sifted-near, preceding-by, lost-met, lost-kept, row-dropped, shrank-on, unmet-apart, label-matched, label-none, label-kept, node-kept, order-beside, candidates-met, lacking-apart, leading-by, leading-kept}
 use Rattle.judging.specs.Refinement.Taking.{took, matching-on, matching-first, load-le, load-lt, all-settled}
 use Rattle.judging.specs.Simulation.{related}
 use Rattle.judging.specs.Simulation.Laws.{related-e}
@@ -236,6 +236,12 @@ module _ (s : Sizes) (f g : List ℕ) (x : Both s f g) where
         let he′ : e < length (G .edges) = omega (arith, he, first-edges s f g x) in
         lacking-apart G H (first-flow s f g x) (second-flow s f g x) (first-fits s f g x) (second-fits s f g x) (first-edges-fit s f g x) w r l h hl ((y .without-edge h b i) .1) e he′ ((slot-tells e he′ t) .1) z
 
+    -- the candidates c are sifted once those that are not near are dropped and the others asked
+    pub all-sifted : (c a d₀ d m : List ℕ) → Candidates G H w v l row c → Preceding H row m → ((h : ℕ) → h < 256 → has-bit d₀ 0 h ≡ (has-bit c 0 h && not (has-bit m 0 h)))
+        → ((h : ℕ) → h < 256 → has-bit a 0 h ≡ (has-bit c 0 h && has-bit m 0 h)) → Sifted w l row a d₀ d 0 256 → Sifted w l row c (replicate 32 0) d 0 256
+    all-sifted c a d₀ d m k all out kept y =
+        sifted-near H (second-flow s f g x) (second-fits s f g x) w (r .neighbours) row l hl c a d₀ (replicate 32 0) d m (k .within) all out kept (λ h b t. let z = none-within 0 h b t in omega (arith, z)) y
+
     pub may-drop : (c d : List ℕ) → Contained G H v row → Sifted w l row c (replicate 32 0) d 0 256 → (e h : ℕ) → e < s .edges → T (labelled-into G (9 * v + l) e) → h < 256 → In d h → T (related G H ((edge G e) .from) h) → ⊥
     may-drop c d cont y e h he t b i z =
         let he′ : e < length (G .edges) = omega (arith, he, first-edges s f g x) in
@@ -263,6 +269,9 @@ module _ (s : Sizes) (f g : List ℕ) (x : Both s f g) where
       go : Dec (l ≡ n) → LabelMatched G H w′ v l row
       go (yes e) = subst (λ (k : ℕ). LabelMatched G H w′ v k row) (sym e) z
       go (no d) = label-kept G H (first-flow s f g x) (second-flow s f g x) (first-fits s f g x) (second-fits s f g x) (first-edges-fit s f g x) w w′ v l row y (m l (omega arith))
+
+  pub near-by : (w r c m : List ℕ) → Refining G H w → Preceded w r c m 0 256 → Preceding H r m
+  near-by w r c m y z = preceding-by G H (first-flow s f g x) (second-flow s f g x) (first-fits s f g x) (second-fits s f g x) (first-edges-fit s f g x) w r c m y z
 
   -- what is asked of a node, and what has an edge to what it has lost, stay while others lose
   pub met-first : (w : List ℕ) (v : ℕ) (r lost c m : List ℕ) → Refining G H w → ((h : ℕ) → h < 256 → has-bit lost 0 h ≡ (held w v h && not (has-bit r 0 h))) → Preceded w lost c m 0 256 → LostMet H w v r m

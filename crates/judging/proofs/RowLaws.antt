@@ -9,7 +9,7 @@ use native.Mathlib.Numerals.{add-one}
 use native.Mathlib.Omega.{arith}
 use lib.Bits.{bitOr, bitAnd}
 use lib.Dec.{T, ltb, ltb→lt, lt→ltb, T-not}
-use lib.ListN.{length, getD, replicate}
+use lib.ListN.{length, getD, replicate, getD-replicate}
 use Rattle.files.specs.Basics.Tests.{and-l, and-r, and-i, same-test, T-eq}
 use Rattle.files.specs.Cells.{has-bit, put-bit}
 use Rattle.files.specs.Cells.Laws.{bit-same, bit-other}
@@ -32,10 +32,10 @@ module _ (f : ℕ → ℕ) (l₀ l : List ℕ) (at k : ℕ) (all : 32 ≤ k) (b 
   written : (h : ℕ) → h < 256 → has-bit l at h ≡ lit (f (h / 8)) (h % 8)
   written = row-bits f l at (λ j m. b .0 j (omega arith))
 
-pub added-bits : (r₀ w : List ℕ) (at : ℕ) (r : List ℕ) (k : ℕ) → 32 ≤ k → Bytes (λ j. bitOr (getD r₀ j 0) (getD w (at + j) 0)) r₀ 0 k r
-    → (h : ℕ) → h < 256 → has-bit r 0 h ≡ (has-bit r₀ 0 h || has-bit w at h)
-added-bits r₀ w at r k all b h m =
-    written (λ j. bitOr (getD r₀ j 0) (getD w (at + j) 0)) r₀ r 0 k all b h m ∙ lit-or (getD r₀ (h / 8) 0) (getD w (at + h / 8) 0) (h % 8) ∙ ap₂ _||_ (sym (own-lit r₀ h)) (sym (row-lit w at h))
+pub joint-bits : (row w : List ℕ) (at : ℕ) (r₀ r : List ℕ) (k : ℕ) → 32 ≤ k → Bytes (λ j. bitOr (getD row j 0) (getD w (at + j) 0)) r₀ 0 k r
+    → (h : ℕ) → h < 256 → has-bit r 0 h ≡ (has-bit row 0 h || has-bit w at h)
+joint-bits row w at r₀ r k all b h m =
+    written (λ j. bitOr (getD row j 0) (getD w (at + j) 0)) r₀ r 0 k all b h m ∙ lit-or (getD row (h / 8) 0) (getD w (at + h / 8) 0) (h % 8) ∙ ap₂ _||_ (sym (own-lit row h)) (sym (row-lit w at h))
 
 pub copied-bits : (w : List ℕ) (at : ℕ) (r₀ r : List ℕ) (k : ℕ) → 32 ≤ k → Bytes (λ j. getD w (at + j) 0) r₀ 0 k r → (h : ℕ) → h < 256 → has-bit r 0 h ≡ has-bit w at h
 copied-bits w at r₀ r k all b h m = written (λ j. getD w (at + j) 0) r₀ r 0 k all b h m ∙ sym (row-lit w at h)
@@ -54,9 +54,17 @@ rest-bits row w at r₀ r k all b low h m =
     ∙ lit-and (getD w (at + h / 8) 0) (255 - getD row (h / 8) 0) (h % 8)
     ∙ ap₂ _&&_ (sym (row-lit w at h)) (lit-not (getD row (h / 8) 0) (h % 8) (low (h / 8) (omega arith)) (omega arith) ∙ ap not (sym (own-lit row h)))
 
-pub kept-bits : (other r₀ r : List ℕ) (k : ℕ) → 32 ≤ k → Bytes (λ j. bitAnd (getD r₀ j 0) (getD other j 0)) r₀ 0 k r → (h : ℕ) → h < 256 → has-bit r 0 h ≡ (has-bit r₀ 0 h && has-bit other 0 h)
-kept-bits other r₀ r k all b h m =
-    written (λ j. bitAnd (getD r₀ j 0) (getD other j 0)) r₀ r 0 k all b h m ∙ lit-and (getD r₀ (h / 8) 0) (getD other (h / 8) 0) (h % 8) ∙ ap₂ _&&_ (sym (own-lit r₀ h)) (sym (own-lit other h))
+pub common-bits : (row other r₀ r : List ℕ) (k : ℕ) → 32 ≤ k → Bytes (λ j. bitAnd (getD row j 0) (getD other j 0)) r₀ 0 k r → (h : ℕ) → h < 256 → has-bit r 0 h ≡ (has-bit row 0 h && has-bit other 0 h)
+common-bits row other r₀ r k all b h m =
+    written (λ j. bitAnd (getD row j 0) (getD other j 0)) r₀ r 0 k all b h m ∙ lit-and (getD row (h / 8) 0) (getD other (h / 8) 0) (h % 8) ∙ ap₂ _&&_ (sym (own-lit row h)) (sym (own-lit other h))
+
+-- ---- the row of all nodes
+
+pub full-bits : (x : ℕ) → x < 256 → T (has-bit (replicate 32 255) 0 x)
+full-bits x b =
+    subst T
+    (sym (own-lit (replicate 32 255) x ∙ ap (λ (n : ℕ). lit n (x % 8)) (getD-replicate 32 (x / 8) 255 0 (omega arith)) ∙ lit-not 0 (x % 8) (omega arith) (omega arith) ∙ ap not (lit-zero (x % 8))))
+    tt
 
 -- ---- a row of chosen nodes, one by one
 

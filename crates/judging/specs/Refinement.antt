@@ -120,6 +120,10 @@ pub record Preceded (w c m m′ : List ℕ) (a b : ℕ) : Type 0 where
 abbrev pub LostMet : Graph → List ℕ → ℕ → List ℕ → List ℕ → Type 0
 LostMet H w v r m = (h x : ℕ) → h < size H → x < 256 → T (held w v h) → (In r h → ⊥) → T (leads-to H h x) → In m x
 
+-- the row m has every node with an edge to a node that the row r has
+abbrev pub Preceding : Graph → List ℕ → List ℕ → Type 0
+Preceding H r m = (h x : ℕ) → h < size H → x < 256 → In r h → T (leads-to H h x) → In m x
+
 -- an edge of x with label l leads into the row r
 abbrev pub Meets : List ℕ → ℕ → List ℕ → ℕ → Type 0
 Meets w l r x = (y : ℕ) × (y < 256) × In r y × T (follows w x l y)

@@ -4,20 +4,22 @@
 ghost use mathlib.Core.Path.{_≡_};
 ghost use Prim.Native.Nat.{ℕ, _+_, _*_, _-_, _≤_, _<_};
 ghost use lib.Dec.{T};
-ghost use lib.ListN.{length};
+ghost use lib.ListN.{length, replicate};
 ghost use Rattle.files.specs.Access.{GraphFile};
 ghost use Rattle.files.specs.Cells.{has-bit};
 ghost use Rattle.files.specs.Decode.{decode-graph};
 ghost use Rattle.files.specs.Record.{count};
 ghost use Rattle.files.specs.Refusal.{nodes-of};
-ghost use Rattle.judging.specs.Refinement.{Both, rel, edge, labelled-into, Within, Preceded, Asked, Sifted, LostMet, Contained, Refining, Shrank, NodeMatched, LabelMatched};
+ghost use Rattle.judging.specs.Refinement.{Both, rel, edge, labelled-into, Within, Preceded, Preceding, Asked, Sifted, LostMet, Contained, Refining, Shrank, NodeMatched, LabelMatched};
 ghost use Rattle.judging.specs.Simulation.{related};
-use crate::rows::add_row;
 use crate::rows::any_at;
+use crate::rows::common;
 use crate::rows::drop_row;
-use crate::rows::keep_row;
 use crate::rows::meets;
+use crate::rows::row_at;
+use crate::rows::row_with;
 use crate::rows::row_without;
+use crate::rows::size_of_row;
 use crate::sizes::Sizes;
 use files::cells::get16;
 use files::cells::get32;
@@ -37,47 +39,68 @@ pub(crate) fn source_of(graph: &[u8], nodes: usize, e: usize) -> usize
     x.from
 }
 
-// Adds all that the sources of a slot's edges are related to.
-fn add_sources(first: &[u8], second: &[u8], s: Sizes, work: &[u8], slot: usize, found: &mut [u8])
-    requires { ⌜ (32 ≤ length (now found)) × ((Both s (now first) (now second)) × ((slot < 9 * s .nodes) × ((Refining (decode-graph (now first)) (decode-graph (now second)) (now work)) × (Within (s .nodes2) (now found))))) ⌝ }
-    ensures { λ _. ⌜ (Within (s .nodes2) (now (found .exit))) × ((e h : ℕ) → e < s .edges → T (labelled-into (decode-graph (now (first .entry))) slot e) → h < 256 → T (rel (now (work .entry)) ((edge (decode-graph (now (first .entry))) e) .from) h) → T (has-bit (now (found .exit)) 0 h)) ⌝ }
+// All that the sources of a slot's edges are related to.
+fn related_to_sources(first: &[u8], second: &[u8], s: Sizes, work: &[u8], slot: usize) -> [u8; LINE]
+    requires { ⌜ (Both s (now first) (now second)) × ((slot < 9 * s .nodes) × (Refining (decode-graph (now first)) (decode-graph (now second)) (now work))) ⌝ }
+    ensures { λ r. ⌜ (length r ≡ 32) × ((Within (s .nodes2) r) × ((e h : ℕ) → e < s .edges → T (labelled-into (decode-graph (now (first .entry))) slot e) → h < 256 → T (rel (now (work .entry)) ((edge (decode-graph (now (first .entry))) e) .from) h) → T (has-bit r 0 h))) ⌝ }
 {
+    let mut found = [0u8; LINE];
     let mut at = get16(work, Sizes::HEADS, slot) as usize;
     while at > 0 {
         let e = at - 1;
         let u = source_of(first, s.nodes, e);
-        add_row(found, work, LINE * u);
+        found = row_with(&found, work, LINE * u);
         at = get16(work, Sizes::NEXTS, e) as usize;
     }
+    found
 }
 
-// Adds the predecessors of those nodes of a row that stand in its word k.
-fn add_before_word(work: &[u8], nodes: &[u8], met: &mut [u8], k: usize)
-    requires { ⌜ ((32 ≤ length (now nodes)) × (32 ≤ length (now met))) × ((165152 ≤ length (now work)) × (k < 8)) ⌝ }
-    ensures { λ _. ⌜ Preceded (now (work .entry)) (now (nodes .entry)) (now (met .entry)) (now (met .exit)) (32 * k) (32 * k + 32) ⌝ }
+// A row together with the predecessors of those nodes of another that stand in its word k.
+fn with_predecessors(work: &[u8], nodes: &[u8], row: &[u8], k: usize) -> [u8; LINE]
+    requires { ⌜ ((32 ≤ length (now nodes)) × (32 ≤ length (now row))) × ((165152 ≤ length (now work)) × (k < 8)) ⌝ }
+    ensures { λ r. ⌜ (length r ≡ 32) × (Preceded (now (work .entry)) (now (nodes .entry)) (now (row .entry)) r (32 * k) (32 * k + 32)) ⌝ }
 {
+    let mut met = row_at(row, 0);
     let mut rest = get32(nodes, 0, k);
     while rest != 0 {
         let h = 32 * k + (u32::trailing_zeros(rest) as usize);
-        add_row(
-            met,
-            work,
-            Sizes::NEIGHBOURS + LINE * (Sizes::ROWS * h + Sizes::BEFORE),
-        );
+        let at = Sizes::NEIGHBOURS + LINE * (Sizes::ROWS * h + Sizes::BEFORE);
+        met = row_with(&met, work, at);
         rest = rest & (rest - 1);
     }
+    met
 }
 
-// The same for all nodes of the row.
-fn add_before(work: &[u8], nodes: &[u8], met: &mut [u8])
-    requires { ⌜ ((32 ≤ length (now nodes)) × (32 ≤ length (now met))) × (165152 ≤ length (now work)) ⌝ }
-    ensures { λ _. ⌜ Preceded (now (work .entry)) (now (nodes .entry)) (now (met .entry)) (now (met .exit)) 0 256 ⌝ }
+// The predecessors of all nodes of a row.
+fn predecessors(work: &[u8], nodes: &[u8]) -> [u8; LINE]
+    requires { ⌜ (32 ≤ length (now nodes)) × (165152 ≤ length (now work)) ⌝ }
+    ensures { λ r. ⌜ (length r ≡ 32) × (Preceded (now (work .entry)) (now (nodes .entry)) (replicate 32 0) r 0 256) ⌝ }
 {
+    let mut met = [0u8; LINE];
     let mut k = 0;
     while k < 8 {
-        add_before_word(work, nodes, met, k);
+        met = with_predecessors(work, nodes, &met, k);
         k += 1;
     }
+    met
+}
+
+// A row that has every node with an edge into this one: its predecessors, or just all nodes where those of what was lost are fewer to add.
+fn nodes_near(
+    first: &[u8],
+    second: &[u8],
+    s: Sizes,
+    work: &[u8],
+    row: &[u8],
+    lost: &[u8],
+) -> [u8; LINE]
+    requires { ⌜ ((32 ≤ length (now row)) × (32 ≤ length (now lost))) × ((Both s (now first) (now second)) × (Refining (decode-graph (now first)) (decode-graph (now second)) (now work))) ⌝ }
+    ensures { λ r. ⌜ (length r ≡ 32) × (Preceding (decode-graph (now (second .entry))) (now (row .entry)) r) ⌝ }
+{
+    if size_of_row(lost) < size_of_row(row) {
+        return [255u8; LINE];
+    }
+    predecessors(work, row)
 }
 
 // Adds node x, unless an edge of it with this label leads into the row.
@@ -140,7 +163,8 @@ pub(crate) fn drop_from(
     }
 }
 
-// Hands on the row of node v by one label: what the sources are related to may have lost its match where it has an edge into what v has lost.
+// Hands on the row of node v by one label: what the sources are related to may have lost its match where it has an edge into what v has lost. Nodes that are not near have no
+// edge into the row; the others are asked.
 fn hand_on_by(
     first: &[u8],
     second: &[u8],
@@ -150,19 +174,20 @@ fn hand_on_by(
     label: usize,
     row: &[u8],
     met: &[u8],
+    near: &[u8],
 )
-    requires { ⌜ ((32 ≤ length (now row)) × (32 ≤ length (now met))) × ((Both s (now first) (now second)) × ((v < s .nodes) × ((label < 9) × ((Refining (decode-graph (now first)) (decode-graph (now second)) (now work)) × (((NodeMatched (decode-graph (now first)) (decode-graph (now second)) (now work) v) × (LostMet (decode-graph (now second)) (now work) v (now row) (now met))) × (Contained (decode-graph (now first)) (decode-graph (now second)) v (now row))))))) ⌝ }
+    requires { ⌜ ((32 ≤ length (now row)) × ((32 ≤ length (now met)) × (32 ≤ length (now near)))) × ((Both s (now first) (now second)) × ((v < s .nodes) × ((label < 9) × ((Refining (decode-graph (now first)) (decode-graph (now second)) (now work)) × ((((NodeMatched (decode-graph (now first)) (decode-graph (now second)) (now work) v) × (LostMet (decode-graph (now second)) (now work) v (now row) (now met))) × (Preceding (decode-graph (now second)) (now row) (now near))) × (Contained (decode-graph (now first)) (decode-graph (now second)) v (now row))))))) ⌝ }
     ensures { λ _. ⌜ (Shrank (decode-graph (now (first .entry))) (decode-graph (now (second .entry))) (now (work .entry)) (now (work .exit))) × (LabelMatched (decode-graph (now (first .entry))) (decode-graph (now (second .entry))) (now (work .exit)) v label (now (row .entry))) ⌝ }
 {
     let slot = 9 * v + label;
     if get16(work, Sizes::HEADS, slot) == 0 {
         return;
     }
-    let mut found = [0u8; LINE];
-    add_sources(first, second, s, work, slot, &mut found);
-    keep_row(&mut found, met);
-    let mut gone = [0u8; LINE];
-    sift(work, label, row, &found, &mut gone);
+    let related = related_to_sources(first, second, s, work, slot);
+    let found = common(&related, met);
+    let mut gone = row_without(&found, 0, near);
+    let asked = common(&found, near);
+    sift(work, label, row, &asked, &mut gone);
     if !any_at(&gone, 0) {
         return;
     }
@@ -175,11 +200,11 @@ pub(crate) fn hand_on(first: &[u8], second: &[u8], s: Sizes, work: &mut [u8], v:
     ensures { λ _. ⌜ (Shrank (decode-graph (now (first .entry))) (decode-graph (now (second .entry))) (now (work .entry)) (now (work .exit))) × ((l : ℕ) → l < 9 → LabelMatched (decode-graph (now (first .entry))) (decode-graph (now (second .entry))) (now (work .exit)) v l (now (row .entry))) ⌝ }
 {
     let lost = row_without(work, Sizes::HELD + LINE * v, row);
-    let mut met = [0u8; LINE];
-    add_before(work, &lost, &mut met);
+    let met = predecessors(work, &lost);
+    let near = nodes_near(first, second, s, work, row, &lost);
     let mut label = 0;
     while label < 9 {
-        hand_on_by(first, second, s, work, v, label, row, &met);
+        hand_on_by(first, second, s, work, v, label, row, &met, &near);
         label += 1;
     }
 }

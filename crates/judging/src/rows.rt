@@ -1,4 +1,5 @@
-// Rows of 256 bits: taken out of a lent buffer and put back, one added to another or taken out of it, and whether a row has a bit of another, or a bit at all.
+// Rows of 256 bits: taken out of a lent buffer and put back, what two rows have together, in common or one without the other, and whether a row has a bit of another, or a
+// bit at all. A row that is made goes to the caller by value: stored byte by byte where it is read, it would have to be read byte by byte.
 ghost use mathlib.Core.Path.{_≡_};
 ghost use mathlib.Core.Bool.{false, not, _&&_, _||_};
 ghost use Prim.Native.Nat.{ℕ, _+_, _-_, _≤_, _<_};
@@ -7,6 +8,7 @@ ghost use lib.Dec.{T};
 ghost use lib.ListN.{length};
 ghost use Rattle.files.specs.Cells.{has-bit};
 ghost use Rattle.judging.specs.Chains.{Outside};
+use files::cells::get32;
 use files::cells::wide;
 use files::encode::LINE;
 
@@ -57,19 +59,35 @@ pub(crate) fn put_row(work: &mut [u8], at: usize, row: &[u8])
     }
 }
 
-// Adds the row from `at` on.
-pub(crate) fn add_row(row: &mut [u8], work: &[u8], at: usize)
+// A row and the row from `at` on together.
+pub(crate) fn row_with(row: &[u8], work: &[u8], at: usize) -> [u8; LINE]
     requires { ⌜ (at + 32 ≤ length (now work)) × (32 ≤ length (now row)) ⌝ }
-    ensures { λ _. ⌜ ((h : ℕ) → h < 256 → has-bit (now (row .exit)) 0 h ≡ (has-bit (now (row .entry)) 0 h || has-bit (now (work .entry)) at h)) ⌝ }
+    ensures { λ r. ⌜ (length r ≡ 32) × ((h : ℕ) → h < 256 → has-bit r 0 h ≡ (has-bit (now (row .entry)) 0 h || has-bit (now (work .entry)) at h)) ⌝ }
 {
+    let mut both = [0u8; LINE];
     let mut k = 0;
     while k < LINE {
-        row[k] = row[k] | work[at + k];
+        both[k] = row[k] | work[at + k];
         k += 1;
     }
+    both
 }
 
-// Takes a row out of the row from `at` on. What is left is made apart: stored byte by byte where it is read, it would have to be read byte by byte.
+// What two rows have in common.
+pub(crate) fn common(row: &[u8], other: &[u8]) -> [u8; LINE]
+    requires { ⌜ (32 ≤ length (now row)) × (32 ≤ length (now other)) ⌝ }
+    ensures { λ r. ⌜ (length r ≡ 32) × ((h : ℕ) → h < 256 → has-bit r 0 h ≡ (has-bit (now (row .entry)) 0 h && has-bit (now (other .entry)) 0 h)) ⌝ }
+{
+    let mut both = [0u8; LINE];
+    let mut k = 0;
+    while k < LINE {
+        both[k] = row[k] & other[k];
+        k += 1;
+    }
+    both
+}
+
+// Takes a row out of the row from `at` on.
 pub(crate) fn drop_row(work: &mut [u8], at: usize, row: &[u8])
     requires { ⌜ (at + 32 ≤ length (now work)) × (32 ≤ length (now row)) ⌝ }
     ensures { λ _. ⌜ ((h : ℕ) → h < 256 → has-bit (now (work .exit)) at h ≡ (has-bit (now (work .entry)) at h && not (has-bit (now (row .entry)) 0 h))) × (Outside at (at + 32) (now (work .entry)) (now (work .exit))) ⌝ }
@@ -120,14 +138,15 @@ pub(crate) fn exceeds(work: &[u8], at: usize, less: usize) -> bool
     wide(any) > 0
 }
 
-// Keeps of a row what another has too.
-pub(crate) fn keep_row(row: &mut [u8], other: &[u8])
-    requires { ⌜ (32 ≤ length (now row)) × (32 ≤ length (now other)) ⌝ }
-    ensures { λ _. ⌜ ((h : ℕ) → h < 256 → has-bit (now (row .exit)) 0 h ≡ (has-bit (now (row .entry)) 0 h && has-bit (now (other .entry)) 0 h)) ⌝ }
+// How many bits a row has. Nothing is stated of it: it only chooses between two ways to the same result.
+pub(crate) fn size_of_row(row: &[u8]) -> u32
+    requires { ⌜ 32 ≤ length (now row) ⌝ }
 {
+    let mut n = 0;
     let mut k = 0;
-    while k < LINE {
-        row[k] = row[k] & other[k];
+    while k < 8 {
+        n = n + u32::count_ones(get32(row, 0, k));
         k += 1;
     }
+    n
 }

@@ -2,23 +2,18 @@ use borrow.Author.Needs.{needs}
 use Rattle.exports.proofs.checked_answer.Statement.{statement}
 use Rattle.exports.proofs.checked_answer.Tie as tie
 
--- src/lib.rt:39:29
 enum-known-c : tie.Need-enum-known-c
 enum-known-c c = search needs
 
--- src/lib.rt:47:26
 enum-known-c-2 : tie.Need-enum-known-c-2
 enum-known-c-2 c = search needs
 
--- src/lib.rt:47:32
 refused-requires : tie.Need-refused-requires
 refused-requires c κs = search needs
 
--- src/lib.rt:35:1
 returns : tie.Need-returns
 returns c = rw (c .before .c .given .1)
 
--- src/lib.rt:35:1
 returns-2 : tie.Need-returns-2
 returns-2 c = rw (c .before .before .c2 .given .1) (c .refused .ensures)
 

@@ -2,31 +2,24 @@ use borrow.Author.Needs.{needs}
 use Rattle.exports.proofs.compared_answer.Statement.{statement}
 use Rattle.exports.proofs.compared_answer.Tie as tie
 
--- src/lib.rt:131:26
 enum-told : tie.Need-enum-told
 enum-told c = search needs
 
--- src/lib.rt:139:22
 enum-known-c : tie.Need-enum-known-c
 enum-known-c c = search needs
 
--- src/lib.rt:147:27
 enum-known-c-2 : tie.Need-enum-known-c-2
 enum-known-c-2 c = search needs
 
--- src/lib.rt:147:33
 refused-requires : tie.Need-refused-requires
 refused-requires c κs = search needs
 
--- src/lib.rt:127:1
 returns : tie.Need-returns
 returns c = rw (c .enum-told .given .1)
 
--- src/lib.rt:127:1
 returns-2 : tie.Need-returns-2
 returns-2 c = rw (c .before .c .given .1)
 
--- src/lib.rt:127:1
 returns-3 : tie.Need-returns-3
 returns-3 c = rw (c .before .before .c2 .given .1) (c .refused .ensures)
 

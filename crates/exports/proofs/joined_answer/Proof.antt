@@ -2,31 +2,24 @@ use borrow.Author.Needs.{needs}
 use Rattle.exports.proofs.joined_answer.Statement.{statement}
 use Rattle.exports.proofs.joined_answer.Tie as tie
 
--- src/lib.rt:207:13
 enum-known-j : tie.Need-enum-known-j
 enum-known-j c = search needs
 
--- src/lib.rt:216:20
 cast-t10 : tie.Need-cast-t10
 cast-t10 c = search needs
 
--- src/lib.rt:217:21
 cast-t11 : tie.Need-cast-t11
 cast-t11 c = search needs
 
--- src/lib.rt:219:25
 enum-known-j-2 : tie.Need-enum-known-j-2
 enum-known-j-2 c = search needs
 
--- src/lib.rt:219:31
 refused-requires : tie.Need-refused-requires
 refused-requires c κs = search needs
 
--- src/lib.rt:202:1
 returns : tie.Need-returns
 returns c = rw (c .before .j .given .1)
 
--- src/lib.rt:202:1
 returns-2 : tie.Need-returns-2
 returns-2 c = rw (c .before .before .j2 .given .1) (c .refused .ensures)
 

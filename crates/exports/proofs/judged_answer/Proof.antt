@@ -2,31 +2,24 @@ use borrow.Author.Needs.{needs}
 use Rattle.exports.proofs.judged_answer.Statement.{statement}
 use Rattle.exports.proofs.judged_answer.Tie as tie
 
--- src/lib.rt:91:26
 enum-told : tie.Need-enum-told
 enum-told c = search needs
 
--- src/lib.rt:99:23
 enum-known-j : tie.Need-enum-known-j
 enum-known-j c = search needs
 
--- src/lib.rt:107:25
 enum-known-j-2 : tie.Need-enum-known-j-2
 enum-known-j-2 c = search needs
 
--- src/lib.rt:107:31
 refused-requires : tie.Need-refused-requires
 refused-requires c κs = search needs
 
--- src/lib.rt:87:1
 returns : tie.Need-returns
 returns c = rw (c .enum-told .given .1)
 
--- src/lib.rt:87:1
 returns-2 : tie.Need-returns-2
 returns-2 c = rw (c .before .j .given .1)
 
--- src/lib.rt:87:1
 returns-3 : tie.Need-returns-3
 returns-3 c = rw (c .before .before .j2 .given .1) (c .refused .ensures)
 

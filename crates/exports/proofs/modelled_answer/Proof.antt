@@ -2,23 +2,18 @@ use borrow.Author.Needs.{needs}
 use Rattle.exports.proofs.modelled_answer.Statement.{statement}
 use Rattle.exports.proofs.modelled_answer.Tie as tie
 
--- src/lib.rt:170:27
 enum-known-m : tie.Need-enum-known-m
 enum-known-m c = search needs
 
--- src/lib.rt:178:27
 enum-known-m-2 : tie.Need-enum-known-m-2
 enum-known-m-2 c = search needs
 
--- src/lib.rt:178:33
 refused-requires : tie.Need-refused-requires
 refused-requires c κs = search needs
 
--- src/lib.rt:166:1
 returns : tie.Need-returns
 returns c = rw (c .before .m .given .1)
 
--- src/lib.rt:166:1
 returns-2 : tie.Need-returns-2
 returns-2 c = rw (c .before .before .m2 .given .1) (c .refused .ensures)
 

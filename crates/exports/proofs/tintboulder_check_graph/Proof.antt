@@ -2,19 +2,15 @@ use borrow.Author.Needs.{needs}
 use Rattle.exports.proofs.tintboulder_check_graph.Statement.{statement}
 use Rattle.exports.proofs.tintboulder_check_graph.Tie as tie
 
--- src/lib.rt:56:55
 desk-requires : tie.Need-desk-requires
 desk-requires c κs = search needs
 
--- src/lib.rt:56:20
 check-graph-requires : tie.Need-check-graph-requires
 check-graph-requires c κs = search needs
 
--- src/lib.rt:56:5
 checked-answer-requires : tie.Need-checked-answer-requires
 checked-answer-requires c κs = search needs
 
--- src/lib.rt:52:1
 returns : tie.Need-returns
 returns c = rw (c .checked-answer .ensures, c .before .check-graph .ensures, c .before .before .desk .ensures)
 

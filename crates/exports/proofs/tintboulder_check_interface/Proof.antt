@@ -2,19 +2,15 @@ use borrow.Author.Needs.{needs}
 use Rattle.exports.proofs.tintboulder_check_interface.Statement.{statement}
 use Rattle.exports.proofs.tintboulder_check_interface.Tie as tie
 
--- src/lib.rt:80:59
 desk-requires : tie.Need-desk-requires
 desk-requires c κs = search needs
 
--- src/lib.rt:80:20
 check-interface-requires : tie.Need-check-interface-requires
 check-interface-requires c κs = search needs
 
--- src/lib.rt:80:5
 checked-answer-requires : tie.Need-checked-answer-requires
 checked-answer-requires c κs = search needs
 
--- src/lib.rt:76:1
 returns : tie.Need-returns
 returns c = rw (c .checked-answer .ensures, c .before .check-interface .ensures, c .before .before .desk .ensures)
 

@@ -2,19 +2,15 @@ use borrow.Author.Needs.{needs}
 use Rattle.exports.proofs.tintboulder_check_property.Statement.{statement}
 use Rattle.exports.proofs.tintboulder_check_property.Tie as tie
 
--- src/lib.rt:64:58
 desk-requires : tie.Need-desk-requires
 desk-requires c κs = search needs
 
--- src/lib.rt:64:20
 check-property-requires : tie.Need-check-property-requires
 check-property-requires c κs = search needs
 
--- src/lib.rt:64:5
 checked-answer-requires : tie.Need-checked-answer-requires
 checked-answer-requires c κs = search needs
 
--- src/lib.rt:60:1
 returns : tie.Need-returns
 returns c = rw (c .checked-answer .ensures, c .before .check-property .ensures, c .before .before .desk .ensures)
 

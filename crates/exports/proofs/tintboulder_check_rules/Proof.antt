@@ -2,19 +2,15 @@ use borrow.Author.Needs.{needs}
 use Rattle.exports.proofs.tintboulder_check_rules.Statement.{statement}
 use Rattle.exports.proofs.tintboulder_check_rules.Tie as tie
 
--- src/lib.rt:72:55
 desk-requires : tie.Need-desk-requires
 desk-requires c κs = search needs
 
--- src/lib.rt:72:20
 check-rules-requires : tie.Need-check-rules-requires
 check-rules-requires c κs = search needs
 
--- src/lib.rt:72:5
 checked-answer-requires : tie.Need-checked-answer-requires
 checked-answer-requires c κs = search needs
 
--- src/lib.rt:68:1
 returns : tie.Need-returns
 returns c = rw (c .checked-answer .ensures, c .before .check-rules .ensures, c .before .before .desk .ensures)
 

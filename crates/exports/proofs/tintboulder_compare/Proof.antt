@@ -4,23 +4,18 @@ use borrow.Author.Needs.{needs}
 use Rattle.exports.proofs.tintboulder_compare.Statement.{statement}
 use Rattle.exports.proofs.tintboulder_compare.Tie as tie
 
--- src/lib.rt:161:21
 compare-requires : tie.Need-compare-requires
 compare-requires c κs = search needs
 
--- src/lib.rt:161:5
 compared-answer-requires : tie.Need-compared-answer-requires
 compared-answer-requires c κs = search needs
 
--- src/lib.rt:152:1
 same-length : tie.Need-same-length
 same-length c = search needs
 
--- src/lib.rt:152:1
 same-length-2 : tie.Need-same-length-2
 same-length-2 c = search needs
 
--- src/lib.rt:152:1
 returns : tie.Need-returns
 returns c = let j = c .before .before .before .before .before .compare in record { numbers-are = c .compared-answer .ensures ∙ ap answer-numbers (j .ensures .answers .answer-is); out-is = j .ensures .answers .out-is; work-is = j .ensures .work-is }
 

@@ -4,19 +4,15 @@ use borrow.Author.Needs.{needs}
 use Rattle.exports.proofs.tintboulder_join.Statement.{statement}
 use Rattle.exports.proofs.tintboulder_join.Tie as tie
 
--- src/lib.rt:234:19
 join-requires : tie.Need-join-requires
 join-requires c κs = search needs
 
--- src/lib.rt:234:5
 joined-answer-requires : tie.Need-joined-answer-requires
 joined-answer-requires c κs = search needs
 
--- src/lib.rt:224:1
 same-length : tie.Need-same-length
 same-length c = search needs
 
--- src/lib.rt:224:1
 returns : tie.Need-returns
 returns c =
     let j = c .before .before .before .join in

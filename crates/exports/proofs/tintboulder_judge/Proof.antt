@@ -4,23 +4,18 @@ use borrow.Author.Needs.{needs}
 use Rattle.exports.proofs.tintboulder_judge.Statement.{statement}
 use Rattle.exports.proofs.tintboulder_judge.Tie as tie
 
--- src/lib.rt:121:19
 judge-requires : tie.Need-judge-requires
 judge-requires c κs = search needs
 
--- src/lib.rt:121:5
 judged-answer-requires : tie.Need-judged-answer-requires
 judged-answer-requires c κs = search needs
 
--- src/lib.rt:112:1
 same-length : tie.Need-same-length
 same-length c = search needs
 
--- src/lib.rt:112:1
 same-length-2 : tie.Need-same-length-2
 same-length-2 c = search needs
 
--- src/lib.rt:112:1
 returns : tie.Need-returns
 returns c = let j = c .before .before .before .before .before .judge in record { numbers-are = c .judged-answer .ensures ∙ ap answer-numbers (j .ensures .answers .answer-is); out-is = j .ensures .answers .out-is; work-is = j .ensures .work-is }
 

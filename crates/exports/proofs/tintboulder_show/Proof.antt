@@ -11,31 +11,24 @@ use borrow.Author.Needs.{needs}
 use Rattle.exports.proofs.tintboulder_show.Statement.{statement}
 use Rattle.exports.proofs.tintboulder_show.Tie as tie
 
--- src/lib.rt:247:11
 show-refusal-requires : tie.Need-show-refusal-requires
 show-refusal-requires c κs = search needs
 
--- src/lib.rt:248:24
 enum-known-r : tie.Need-enum-known-r
 enum-known-r c = search needs
 
--- src/lib.rt:248:30
 refused-requires : tie.Need-refused-requires
 refused-requires c κs = search needs
 
--- src/lib.rt:250:16
 enum-told : tie.Need-enum-told
 enum-told c = search needs
 
--- src/lib.rt:251:32
 whole-requires : tie.Need-whole-requires
 whole-requires c κs = search needs
 
--- src/lib.rt:251:17
 refused-requires-2 : tie.Need-refused-requires-2
 refused-requires-2 c κs = search needs
 
--- src/lib.rt:251:17
 returns : tie.Need-returns
 returns c =
     let k = c .before .before .before .before .before .before .before .before .before .args in
@@ -45,11 +38,9 @@ returns c =
     short-given (shown desk (k .graph1 .now) (k .graph2 .now) (k .number)) (k .out .now) (show-said desk (k .graph1 .now) (k .graph2 .now) (k .number)) (p .0) (w .result) _
     (omega (arith, p .1, c .before .before .if1 .taken)) (w .ensures) (c .refused2 .ensures)
 
--- src/lib.rt:253:29
 show-requires : tie.Need-show-requires
 show-requires c κs = search needs
 
--- src/lib.rt:253:13
 copy-at-requires : tie.Need-copy-at-requires
 copy-at-requires c κs =
     let k = c .before .before .before .before .before .before .before .before .before .args in
@@ -57,7 +48,6 @@ copy-at-requires c κs =
     let p = part-answered desk (k .graph1 .now) (k .graph2 .now) (k .number) (f .result) (f .ensures) (c .before .before .before .enum-told .given .1) in
     omega (arith, p .1, ap length (c .show .ensures ∙ ap written-of (p .0)), c .before .before .if1 .left)
 
--- src/lib.rt:238:1
 returns-2 : tie.Need-returns-2
 returns-2 c =
     let k = c .before .before .before .before .before .before .before .before .args in
@@ -66,11 +56,9 @@ returns-2 c =
     refused-given (shown desk (k .graph1 .now) (k .graph2 .now) (k .number)) (k .out .now) (x .0 .0) _
     (refusal-answered desk (k .graph1 .now) (k .graph2 .now) (k .number) (f .result) (f .ensures) (x .0 .0) (x .1)) (c .refused .ensures)
 
--- src/lib.rt:238:1
 same-length : tie.Need-same-length
 same-length c = search needs
 
--- src/lib.rt:238:1
 returns-3 : tie.Need-returns-3
 returns-3 c =
     let k = c .before .before .before .before .before .before .before .before .before .before .before .before .args in

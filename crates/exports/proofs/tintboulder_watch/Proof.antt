@@ -4,23 +4,18 @@ use borrow.Author.Needs.{needs}
 use Rattle.exports.proofs.tintboulder_watch.Statement.{statement}
 use Rattle.exports.proofs.tintboulder_watch.Tie as tie
 
--- src/lib.rt:306:20
 watch-requires : tie.Need-watch-requires
 watch-requires c κs = search needs
 
--- src/lib.rt:306:5
 watched-answer-requires : tie.Need-watched-answer-requires
 watched-answer-requires c κs = search needs
 
--- src/lib.rt:296:1
 same-length : tie.Need-same-length
 same-length c = search needs
 
--- src/lib.rt:296:1
 same-length-2 : tie.Need-same-length-2
 same-length-2 c = search needs
 
--- src/lib.rt:296:1
 returns : tie.Need-returns
 returns c =
     let j = c .before .before .before .before .before .watch in

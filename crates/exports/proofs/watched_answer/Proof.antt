@@ -2,31 +2,24 @@ use borrow.Author.Needs.{needs}
 use Rattle.exports.proofs.watched_answer.Statement.{statement}
 use Rattle.exports.proofs.watched_answer.Tie as tie
 
--- src/lib.rt:274:27
 enum-told : tie.Need-enum-told
 enum-told c = search needs
 
--- src/lib.rt:282:22
 enum-known-v : tie.Need-enum-known-v
 enum-known-v c = search needs
 
--- src/lib.rt:290:26
 enum-known-v-2 : tie.Need-enum-known-v-2
 enum-known-v-2 c = search needs
 
--- src/lib.rt:290:32
 refused-requires : tie.Need-refused-requires
 refused-requires c κs = search needs
 
--- src/lib.rt:270:1
 returns : tie.Need-returns
 returns c = rw (c .enum-told .given .1)
 
--- src/lib.rt:270:1
 returns-2 : tie.Need-returns-2
 returns-2 c = rw (c .before .v .given .1)
 
--- src/lib.rt:270:1
 returns-3 : tie.Need-returns-3
 returns-3 c = rw (c .before .before .v2 .given .1) (c .refused .ensures)
 

@@ -7,23 +7,18 @@ use borrow.Author.Needs.{needs}
 use Rattle.judging.proofs.compare.Statement.{statement}
 use Rattle.judging.proofs.compare.Tie as tie
 
--- src/lib.rt:39:56
 desk-requires : tie.Need-desk-requires
 desk-requires c κs = search needs
 
--- src/lib.rt:39:5
 compare-within-requires : tie.Need-compare-within-requires
 compare-within-requires c κs = desk-strides (c .desk .result) (c .desk .ensures)
 
--- src/lib.rt:36:1
 same-length : tie.Need-same-length
 same-length c = search needs
 
--- src/lib.rt:36:1
 same-length-2 : tie.Need-same-length-2
 same-length-2 c = search needs
 
--- src/lib.rt:36:1
 returns : tie.Need-returns
 returns c = let k = c .before .before .before .before .before .before .before .before .before .before .before .before in
     let j = c .before .before .before .before .compare-within in

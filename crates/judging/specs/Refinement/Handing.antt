@@ -15,7 +15,7 @@ use Rattle.files.specs.Cells.Laws.{bit-byte, cell-agree}
 use Rattle.files.specs.Graph.{Graph, Edge, size, no-edge, Flow}
 use Rattle.judging.specs.Chains.{Outside}
 use Rattle.judging.specs.Chains.Laws.{chained-same}
-use Rattle.judging.specs.Refinement.{rel, held, edge, neighbour, follows, comes, labelled-into, Reaches, Neighbours, In, Within, Preceded, LostMet, Meets, Sifted, Refining, Shrank, Contained, LabelMatched, NodeMatched, Leading, Candidates}
+use Rattle.judging.specs.Refinement.{rel, held, edge, neighbour, follows, comes, labelled-into, Reaches, Neighbours, In, Within, Preceded, Preceding, LostMet, Meets, Sifted, Refining, Shrank, Contained, LabelMatched, NodeMatched, Leading, Candidates}
 use Rattle.judging.specs.Refinement.Preparing.{leads-into-i, leads-into-e, leads-to-i}
 use Rattle.judging.specs.Refinement.Files.{from-in, to-in}
 use Rattle.judging.specs.Simulation.{related}
@@ -62,6 +62,26 @@ module _ (H : Graph) (fk : Flow H) (fh : size H ≤ 256) (w : List ℕ) (near : 
       let y = (edge H (d .0)) .to in
       let b : y < size H = to-in H fk (d .0) (d .1) in
       (y, omega (arith, b), d .4, subst T (sym (near .successors h l y hh hl (omega (arith, b)))) (leads-into-i H y l h (d .0, d .1, d .2, d .3, refl)))
+
+  -- where a row m has every node with an edge into the row, nodes of a that it has not are without a match, and the others are asked
+  pub sifted-near : (a c d₀ z d m : List ℕ) → Within (size H) a → Preceding H r m → ((x : ℕ) → x < 256 → has-bit d₀ 0 x ≡ (has-bit a 0 x && not (has-bit m 0 x)))
+      → ((x : ℕ) → x < 256 → has-bit c 0 x ≡ (has-bit a 0 x && has-bit m 0 x)) → ((x : ℕ) → x < 256 → In z x → ⊥) → Sifted w l r c d₀ d 0 256 → Sifted w l r a z d 0 256
+  sifted-near a c d₀ z d m inside all out kept none s = record { grown = λ x b t. absurd (none x b t); unmet = λ x b t. inr (go x b (s .unmet x b t)); met = λ x p b t f. asked x b t f (has-bit m 0 x) refl }
+    where
+      with-match : (x : ℕ) → x < size H → Meets w l r x → In m x
+      with-match x hx k =
+          let e = leads-into-e H (k .0) l x (subst T (near .successors x l (k .0) hx hl (k .1)) (k .3)) in
+          all (k .0) x (omega (arith, to-in H fk (e .0) (e .1), e .4)) (omega arith) (k .2) (leads-to-i H (k .0) x (e .0, e .1, e .2, e .4))
+
+      go : (x : ℕ) → x < 256 → In d₀ x ⊎ (Meets w l r x → ⊥) → Meets w l r x → ⊥
+      go x b (inr f) k = f k
+      go x b (inl t) k =
+          let i = subst T (out x b) t in
+          T-not (has-bit m 0 x) (and-r (has-bit a 0 x) (not (has-bit m 0 x)) i) (with-match x (inside x b (and-l (has-bit a 0 x) (not (has-bit m 0 x)) i)) k)
+
+      asked : (x : ℕ) → x < 256 → In a x → (In d x → ⊥) → (q : Bool) → has-bit m 0 x ≡ q → Meets w l r x
+      asked x b t f true e = s .met x (omega arith) b (subst T (sym (kept x b)) (and-i (has-bit a 0 x) (has-bit m 0 x) t (subst T (sym e) tt))) f
+      asked x b t f false e = absurd (f (s .grown x b (subst T (sym (out x b)) (and-i (has-bit a 0 x) (not (has-bit m 0 x)) t (subst (λ (q : Bool). T (not q)) (sym e) tt)))))
 
 -- ---- dropping
 
@@ -178,10 +198,14 @@ module _ (G H : Graph) (fl : Flow G) (fk : Flow H) (fg : size G ≤ 256) (fh : s
 
   -- ---- candidates
 
-  -- what has an edge to what v has lost, by the rows of predecessors
+  -- what has an edge into a row, by the rows of predecessors
+  pub preceding-by : (w r c m : List ℕ) → Refining G H w → Preceded w r c m 0 256 → Preceding H r m
+  preceding-by w r c m x y h k hh hk t u = y .added h k (omega arith) (omega arith) hk t (subst T (sym (x .neighbours .predecessors h k hh hk)) u)
+
+  -- what has an edge to what v has lost
   pub lost-met : (w : List ℕ) (v : ℕ) (r lost c m : List ℕ) → Refining G H w → ((h : ℕ) → h < 256 → has-bit lost 0 h ≡ (held w v h && not (has-bit r 0 h))) → Preceded w lost c m 0 256 → LostMet H w v r m
   lost-met w v r lost c m x bits y h k hh hk t f u =
-      y .added h k (omega arith) (omega arith) hk (subst T (sym (bits h (omega arith))) (and-i (held w v h) (not (has-bit r 0 h)) t (off (has-bit r 0 h) f))) (subst T (sym (x .neighbours .predecessors h k hh hk)) u)
+      preceding-by w lost c m x y h k hh hk (subst T (sym (bits h (omega arith))) (and-i (held w v h) (not (has-bit r 0 h)) t (off (has-bit r 0 h) f))) u
     where
       off : (p : Bool) → (T p → ⊥) → T (not p)
       off true g = absurd (g tt)

@@ -5,23 +5,18 @@ use borrow.Author.Needs.{needs}
 use Rattle.maximal.proofs.model.Statement.{statement}
 use Rattle.maximal.proofs.model.Tie as tie
 
--- src/lib.rt:24:57
 desk-requires : tie.Need-desk-requires
 desk-requires c κs = search needs
 
--- src/lib.rt:24:5
 model-within-requires : tie.Need-model-within-requires
 model-within-requires c κs = desk-bounded (c .desk .result) (c .desk .ensures)
 
--- src/lib.rt:21:1
 same-length : tie.Need-same-length
 same-length c = search needs
 
--- src/lib.rt:21:1
 same-length-2 : tie.Need-same-length-2
 same-length-2 c = search needs
 
--- src/lib.rt:21:1
 returns : tie.Need-returns
 returns c = let k = c .before .before .before .before .before .before .before .before .before .before .before .before in let j = c .before .before .before .before .model-within in does-desk (c .before .before .before .before .before .desk .result) (k .args .interface .now) (k .args .property .now) (k .args .out .now) (k .args .work .now) (j .last .1 .1 .0) (j .last .1 .1 .1 .0) (modelled-answer (j .result)) (c .before .before .before .before .before .desk .ensures) (j .ensures)
 

@@ -6,27 +6,21 @@ use borrow.Author.Needs.{needs}
 use Rattle.runs.proofs.compose.Statement.{statement}
 use Rattle.runs.proofs.compose.Tie as tie
 
--- src/lib.rt:100:9
 desk-requires : tie.Need-desk-requires
 desk-requires c κs = search needs
 
--- src/lib.rt:90:5
 compose-within-requires : tie.Need-compose-within-requires
 compose-within-requires c κs = (desk-strides (c .desk .result) (c .desk .ensures), desk-bounded (c .desk .result) (c .desk .ensures))
 
--- src/lib.rt:77:1
 same-length : tie.Need-same-length
 same-length c = search needs
 
--- src/lib.rt:77:1
 same-length-2 : tie.Need-same-length-2
 same-length-2 c = search needs
 
--- src/lib.rt:77:1
 same-length-3 : tie.Need-same-length-3
 same-length-3 c = search needs
 
--- src/lib.rt:77:1
 returns : tie.Need-returns
 returns c =
     let a = c .before .before .before .before .before .before .before .before .before .before .before .before .before .before .before .before .before .before .before .args in

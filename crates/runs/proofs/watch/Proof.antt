@@ -5,23 +5,18 @@ use Rattle.runs.specs.Watching.Steps.{does-desk}
 use Rattle.runs.proofs.watch.Statement.{statement}
 use Rattle.runs.proofs.watch.Tie as tie
 
--- src/lib.rt:72:71
 desk-requires : tie.Need-desk-requires
 desk-requires c κs = search needs
 
--- src/lib.rt:72:5
 watch-within-requires : tie.Need-watch-within-requires
 watch-within-requires c κs = desk-strides (c .desk .result) (c .desk .ensures)
 
--- src/lib.rt:62:1
 same-length : tie.Need-same-length
 same-length c = search needs
 
--- src/lib.rt:62:1
 same-length-2 : tie.Need-same-length-2
 same-length-2 c = search needs
 
--- src/lib.rt:62:1
 returns : tie.Need-returns
 returns c =
     let k = c .before .before .before .before .before .before .before .before .before .before .before .before .before in

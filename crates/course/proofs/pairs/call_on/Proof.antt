@@ -5,135 +5,102 @@ use borrow.Author.Needs.{needs}
 use Rattle.course.proofs.pairs.call_on.Statement.{statement}
 use Rattle.course.proofs.pairs.call_on.Tie as tie
 
--- src/main.rt:219:52
 slice-relend-prefix-judge : tie.Need-slice-relend-prefix-judge
 slice-relend-prefix-judge c = search needs
 
--- src/main.rt:219:52
 slice-aggregate-judge : tie.Need-slice-aggregate-judge
 slice-aggregate-judge c = sym (length-take-le (c .before .before .before .before .before .before .args .room) (c .before .before .before .before .before .before .args .out .now) (c .before .before .before .before .before .before .pre .0))
 
--- src/main.rt:219:70
 slice-relend-prefix-judge-2 : tie.Need-slice-relend-prefix-judge-2
 slice-relend-prefix-judge-2 c = search needs
 
--- src/main.rt:219:70
 slice-aggregate-judge-2 : tie.Need-slice-aggregate-judge-2
 slice-aggregate-judge-2 c = sym (length-take-le (c .before .before .before .before .before .before .before .args .lent) (c .before .before .before .before .before .before .before .args .work .now) (c .before .before .before .before .before .before .before .pre .1))
 
--- src/main.rt:219:13
 judge-requires : tie.Need-judge-requires
 judge-requires c κs = search needs
 
--- src/main.rt:220:28
 slice-reshare-prefix-say-judged : tie.Need-slice-reshare-prefix-say-judged
 slice-reshare-prefix-say-judged c = search needs
 
--- src/main.rt:220:28
 slice-aggregate-say-judged : tie.Need-slice-aggregate-say-judged
 slice-aggregate-say-judged c = sym (length-take-le (c .before .before .before .before .before .before .before .before .before .before .before .before .before .args .room) _ (omega arith))
 
--- src/main.rt:220:9
 say-judged-requires : tie.Need-say-judged-requires
 say-judged-requires c κs = search needs
 
--- src/main.rt:221:9
 same-length : tie.Need-same-length
 same-length c = search needs
 
--- src/main.rt:221:9
 same-length-2 : tie.Need-same-length-2
 same-length-2 c = search needs
 
--- src/main.rt:221:9
 returns : tie.Need-returns
 returns c = search needs
 
--- src/main.rt:224:52
 slice-relend-prefix-model : tie.Need-slice-relend-prefix-model
 slice-relend-prefix-model c = search needs
 
--- src/main.rt:224:52
 slice-aggregate-model : tie.Need-slice-aggregate-model
 slice-aggregate-model c = sym (length-take-le (c .before .before .before .before .before .before .before .args .room) (c .before .before .before .before .before .before .before .args .out .now) (c .before .before .before .before .before .before .before .pre .0))
 
--- src/main.rt:224:70
 slice-relend-prefix-model-2 : tie.Need-slice-relend-prefix-model-2
 slice-relend-prefix-model-2 c = search needs
 
--- src/main.rt:224:70
 slice-aggregate-model-2 : tie.Need-slice-aggregate-model-2
 slice-aggregate-model-2 c = sym (length-take-le (c .before .before .before .before .before .before .before .before .args .lent) (c .before .before .before .before .before .before .before .before .args .work .now) (c .before .before .before .before .before .before .before .before .pre .1))
 
--- src/main.rt:224:13
 model-requires : tie.Need-model-requires
 model-requires c κs = search needs
 
--- src/main.rt:225:30
 slice-reshare-prefix-say-modelled : tie.Need-slice-reshare-prefix-say-modelled
 slice-reshare-prefix-say-modelled c = search needs
 
--- src/main.rt:225:30
 slice-aggregate-say-modelled : tie.Need-slice-aggregate-say-modelled
 slice-aggregate-say-modelled c = sym (length-take-le (c .before .before .before .before .before .before .before .before .before .before .before .before .before .before .args .room) _ (omega arith))
 
--- src/main.rt:225:9
 say-modelled-requires : tie.Need-say-modelled-requires
 say-modelled-requires c κs = search needs
 
--- src/main.rt:226:9
 same-length-3 : tie.Need-same-length-3
 same-length-3 c = search needs
 
--- src/main.rt:226:9
 same-length-4 : tie.Need-same-length-4
 same-length-4 c = search needs
 
--- src/main.rt:226:9
 returns-2 : tie.Need-returns-2
 returns-2 c = search needs
 
--- src/main.rt:228:50
 slice-relend-prefix-compare : tie.Need-slice-relend-prefix-compare
 slice-relend-prefix-compare c = search needs
 
--- src/main.rt:228:50
 slice-aggregate-compare : tie.Need-slice-aggregate-compare
 slice-aggregate-compare c = sym (length-take-le (c .before .before .before .before .before .before .before .args .room) (c .before .before .before .before .before .before .before .args .out .now) (c .before .before .before .before .before .before .before .pre .0))
 
--- src/main.rt:228:68
 slice-relend-prefix-compare-2 : tie.Need-slice-relend-prefix-compare-2
 slice-relend-prefix-compare-2 c = search needs
 
--- src/main.rt:228:68
 slice-aggregate-compare-2 : tie.Need-slice-aggregate-compare-2
 slice-aggregate-compare-2 c = sym (length-take-le (c .before .before .before .before .before .before .before .before .args .lent) (c .before .before .before .before .before .before .before .before .args .work .now) (c .before .before .before .before .before .before .before .before .pre .1))
 
--- src/main.rt:228:9
 compare-requires : tie.Need-compare-requires
 compare-requires c κs = search needs
 
--- src/main.rt:229:26
 slice-reshare-prefix-say-compared : tie.Need-slice-reshare-prefix-say-compared
 slice-reshare-prefix-say-compared c = search needs
 
--- src/main.rt:229:26
 slice-aggregate-say-compared : tie.Need-slice-aggregate-say-compared
 slice-aggregate-say-compared c = sym (length-take-le (c .before .before .before .before .before .before .before .before .before .before .before .before .before .before .args .room) _ (omega arith))
 
--- src/main.rt:229:5
 say-compared-requires : tie.Need-say-compared-requires
 say-compared-requires c κs = search needs
 
--- src/main.rt:207:1
 same-length-5 : tie.Need-same-length-5
 same-length-5 c = search needs
 
--- src/main.rt:207:1
 same-length-6 : tie.Need-same-length-6
 same-length-6 c = search needs
 
--- src/main.rt:207:1
 returns-3 : tie.Need-returns-3
 returns-3 c = search needs
 

@@ -5,52 +5,41 @@ use borrow.Author.Needs.{needs}
 use Rattle.course.proofs.watched.watch_on.Statement.{statement}
 use Rattle.course.proofs.watched.watch_on.Tie as tie
 
--- src/main.rt:386:9
 slice-relend-prefix-watch : tie.Need-slice-relend-prefix-watch
 slice-relend-prefix-watch c = search needs
 
--- src/main.rt:386:9
 slice-aggregate-watch : tie.Need-slice-aggregate-watch
 slice-aggregate-watch c =
     let a = c .before .before .before .before .before .before in
     sym (length-take-le (a .args .room) (a .args .out .now) (a .pre .0))
 
--- src/main.rt:387:9
 slice-relend-prefix-watch-2 : tie.Need-slice-relend-prefix-watch-2
 slice-relend-prefix-watch-2 c = search needs
 
--- src/main.rt:387:9
 slice-aggregate-watch-2 : tie.Need-slice-aggregate-watch-2
 slice-aggregate-watch-2 c =
     let a = c .before .before .before .before .before .before .before in
     sym (length-take-le (a .args .lent) (a .args .work .now) (a .pre .1))
 
--- src/main.rt:381:9
 watch-requires : tie.Need-watch-requires
 watch-requires c κs = search needs
 
--- src/main.rt:389:25
 slice-reshare-prefix-say-watched : tie.Need-slice-reshare-prefix-say-watched
 slice-reshare-prefix-say-watched c = search needs
 
--- src/main.rt:389:25
 slice-aggregate-say-watched : tie.Need-slice-aggregate-say-watched
 slice-aggregate-say-watched c =
     sym (length-take-le (c .before .before .before .before .before .before .before .before .before .before .before .before .before .args .room) _ (omega arith))
 
--- src/main.rt:389:5
 say-watched-requires : tie.Need-say-watched-requires
 say-watched-requires c κs = search needs
 
--- src/main.rt:369:1
 same-length : tie.Need-same-length
 same-length c = search needs
 
--- src/main.rt:369:1
 same-length-2 : tie.Need-same-length-2
 same-length-2 c = search needs
 
--- src/main.rt:369:1
 returns : tie.Need-returns
 returns c = search needs
 

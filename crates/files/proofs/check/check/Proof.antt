@@ -8,19 +8,15 @@ use borrow.Author.Needs.{needs}
 use Rattle.files.proofs.check.check.Statement.{statement}
 use Rattle.files.proofs.check.check.Tie as tie
 
--- src/check.rt:121:9
 from-two-requires : tie.Need-from-two-requires
 from-two-requires c κs = omega arith
 
--- src/check.rt:121:9
 returns : tie.Need-returns
 returns c = c .from-two .ensures ∙ one-whole (c .before .before .before .args .limits) (kind-of (c .before .before .before .args .kind)) (c .before .before .before .args .file .now) 0 (c .before .before .before .args .position) (eq-eqb _ _ (c .before .if1 .taken))
 
--- src/check.rt:123:22
 at-requires : tie.Need-at-requires
 at-requires c κs = search needs
 
--- src/check.rt:117:1
 returns-2 : tie.Need-returns-2
 returns-2 c = ap Refused (c .at .ensures) ∙ one-ragged (c .before .before .before .args .limits) (kind-of (c .before .before .before .args .kind)) (c .before .before .before .args .file .now) 0 (c .before .before .before .args .position) (ne-eqb _ _ (c .before .if1 .left))
 

@@ -2,11 +2,9 @@ use borrow.Author.Needs.{needs}
 use Rattle.files.proofs.check.check_rules.Statement.{statement}
 use Rattle.files.proofs.check.check_rules.Tie as tie
 
--- src/check.rt:144:5
 check-requires : tie.Need-check-requires
 check-requires c κs = search needs
 
--- src/check.rt:141:1
 returns : tie.Need-returns
 returns c = c .check .ensures
 

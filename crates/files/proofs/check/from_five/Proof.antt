@@ -19,39 +19,30 @@ over-said c =
 missing-said : (c : tie.After-missing) → missing (kind-of (c .before .before .before .before .before .args .kind)) (c .before .before .before .before .before .args .records .now) ≡ c .missing .result
 missing-said c = sym (c .missing .ensures ∙ missing-is (kind-of (c .before .before .before .before .before .args .kind)) (c .before .before .before .before .before .args .records .now))
 
--- src/check.rt:95:9
 count-requires : tie.Need-count-requires
 count-requires c κs = search needs
 
--- src/check.rt:96:8
 over-requires : tie.Need-over-requires
 over-requires c κs = rw (c .count .ensures) (counted-le (kind-of (c .before .before .args .kind)) (c .before .before .args .records .now))
 
--- src/check.rt:97:33
 at-requires : tie.Need-at-requires
 at-requires c κs = search needs
 
--- src/check.rt:97:9
 returns : tie.Need-returns
 returns c = ap Refused (c .at .ensures) ∙ five-over (c .before .before .before .before .before .args .limits) (kind-of (c .before .before .before .before .before .args .kind)) (c .before .before .before .before .before .args .records .now) (c .before .before .before .before .before .args .first) (c .before .before .before .before .before .args .position) (over-said (c .before .before) ∙ c .before .if1 .taken)
 
--- src/check.rt:99:8
 missing-requires : tie.Need-missing-requires
 missing-requires c κs = search needs
 
--- src/check.rt:100:33
 at-requires-2 : tie.Need-at-requires-2
 at-requires-2 c κs = search needs
 
--- src/check.rt:100:9
 returns-2 : tie.Need-returns-2
 returns-2 c = ap Refused (c .at2 .ensures) ∙ six-missing (c .before .before .before .before .before .before .before .args .limits) (kind-of (c .before .before .before .before .before .before .before .args .kind)) (c .before .before .before .before .before .before .before .args .records .now) (c .before .before .before .before .before .before .before .args .first) (c .before .before .before .before .before .before .before .args .position) (over-said (c .before .before .before .before) ∙ c .before .before .before .if1 .left) (missing-said (c .before .before) ∙ c .before .if2 .taken)
 
--- src/check.rt:102:5
 from-seven-requires : tie.Need-from-seven-requires
 from-seven-requires c κs = search needs
 
--- src/check.rt:90:1
 returns-3 : tie.Need-returns-3
 returns-3 c = c .from-seven .ensures ∙ five-fine (c .before .before .before .before .before .before .before .args .limits) (kind-of (c .before .before .before .before .before .before .before .args .kind)) (c .before .before .before .before .before .before .before .args .records .now) (c .before .before .before .before .before .before .before .args .first) (c .before .before .before .before .before .before .before .args .position) (over-said (c .before .before .before .before) ∙ c .before .before .before .if1 .left) (missing-said (c .before .before) ∙ c .before .if2 .left)
 

@@ -22,31 +22,24 @@ scan-said c =
     let a = c .before .before .before .args in
     seven-scan (kind-of (a .kind)) (a .records .now) (a .first) (a .position) (a .apart) (c .before .bound .result) (c .scan .result) (c .before .before .before .pre .0) (c .before .bound .ensures) (c .scan .ensures)
 
--- src/check.rt:79:9
 bound-requires : tie.Need-bound-requires
 bound-requires c κs = search needs
 
--- src/check.rt:80:11
 scan-requires : tie.Need-scan-requires
 scan-requires c κs = (omega arith, (omega (arith, c .bound .ensures ∙ bound-is (kind-of (c .before .before .args .kind)) (c .before .before .args .records .now) (c .before .before .args .apart) (c .before .before .pre .0), bound-fits (kind-of (c .before .before .args .kind)) (c .before .before .args .records .now)), c .before .before .pre .1))
 
--- src/check.rt:81:19
 enum-known-refusal : tie.Need-enum-known-refusal
 enum-known-refusal c = search needs
 
--- src/check.rt:83:20
 enum-told : tie.Need-enum-told
 enum-told c = search needs
 
--- src/check.rt:83:20
 nodes-requires : tie.Need-nodes-requires
 nodes-requires c κs = search needs
 
--- src/check.rt:74:1
 returns : tie.Need-returns
 returns c = rw (c .before .refusal .given .1) at (scan-said (c .before .before .before))
 
--- src/check.rt:74:1
 returns-2 : tie.Need-returns-2
 returns-2 c = ap (λ (n : ℕ). Accepted n (count (c .before .before .before .before .before .before .args .records .now))) (c .nodes .ensures) ∙ (rw (c .before .enum-told .given .1) at (scan-said (c .before .before .before)))
 

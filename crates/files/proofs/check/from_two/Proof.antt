@@ -16,27 +16,21 @@ Said c =
 scan-said : (c : tie.After-scan) → Said c
 scan-said c = let a = c .before .before .args in two-scan (a .limits) (kind-of (a .kind)) (a .records .now) (a .first) (a .position) (c .scan .result) (c .scan .ensures)
 
--- src/check.rt:110:11
 scan-requires : tie.Need-scan-requires
 scan-requires c κs = search needs
 
--- src/check.rt:111:19
 enum-known-refusal : tie.Need-enum-known-refusal
 enum-known-refusal c = search needs
 
--- src/check.rt:112:27
 enum-told : tie.Need-enum-told
 enum-told c = search needs
 
--- src/check.rt:112:27
 from-five-requires : tie.Need-from-five-requires
 from-five-requires c κs = search needs
 
--- src/check.rt:106:1
 returns : tie.Need-returns
 returns c = rw (c .before .refusal .given .1) at (scan-said (c .before .before .before))
 
--- src/check.rt:106:1
 returns-2 : tie.Need-returns-2
 returns-2 c = c .from-five .ensures ∙ (rw (c .before .enum-told .given .1) at (scan-said (c .before .before .before)))
 

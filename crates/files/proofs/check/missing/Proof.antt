@@ -3,35 +3,27 @@ use borrow.Author.Needs.{needs}
 use Rattle.files.proofs.check.missing.Statement.{statement}
 use Rattle.files.proofs.check.missing.Tie as tie
 
--- src/check.rt:66:28
 enum-told : tie.Need-enum-told
 enum-told c = search needs
 
--- src/check.rt:67:31
 enum-told-2 : tie.Need-enum-told-2
 enum-told-2 c = search needs
 
--- src/check.rt:68:28
 enum-told-3 : tie.Need-enum-told-3
 enum-told-3 c = search needs
 
--- src/check.rt:69:32
 enum-told-4 : tie.Need-enum-told-4
 enum-told-4 c = search needs
 
--- src/check.rt:62:1
 returns : tie.Need-returns
 returns c = search needs
 
--- src/check.rt:62:1
 returns-2 : tie.Need-returns-2
 returns-2 c = rw (c .enum-told2 .given .1) refl
 
--- src/check.rt:62:1
 returns-3 : tie.Need-returns-3
 returns-3 c = search needs
 
--- src/check.rt:62:1
 returns-4 : tie.Need-returns-4
 returns-4 c = rw (c .enum-told4 .given .1) refl
 

@@ -4,39 +4,30 @@ use borrow.Author.Needs.{needs}
 use Rattle.files.proofs.check.over.Statement.{statement}
 use Rattle.files.proofs.check.over.Tie as tie
 
--- src/check.rt:54:29
 enum-told : tie.Need-enum-told
 enum-told c = search needs
 
--- src/check.rt:54:69
 sub-result : tie.Need-sub-result
 sub-result c = omega (arith, c .before .before .before .pre)
 
--- src/check.rt:55:32
 enum-told-2 : tie.Need-enum-told-2
 enum-told-2 c = search needs
 
--- src/check.rt:56:28
 enum-told-3 : tie.Need-enum-told-3
 enum-told-3 c = search needs
 
--- src/check.rt:57:32
 enum-told-4 : tie.Need-enum-told-4
 enum-told-4 c = search needs
 
--- src/check.rt:49:1
 returns : tie.Need-returns
 returns c = rw (c .before .before .enum-told .given .1) refl
 
--- src/check.rt:49:1
 returns-2 : tie.Need-returns-2
 returns-2 c = rw (c .before .before .enum-told2 .given .1) refl
 
--- src/check.rt:49:1
 returns-3 : tie.Need-returns-3
 returns-3 c = search needs
 
--- src/check.rt:49:1
 returns-4 : tie.Need-returns-4
 returns-4 c = search needs
 

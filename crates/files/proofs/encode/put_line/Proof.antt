@@ -17,39 +17,30 @@ Inv-loop out₀ g rows base at i₀ out i = (i ≤ 32) × (length out ≡ length
 abbrev μ-loop : tie.MeasureT-loop
 μ-loop out₀ g rows base at i₀ out i = 32 - i
 
--- src/encode.rt:50:14
 mul-at : tie.Need-mul-at Inv-loop μ-loop
 mul-at c = search needs
 
--- src/encode.rt:52:5
 loop-holds : tie.Need-loop-holds Inv-loop μ-loop
 loop-holds c = (omega arith, search needs, paste-zero (c .args .out .now) (32 * c .args .g) (relation-line (has-bit (c .args .rows .now) (c .args .base))))
 
--- src/encode.rt:53:28
 add-out : tie.Need-add-out Inv-loop μ-loop
 add-out c = search needs
 
--- src/encode.rt:53:23
 shared-slice-read-out : tie.Need-shared-slice-read-out Inv-loop μ-loop
 shared-slice-read-out c = search needs
 
--- src/encode.rt:53:13
 add-out-2 : tie.Need-add-out-2 Inv-loop μ-loop
 add-out-2 c = search needs
 
--- src/encode.rt:53:9
 slice-write-out : tie.Need-slice-write-out Inv-loop μ-loop
 slice-write-out c = search needs
 
--- src/encode.rt:54:9
 add-i : tie.Need-add-i Inv-loop μ-loop
 add-i c = search needs
 
--- src/encode.rt:52:5
 loop-less : tie.Need-loop-less Inv-loop μ-loop
 loop-less c = search needs
 
--- src/encode.rt:52:5
 loop-again : tie.Need-loop-again Inv-loop μ-loop
 loop-again c =
     let l = c .before .before .loop in
@@ -62,11 +53,9 @@ loop-again c =
       copy-on (a .out .now) v (l .out) (32 * a .g) (l .i) (getD (a .rows .now) (a .base + l .i) 0) (omega arith) (rw e (omega arith)) (line-byte (a .rows .now) (a .base) (l .i) byte (omega arith)) (l .inv .2),
     )
 
--- src/encode.rt:46:1
 same-length : tie.Need-same-length Inv-loop μ-loop
 same-length c = search needs
 
--- src/encode.rt:46:1
 returns : tie.Need-returns Inv-loop μ-loop
 returns c =
     let l = c .before .loop in

@@ -8,21 +8,17 @@ use borrow.Author.Needs.{needs}
 use Rattle.files.proofs.interface.method_sets.Statement.{statement}
 use Rattle.files.proofs.interface.method_sets.Tie as tie
 
--- src/interface.rt:33:52
 parse-interface-requires : tie.Need-parse-interface-requires
 parse-interface-requires c κs = omega (arith, interface-count (c .before .args .interface .now) (c .before .pre))
 
--- src/interface.rt:33:29
 enum-known-provided : tie.Need-enum-known-provided
 enum-known-provided c = search needs
 
--- src/interface.rt:34:9
 returns : tie.Need-returns
 returns c =
     let s = c .before .before .before in
     absurd (never 5 _ _ (c .before .parse-interface .ensures ∙ interface-parsed (s .args .interface .now) (s .pre)) refl (c .match .keys2))
 
--- src/interface.rt:29:1
 returns-2 : tie.Need-returns-2
 returns-2 c =
     let s = c .before .before .before .before .before in

@@ -2,15 +2,12 @@ use borrow.Author.Needs.{needs}
 use Rattle.files.proofs.interface.provides.Statement.{statement}
 use Rattle.files.proofs.interface.provides.Tie as tie
 
--- src/interface.rt:66:12
 provided-methods-requires : tie.Need-provided-methods-requires
 provided-methods-requires c κs = search needs
 
--- src/interface.rt:66:5
 in-set-requires : tie.Need-in-set-requires
 in-set-requires c κs = search needs
 
--- src/interface.rt:62:1
 returns : tie.Need-returns
 returns c = rw (← c .before .provided-methods .ensures) (c .in-set .ensures)
 

@@ -2,15 +2,12 @@ use borrow.Author.Needs.{needs}
 use Rattle.files.proofs.interface.requires_method.Statement.{statement}
 use Rattle.files.proofs.interface.requires_method.Tie as tie
 
--- src/interface.rt:74:12
 required-methods-requires : tie.Need-required-methods-requires
 required-methods-requires c κs = search needs
 
--- src/interface.rt:74:5
 in-set-requires : tie.Need-in-set-requires
 in-set-requires c κs = search needs
 
--- src/interface.rt:70:1
 returns : tie.Need-returns
 returns c = rw (← c .before .required-methods .ensures) (c .in-set .ensures)
 

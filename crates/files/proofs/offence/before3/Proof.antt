@@ -2,7 +2,6 @@ use Rattle.files.specs.Basics.Lexical.{before-three}
 use Rattle.files.proofs.offence.before3.Statement.{statement}
 use Rattle.files.proofs.offence.before3.Tie as tie
 
--- src/offence.rt:28:1
 returns : tie.Need-returns
 returns c = before-three (c .args .a) (c .args .b) (c .args .c) (c .args .x) (c .args .y) (c .args .z)
 

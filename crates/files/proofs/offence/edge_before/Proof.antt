@@ -6,19 +6,15 @@ use borrow.Author.Needs.{needs}
 use Rattle.files.proofs.offence.edge_before.Statement.{statement}
 use Rattle.files.proofs.offence.edge_before.Tie as tie
 
--- src/offence.rt:47:9
 returns : tie.Need-returns
 returns c = rw (c .if1 .taken) refl
 
--- src/offence.rt:49:22
 sub-kind-at : tie.Need-sub-kind-at
 sub-kind-at c = search needs
 
--- src/offence.rt:49:5
 kind-at-requires : tie.Need-kind-at-requires
 kind-at-requires c κs = search needs
 
--- src/offence.rt:42:1
 returns-2 : tie.Need-returns-2
 returns-2 c = ap (λ (n : ℕ). eqb n 2) (c .kind-at .ensures) ∙ edge-before-at (c .before .before .before .args .records .now) (c .before .before .before .args .i) (c .before .if1 .left)
 

@@ -5,15 +5,12 @@ use borrow.Author.Needs.{needs}
 use Rattle.files.proofs.offence.edge_past.Statement.{statement}
 use Rattle.files.proofs.offence.edge_past.Tie as tie
 
--- src/offence.rt:144:24
 enum-known-p : tie.Need-enum-known-p
 enum-known-p c = search needs
 
--- src/offence.rt:145:9
 returns : tie.Need-returns
 returns c = not-read 2 (edge-past (c .before .args .n)) refl (c .before .args .p) (c .match .keys2)
 
--- src/offence.rt:141:1
 returns-2 : tie.Need-returns-2
 returns-2 c = rw (c .before .p .given .1) refl
 

@@ -7,27 +7,21 @@ use borrow.Author.Needs.{needs}
 use Rattle.files.proofs.offence.edges_out.Statement.{statement}
 use Rattle.files.proofs.offence.edges_out.Tie as tie
 
--- src/offence.rt:81:24
 enum-known-p : tie.Need-enum-known-p
 enum-known-p c = search needs
 
--- src/offence.rt:82:9
 returns : tie.Need-returns
 returns c = not-read 2 (λ (x : Parsed). edges-out x (c .before .args .q)) refl (c .before .args .p) (c .match .keys2)
 
--- src/offence.rt:85:15
 enum-known-q : tie.Need-enum-known-q
 enum-known-q c = search needs
 
--- src/offence.rt:90:9
 returns-2 : tie.Need-returns-2
 returns-2 c = rw (c .before .before .p .given .1) (not-read 2 (edge-out _ _ _) refl (c .before .before .before .before .args .q) (c .match2 .keys2))
 
--- src/offence.rt:92:6
 before3-requires : tie.Need-before3-requires
 before3-requires c κs = search needs
 
--- src/offence.rt:78:1
 returns-3 : tie.Need-returns-3
 returns-3 c = rw (c .before .before .before .before .before .p .given .1, c .before .before .q .given .1) (ap not (c .before3 .ensures))
 

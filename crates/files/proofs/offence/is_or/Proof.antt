@@ -5,15 +5,12 @@ use borrow.Author.Needs.{needs}
 use Rattle.files.proofs.offence.is_or.Statement.{statement}
 use Rattle.files.proofs.offence.is_or.Tie as tie
 
--- src/offence.rt:197:23
 enum-known-p : tie.Need-enum-known-p
 enum-known-p c = search needs
 
--- src/offence.rt:198:9
 returns : tie.Need-returns
 returns c = not-read 3 is-or-of refl (c .before .args .p) (c .match .keys2)
 
--- src/offence.rt:194:1
 returns-2 : tie.Need-returns-2
 returns-2 c = rw (c .before .p .given .1) refl
 

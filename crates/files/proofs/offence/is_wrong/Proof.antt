@@ -7,11 +7,9 @@ use Rattle.files.proofs.offence.is_wrong.Tie as tie
 enum-told : tie.Need-enum-told
 enum-told c = search needs
 
--- src/offence.rt:72:9
 returns : tie.Need-returns
 returns c = not-wrong (c .before .args .p) (c .match .keys2)
 
--- src/offence.rt:68:1
 returns-2 : tie.Need-returns-2
 returns-2 c = rw (c .enum-told .given .1) refl
 

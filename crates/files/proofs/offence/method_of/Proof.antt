@@ -5,19 +5,15 @@ use borrow.Author.Needs.{needs}
 use Rattle.files.proofs.offence.method_of.Statement.{statement}
 use Rattle.files.proofs.offence.method_of.Tie as tie
 
--- src/offence.rt:168:39
 parse-node-requires : tie.Need-parse-node-requires
 parse-node-requires c κs = search needs
 
--- src/offence.rt:168:24
 enum-known-method : tie.Need-enum-known-method
 enum-known-method c = search needs
 
--- src/offence.rt:169:9
 returns : tie.Need-returns
 returns c = not-read 1 method-of refl (c .before .parse-node .result) (c .match .keys2) ∙ ap method-of (c .before .parse-node .ensures) ∙ method-as _
 
--- src/offence.rt:164:1
 returns-2 : tie.Need-returns-2
 returns-2 c = sym (ap method-of (c .before .method .given .1)) ∙ ap method-of (c .before .before .before .parse-node .ensures) ∙ method-as _
 

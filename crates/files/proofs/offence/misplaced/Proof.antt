@@ -3,43 +3,33 @@ use borrow.Author.Needs.{needs}
 use Rattle.files.proofs.offence.misplaced.Statement.{statement}
 use Rattle.files.proofs.offence.misplaced.Tie as tie
 
--- src/offence.rt:57:9
 kind-at-requires : tie.Need-kind-at-requires
 kind-at-requires c κs = search needs
 
--- src/offence.rt:58:9
 edge-before-requires : tie.Need-edge-before-requires
 edge-before-requires c κs = search needs
 
--- src/offence.rt:60:31
 enum-told : tie.Need-enum-told
 enum-told c = search needs
 
--- src/offence.rt:61:33
 enum-told-2 : tie.Need-enum-told-2
 enum-told-2 c = search needs
 
--- src/offence.rt:62:30
 enum-told-3 : tie.Need-enum-told-3
 enum-told-3 c = search needs
 
--- src/offence.rt:63:34
 enum-told-4 : tie.Need-enum-told-4
 enum-told-4 c = search needs
 
--- src/offence.rt:53:1
 returns : tie.Need-returns
 returns c = rw (c .enum-told .given .1, c .before .before .before .kind-at .ensures, c .before .before .edge-before .ensures) refl
 
--- src/offence.rt:53:1
 returns-2 : tie.Need-returns-2
 returns-2 c = rw (c .enum-told2 .given .1, c .before .before .before .kind-at .ensures) refl
 
--- src/offence.rt:53:1
 returns-3 : tie.Need-returns-3
 returns-3 c = rw (c .enum-told3 .given .1, c .before .before .before .kind-at .ensures) refl
 
--- src/offence.rt:53:1
 returns-4 : tie.Need-returns-4
 returns-4 c = rw (c .enum-told4 .given .1, c .before .before .before .kind-at .ensures) refl
 

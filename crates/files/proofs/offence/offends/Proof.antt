@@ -4,47 +4,36 @@ use borrow.Author.Needs.{needs}
 use Rattle.files.proofs.offence.offends.Statement.{statement}
 use Rattle.files.proofs.offence.offends.Tie as tie
 
--- src/offence.rt:225:9
 misplaced-requires : tie.Need-misplaced-requires
 misplaced-requires c κs = search needs
 
--- src/offence.rt:225:9
 returns : tie.Need-returns
 returns c = rw (offends-is, c .before .if1 .taken) (c .misplaced .ensures)
 
--- src/offence.rt:228:13
 parse-requires : tie.Need-parse-requires
 parse-requires c κs = search needs
 
--- src/offence.rt:229:9
 is-wrong-requires : tie.Need-is-wrong-requires
 is-wrong-requires c κs = search needs
 
--- src/offence.rt:229:9
 returns-2 : tie.Need-returns-2
 returns-2 c = rw (offends-is, c .before .before .if2 .taken, ← c .before .parse .ensures) (c .is-wrong .ensures)
 
--- src/offence.rt:232:9
 disordered-requires : tie.Need-disordered-requires
 disordered-requires c κs = search needs
 
--- src/offence.rt:232:9
 returns-3 : tie.Need-returns-3
 returns-3 c = rw (offends-is, c .before .if3 .taken) (c .disordered .ensures)
 
--- src/offence.rt:235:9
 past-requires : tie.Need-past-requires
 past-requires c κs = search needs
 
--- src/offence.rt:235:9
 returns-4 : tie.Need-returns-4
 returns-4 c = rw (offends-is, c .before .if4 .taken) (c .past .ensures)
 
--- src/offence.rt:237:5
 crossing-requires : tie.Need-crossing-requires
 crossing-requires c κs = search needs
 
--- src/offence.rt:220:1
 returns-5 : tie.Need-returns-5
 returns-5 c = rw (offends-is, ne-eqb _ _ (c .before .before .before .before .if1 .left), ne-eqb _ _ (c .before .before .before .if2 .left), ne-eqb _ _ (c .before .before .if3 .left), ne-eqb _ _ (c .before .if4 .left)) (c .crossing .ensures)
 

@@ -6,23 +6,18 @@ use borrow.Author.Needs.{needs}
 use Rattle.files.proofs.offence.past.Statement.{statement}
 use Rattle.files.proofs.offence.past.Tie as tie
 
--- src/offence.rt:174:9
 parse-edge-requires : tie.Need-parse-edge-requires
 parse-edge-requires c κs = search needs
 
--- src/offence.rt:175:9
 parse-row-requires : tie.Need-parse-row-requires
 parse-row-requires c κs = search needs
 
--- src/offence.rt:176:5
 edge-past-requires : tie.Need-edge-past-requires
 edge-past-requires c κs = search needs
 
--- src/offence.rt:176:26
 row-past-requires : tie.Need-row-past-requires
 row-past-requires c κs = search needs
 
--- src/offence.rt:170:1
 returns : tie.Need-returns
 returns c = ap₂ _||_ (c .before .edge-past .ensures ∙ ap (edge-past _) (c .before .before .before .parse-edge .ensures) ∙ edge-past-as _ _) (c .row-past .ensures ∙ ap (row-past _) (c .before .before .parse-row .ensures) ∙ row-past-as _ _)
 

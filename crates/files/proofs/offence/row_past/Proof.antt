@@ -5,23 +5,18 @@ use borrow.Author.Needs.{needs}
 use Rattle.files.proofs.offence.row_past.Statement.{statement}
 use Rattle.files.proofs.offence.row_past.Tie as tie
 
--- src/offence.rt:155:23
 enum-known-p : tie.Need-enum-known-p
 enum-known-p c = search needs
 
--- src/offence.rt:156:9
 returns : tie.Need-returns
 returns c = not-read 3 (row-past (c .before .args .n)) refl (c .before .args .p) (c .match .keys2)
 
--- src/offence.rt:158:25
 cast-named-a : tie.Need-cast-named-a
 cast-named-a c = search needs
 
--- src/offence.rt:159:25
 cast-named-b : tie.Need-cast-named-b
 cast-named-b c = search needs
 
--- src/offence.rt:152:1
 returns-2 : tie.Need-returns-2
 returns-2 c = rw (c .before .p .given .1) refl
 

@@ -5,15 +5,12 @@ use Rattle.files.proofs.parse.parse.Statement.{statement}
 use Rattle.files.proofs.parse.parse.Tie as tie
 use Rattle.files.proofs.parse.parse.Reads as reads
 
--- src/parse.rt:129:9
 read-requires : tie.Need-read-requires
 read-requires c κs = search needs
 
--- src/parse.rt:130:5
 reads-requires : tie.Need-reads-requires
 reads-requires c κs = search needs
 
--- src/parse.rt:125:1
 returns : tie.Need-returns
 returns c = c .reads .ensures ∙ ap parsed (c .before .read .ensures)
 

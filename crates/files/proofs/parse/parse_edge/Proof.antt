@@ -3,19 +3,15 @@ use borrow.Author.Needs.{needs}
 use Rattle.files.proofs.parse.parse_edge.Statement.{statement}
 use Rattle.files.proofs.parse.parse_edge.Tie as tie
 
--- src/parse.rt:197:9
 read-requires : tie.Need-read-requires
 read-requires c κs = search needs
 
--- src/parse.rt:199:9
 read-edge-requires : tie.Need-read-edge-requires
 read-edge-requires c κs = search needs
 
--- src/parse.rt:199:9
 returns : tie.Need-returns
 returns c = read-as 2 _ _ (c .before .before .before .read .ensures) _ (c .before .if1 .taken) (c .read-edge .ensures)
 
--- src/parse.rt:193:1
 returns-2 : tie.Need-returns-2
 returns-2 c = read-other 2 _ _ (c .before .before .read .ensures) (c .if1 .left)
 

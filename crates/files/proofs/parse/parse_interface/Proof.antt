@@ -3,19 +3,15 @@ use borrow.Author.Needs.{needs}
 use Rattle.files.proofs.parse.parse_interface.Statement.{statement}
 use Rattle.files.proofs.parse.parse_interface.Tie as tie
 
--- src/parse.rt:230:9
 read-requires : tie.Need-read-requires
 read-requires c κs = search needs
 
--- src/parse.rt:232:9
 read-interface-requires : tie.Need-read-interface-requires
 read-interface-requires c κs = search needs
 
--- src/parse.rt:232:9
 returns : tie.Need-returns
 returns c = read-as 5 _ _ (c .before .before .before .read .ensures) _ (c .before .if1 .taken) (c .read-interface .ensures)
 
--- src/parse.rt:226:1
 returns-2 : tie.Need-returns-2
 returns-2 c = read-other 5 _ _ (c .before .before .read .ensures) (c .if1 .left)
 

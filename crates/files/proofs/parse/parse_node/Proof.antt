@@ -3,19 +3,15 @@ use borrow.Author.Needs.{needs}
 use Rattle.files.proofs.parse.parse_node.Statement.{statement}
 use Rattle.files.proofs.parse.parse_node.Tie as tie
 
--- src/parse.rt:186:9
 read-requires : tie.Need-read-requires
 read-requires c κs = search needs
 
--- src/parse.rt:188:9
 read-node-requires : tie.Need-read-node-requires
 read-node-requires c κs = search needs
 
--- src/parse.rt:188:9
 returns : tie.Need-returns
 returns c = read-as 1 _ _ (c .before .before .before .read .ensures) _ (c .before .if1 .taken) (c .read-node .ensures)
 
--- src/parse.rt:182:1
 returns-2 : tie.Need-returns-2
 returns-2 c = read-other 1 _ _ (c .before .before .read .ensures) (c .if1 .left)
 

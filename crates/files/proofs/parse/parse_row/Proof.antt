@@ -3,19 +3,15 @@ use borrow.Author.Needs.{needs}
 use Rattle.files.proofs.parse.parse_row.Statement.{statement}
 use Rattle.files.proofs.parse.parse_row.Tie as tie
 
--- src/parse.rt:208:9
 read-requires : tie.Need-read-requires
 read-requires c κs = search needs
 
--- src/parse.rt:210:9
 read-row-requires : tie.Need-read-row-requires
 read-row-requires c κs = search needs
 
--- src/parse.rt:210:9
 returns : tie.Need-returns
 returns c = read-as 3 _ _ (c .before .before .before .read .ensures) _ (c .before .if1 .taken) (c .read-row .ensures)
 
--- src/parse.rt:204:1
 returns-2 : tie.Need-returns-2
 returns-2 c = read-other 3 _ _ (c .before .before .read .ensures) (c .if1 .left)
 

@@ -4,23 +4,18 @@ use borrow.Author.Needs.{needs}
 use Rattle.files.proofs.parse.read_edge.Statement.{statement}
 use Rattle.files.proofs.parse.read_edge.Tie as tie
 
--- src/parse.rt:93:8
 edge-wrong-requires : tie.Need-edge-wrong-requires
 edge-wrong-requires c κs = search needs
 
--- src/parse.rt:94:9
 returns : tie.Need-returns
 returns c = told-wrong _ _ _ (sym (c .before .edge-wrong .ensures) ∙ c .if1 .taken) ∙ sym (parsed-kind 2 (c .before .before .args .r) (c .before .before .pre))
 
--- src/parse.rt:97:15
 cast-t3 : tie.Need-cast-t3
 cast-t3 c = search needs
 
--- src/parse.rt:99:13
 cast-t4 : tie.Need-cast-t4
 cast-t4 c = search needs
 
--- src/parse.rt:89:1
 returns-2 : tie.Need-returns-2
 returns-2 c = told-right _ _ (sym (c .before .before .before .edge-wrong .ensures) ∙ c .before .before .if1 .left) ∙ sym (parsed-kind 2 (c .before .before .before .before .args .r) (c .before .before .before .before .pre))
 

@@ -4,15 +4,12 @@ use borrow.Author.Needs.{needs}
 use Rattle.files.proofs.parse.read_interface.Statement.{statement}
 use Rattle.files.proofs.parse.read_interface.Tie as tie
 
--- src/parse.rt:140:8
 interface-wrong-requires : tie.Need-interface-wrong-requires
 interface-wrong-requires c κs = search needs
 
--- src/parse.rt:141:9
 returns : tie.Need-returns
 returns c = told _ _ _ (sym (c .before .interface-wrong .ensures) ∙ c .if1 .taken) ∙ sym (parsed-kind 5 (c .before .before .args .r) (c .before .before .pre))
 
--- src/parse.rt:136:1
 returns-2 : tie.Need-returns-2
 returns-2 c = told _ _ _ (sym (c .before .interface-wrong .ensures) ∙ c .if1 .left) ∙ sym (parsed-kind 5 (c .before .before .args .r) (c .before .before .pre))
 

@@ -4,15 +4,12 @@ use borrow.Author.Needs.{needs}
 use Rattle.files.proofs.parse.read_node.Statement.{statement}
 use Rattle.files.proofs.parse.read_node.Tie as tie
 
--- src/parse.rt:78:8
 node-wrong-requires : tie.Need-node-wrong-requires
 node-wrong-requires c κs = search needs
 
--- src/parse.rt:79:9
 returns : tie.Need-returns
 returns c = told-wrong _ _ _ (sym (c .before .node-wrong .ensures) ∙ c .if1 .taken) ∙ sym (parsed-kind 1 (c .before .before .args .r) (c .before .before .pre))
 
--- src/parse.rt:74:1
 returns-2 : tie.Need-returns-2
 returns-2 c = told-right _ _ (sym (c .before .before .before .node-wrong .ensures) ∙ c .before .before .if1 .left) ∙ sym (parsed-kind 1 (c .before .before .before .before .args .r) (c .before .before .before .before .pre))
 

@@ -4,15 +4,12 @@ use borrow.Author.Needs.{needs}
 use Rattle.files.proofs.parse.read_row.Statement.{statement}
 use Rattle.files.proofs.parse.read_row.Tie as tie
 
--- src/parse.rt:108:8
 row-wrong-requires : tie.Need-row-wrong-requires
 row-wrong-requires c κs = search needs
 
--- src/parse.rt:109:9
 returns : tie.Need-returns
 returns c = told-wrong _ _ _ (sym (c .before .row-wrong .ensures) ∙ c .if1 .taken) ∙ sym (parsed-kind 3 (c .before .before .args .r) (c .before .before .pre))
 
--- src/parse.rt:104:1
 returns-2 : tie.Need-returns-2
 returns-2 c = told-right _ _ (sym (c .before .row-wrong .ensures) ∙ c .if1 .left) ∙ sym (parsed-kind 3 (c .before .before .args .r) (c .before .before .pre))
 

@@ -4,15 +4,12 @@ use borrow.Author.Needs.{needs}
 use Rattle.files.proofs.parse.read_rule.Statement.{statement}
 use Rattle.files.proofs.parse.read_rule.Tie as tie
 
--- src/parse.rt:123:8
 rule-wrong-requires : tie.Need-rule-wrong-requires
 rule-wrong-requires c κs = search needs
 
--- src/parse.rt:124:9
 returns : tie.Need-returns
 returns c = told-wrong _ _ _ (sym (c .before .rule-wrong .ensures) ∙ c .if1 .taken) ∙ sym (parsed-kind 4 (c .before .before .args .r) (c .before .before .pre))
 
--- src/parse.rt:119:1
 returns-2 : tie.Need-returns-2
 returns-2 c = told-right _ _ (sym (c .before .rule-wrong .ensures) ∙ c .if1 .left) ∙ sym (parsed-kind 4 (c .before .before .args .r) (c .before .before .pre))
 

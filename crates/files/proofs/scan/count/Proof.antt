@@ -18,35 +18,27 @@ Inv-loop kind records n i₀ apart₀ i apart = (i ≤ n) × (apart ≡ tally (c
 abbrev μ-loop : tie.MeasureT-loop
 μ-loop kind records n i₀ apart₀ i apart = n - i
 
--- src/scan.rt:86:5
 loop-holds : tie.Need-loop-holds Inv-loop μ-loop
 loop-holds c = (omega arith, refl)
 
--- src/scan.rt:87:13
 counts-requires : tie.Need-counts-requires Inv-loop μ-loop
 counts-requires c κs = omega arith
 
--- src/scan.rt:88:18
 cast-apart : tie.Need-cast-apart Inv-loop μ-loop
 cast-apart c = search needs
 
--- src/scan.rt:88:9
 add-apart : tie.Need-add-apart Inv-loop μ-loop
 add-apart c = omega (arith, c .before .before .loop .inv .1, tally-le (counts (kind-of (c .before .before .before .before .args .kind)) (c .before .before .before .before .args .records .now)) (c .before .before .loop .i), one-le (c .counts .result))
 
--- src/scan.rt:89:9
 add-i : tie.Need-add-i Inv-loop μ-loop
 add-i c = omega arith
 
--- src/scan.rt:86:5
 loop-less : tie.Need-loop-less Inv-loop μ-loop
 loop-less c = omega arith
 
--- src/scan.rt:86:5
 loop-again : tie.Need-loop-again Inv-loop μ-loop
 loop-again c = (omega arith, tally-more (counts (kind-of (c .before .before .before .before .args .kind)) (c .before .before .before .before .args .records .now)) (c .before .before .loop .i) (c .before .before .loop .apart) (c .counts .result) (c .before .before .loop .inv .1) (c .counts .ensures))
 
--- src/scan.rt:80:1
 returns : tie.Need-returns Inv-loop μ-loop
 returns c =
     let a = c .before .before .before .args in

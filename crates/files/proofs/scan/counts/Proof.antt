@@ -7,47 +7,36 @@ use borrow.Author.Needs.{needs}
 use Rattle.files.proofs.scan.counts.Statement.{statement}
 use Rattle.files.proofs.scan.counts.Tie as tie
 
--- src/scan.rt:69:28
 enum-told : tie.Need-enum-told
 enum-told c = search needs
 
--- src/scan.rt:69:28
 kind-at-requires : tie.Need-kind-at-requires
 kind-at-requires c κs = search needs
 
--- src/scan.rt:71:17
 enum-told-2 : tie.Need-enum-told-2
 enum-told-2 c = search needs
 
--- src/scan.rt:71:17
 parse-row-requires : tie.Need-parse-row-requires
 parse-row-requires c κs = search needs
 
--- src/scan.rt:72:13
 is-or-requires : tie.Need-is-or-requires
 is-or-requires c κs = search needs
 
--- src/scan.rt:74:28
 enum-told-3 : tie.Need-enum-told-3
 enum-told-3 c = search needs
 
--- src/scan.rt:75:32
 enum-told-4 : tie.Need-enum-told-4
 enum-told-4 c = search needs
 
--- src/scan.rt:64:1
 returns : tie.Need-returns
 returns c = rw (c .before .enum-told .given .1) (ap (λ (x : ℕ). eqb x 1) (c .kind-at .ensures))
 
--- src/scan.rt:64:1
 returns-2 : tie.Need-returns-2
 returns-2 c = rw (c .before .before .enum-told2 .given .1) (c .is-or .ensures ∙ ap is-or-of (c .before .parse-row .ensures) ∙ or-as _)
 
--- src/scan.rt:64:1
 returns-3 : tie.Need-returns-3
 returns-3 c = search needs
 
--- src/scan.rt:64:1
 returns-4 : tie.Need-returns-4
 returns-4 c = search needs
 

@@ -17,31 +17,24 @@ Inv-loop number kind records bound n i₀ i = (i ≤ n) × (first-where (offends
 abbrev μ-loop : tie.MeasureT-loop
 μ-loop number kind records bound n i₀ i = n - i
 
--- src/scan.rt:29:5
 loop-holds : tie.Need-loop-holds Inv-loop μ-loop
 loop-holds c = (omega arith, refl)
 
--- src/scan.rt:30:12
 offends-requires : tie.Need-offends-requires Inv-loop μ-loop
 offends-requires c κs = (omega arith, omega (arith, c .before .before .before .pre))
 
--- src/scan.rt:31:13
 returns : tie.Need-returns Inv-loop μ-loop
 returns c = sym (offending-at _ _ (c .before .before .before .before .before .args .records .now) (c .before .before .before .before .before .args .bound) (c .before .before .before .loop .i) (c .before .before .loop-test .taken) (c .before .before .before .loop .inv .1) (sym (c .before .offends .ensures) ∙ c .if1 .taken))
 
--- src/scan.rt:33:9
 add-i : tie.Need-add-i Inv-loop μ-loop
 add-i c = omega arith
 
--- src/scan.rt:29:5
 loop-less : tie.Need-loop-less Inv-loop μ-loop
 loop-less c = omega arith
 
--- src/scan.rt:29:5
 loop-again : tie.Need-loop-again Inv-loop μ-loop
 loop-again c = (omega arith, scan-on _ (c .before .before .before .loop .i) (c .before .before .before .loop .inv .1) (sym (c .before .offends .ensures) ∙ c .if1 .left))
 
--- src/scan.rt:23:1
 returns-2 : tie.Need-returns-2 Inv-loop μ-loop
 returns-2 c = let e : c .before .loop .i ≡ count (c .before .before .before .args .records .now) = omega arith in sym (offending-none (c .before .before .before .args .number) (kind-of (c .before .before .before .args .kind)) (c .before .before .before .args .records .now) (c .before .before .before .args .bound) (rw (← e) (c .before .loop .inv .1)))
 

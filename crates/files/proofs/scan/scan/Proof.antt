@@ -16,39 +16,30 @@ Inv-loop low past kind records bound first position n number₀ number = (low �
 abbrev μ-loop : tie.MeasureT-loop
 μ-loop low past kind records bound first position n number₀ number = past - number
 
--- src/scan.rt:53:5
 loop-holds : tie.Need-loop-holds Inv-loop μ-loop
 loop-holds c = (omega arith, omega (arith, c .before .pre .0), refl)
 
--- src/scan.rt:54:13
 first-offending-requires : tie.Need-first-offending-requires Inv-loop μ-loop
 first-offending-requires c κs = c .before .before .before .pre .1 .0
 
--- src/scan.rt:56:60
 add-at : tie.Need-add-at Inv-loop μ-loop
 add-at c = omega (arith, c .before .before .before .before .before .pre .1 .1)
 
--- src/scan.rt:56:30
 at-requires : tie.Need-at-requires Inv-loop μ-loop
 at-requires c κs = search needs
 
--- src/scan.rt:56:13
 returns : tie.Need-returns Inv-loop μ-loop
 returns c = ap At (c .at .ensures) ∙ scanned-found (kind-of (c .before .before .before .before .before .before .args .kind)) (c .before .before .before .before .before .before .args .records .now) (c .before .before .before .before .before .before .args .bound) (c .before .before .before .before .before .before .args .first) (c .before .before .before .before .before .before .args .position) (c .before .before .before .before .before .before .args .past) (c .before .before .before .before .loop .number) (c .before .before .first-offending .result) (c .before .before .before .loop-test .taken) (c .before .before .first-offending .ensures) (c .before .if1 .taken) ∙ c .before .before .before .before .loop .inv .2
 
--- src/scan.rt:58:9
 add-number : tie.Need-add-number Inv-loop μ-loop
 add-number c = omega arith
 
--- src/scan.rt:53:5
 loop-less : tie.Need-loop-less Inv-loop μ-loop
 loop-less c = omega arith
 
--- src/scan.rt:53:5
 loop-again : tie.Need-loop-again Inv-loop μ-loop
 loop-again c = (omega (arith, c .before .before .before .loop .inv .0), omega (arith, c .before .before .loop-test .taken), scanned-on (kind-of (c .before .before .before .before .before .args .kind)) (c .before .before .before .before .before .args .records .now) (c .before .before .before .before .before .args .bound) (c .before .before .before .before .before .args .first) (c .before .before .before .before .before .args .position) (c .before .before .before .before .before .args .past) (c .before .before .before .loop .number) (c .before .first-offending .result) (c .before .before .loop-test .taken) (c .before .first-offending .ensures) (c .if1 .left) ∙ c .before .before .before .loop .inv .2)
 
--- src/scan.rt:39:1
 returns-2 : tie.Need-returns-2 Inv-loop μ-loop
 returns-2 c = scanned-past (kind-of (c .before .before .before .args .kind)) (c .before .before .before .args .records .now) (c .before .before .before .args .bound) (c .before .before .before .args .first) (c .before .before .before .args .position) (c .before .before .before .args .past) (c .before .loop .number) (c .loop-test .left) ∙ c .before .loop .inv .2
 

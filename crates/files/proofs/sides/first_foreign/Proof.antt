@@ -19,23 +19,18 @@ Inv-loop graph interface provided required n i₀ i = (i ≤ n) × (first-where 
 abbrev μ-loop : tie.MeasureT-loop
 μ-loop graph interface provided required n i₀ i = n - i
 
--- src/sides.rt:54:9
 provided-methods-requires : tie.Need-provided-methods-requires Inv-loop μ-loop
 provided-methods-requires c κs = c .before .before .pre .1
 
--- src/sides.rt:55:9
 required-methods-requires : tie.Need-required-methods-requires Inv-loop μ-loop
 required-methods-requires c κs = c .before .before .before .pre .1
 
--- src/sides.rt:58:5
 loop-holds : tie.Need-loop-holds Inv-loop μ-loop
 loop-holds c = (omega arith, refl)
 
--- src/sides.rt:59:12
 foreign-requires : tie.Need-foreign-requires Inv-loop μ-loop
 foreign-requires c κs = omega arith
 
--- src/sides.rt:60:13
 returns : tie.Need-returns Inv-loop μ-loop
 returns c =
     let b = c .before .before .before in
@@ -43,19 +38,15 @@ returns c =
     sym (foreign-at _ (s .args .graph .now) (s .pre .0) (b .loop .i) (c .before .before .loop-test .taken) (b .loop .inv .1) (sym (c .before .foreign .ensures) ∙ c .if1 .taken))
     ∙ ap (λ (I : Interface). first-foreign-record I (s .args .graph .now)) (of-sets _ _ _ (b .before .before .provided-methods .ensures) (b .before .required-methods .ensures))
 
--- src/sides.rt:62:9
 add-i : tie.Need-add-i Inv-loop μ-loop
 add-i c = omega arith
 
--- src/sides.rt:58:5
 loop-less : tie.Need-loop-less Inv-loop μ-loop
 loop-less c = omega arith
 
--- src/sides.rt:58:5
 loop-again : tie.Need-loop-again Inv-loop μ-loop
 loop-again c = (omega arith, scan-on _ (c .before .before .before .loop .i) (c .before .before .before .loop .inv .1) (sym (c .before .foreign .ensures) ∙ c .if1 .left))
 
--- src/sides.rt:50:1
 returns-2 : tie.Need-returns-2 Inv-loop μ-loop
 returns-2 c =
     let b = c .before in

@@ -6,23 +6,18 @@ use borrow.Author.Needs.{needs}
 use Rattle.files.proofs.sides.foreign.Statement.{statement}
 use Rattle.files.proofs.sides.foreign.Tie as tie
 
--- src/sides.rt:45:9
 parse-node-requires : tie.Need-parse-node-requires
 parse-node-requires c κs = search needs
 
--- src/sides.rt:46:9
 parse-edge-requires : tie.Need-parse-edge-requires
 parse-edge-requires c κs = search needs
 
--- src/sides.rt:47:5
 foreign-node-requires : tie.Need-foreign-node-requires
 foreign-node-requires c κs = search needs
 
--- src/sides.rt:47:37
 foreign-call-requires : tie.Need-foreign-call-requires
 foreign-call-requires c κs = search needs
 
--- src/sides.rt:41:1
 returns : tie.Need-returns
 returns c = ap₂ _||_ (c .before .foreign-node .ensures ∙ ap (foreign-node _) (c .before .before .before .parse-node .ensures) ∙ foreign-node-as _ _) (c .foreign-call .ensures ∙ ap (foreign-call _) (c .before .before .parse-edge .ensures) ∙ foreign-call-as _ _)
 

@@ -5,19 +5,15 @@ use borrow.Author.Needs.{needs}
 use Rattle.files.proofs.sides.foreign_call.Statement.{statement}
 use Rattle.files.proofs.sides.foreign_call.Tie as tie
 
--- src/sides.rt:31:24
 enum-known-p : tie.Need-enum-known-p
 enum-known-p c = search needs
 
--- src/sides.rt:32:9
 returns : tie.Need-returns
 returns c = not-read 2 (foreign-call _) refl (c .before .args .p) (c .match .keys2)
 
--- src/sides.rt:34:20
 in-set-requires : tie.Need-in-set-requires
 in-set-requires c κs = search needs
 
--- src/sides.rt:27:1
 returns-2 : tie.Need-returns-2
 returns-2 c = rw (c .before .before .p .given .1, c .in-set .ensures)
 

@@ -10,51 +10,42 @@ use borrow.Author.Needs.{needs}
 use Rattle.judging.proofs.causes.better.Statement.{statement}
 use Rattle.judging.proofs.causes.better.Tie as tie
 
--- src/causes.rt:140:28
 edge-at-requires : tie.Need-edge-at-requires
 edge-at-requires c κs = search needs
 
--- src/causes.rt:140:20
 enum-known-edge : tie.Need-enum-known-edge
 enum-known-edge c = search needs
 
--- src/causes.rt:141:9
 enum-told : tie.Need-enum-told
 enum-told c = search needs
 
--- src/causes.rt:141:9
 returns : tie.Need-returns
 returns c = search needs
 
--- src/causes.rt:145:16
 is-ahead-requires : tie.Need-is-ahead-requires
 is-ahead-requires c κs = let k = c .before .before .before .before .before .before .before .before .before .before .before in
     let a = k .args in
     let u = held-edge (c .before .before .before .before .before .before .before .edge-at .result) _ (getD ((decode-graph (a .graph .now)) .edges) (a .j) no-edge) (c .before .before .before .before .before .edge .given .1) (c .before .before .before .before .before .before .before .edge-at .ensures) in
     (k .pre .0, (k .pre .1 .0, (c .if2 .taken, (to-node (a .s) (a .graph .now) (a .property .now) (k .pre .0) (a .j) _ (k .pre .1 .1 .1 .0) u, k .pre .1 .1 .1 .1))))
 
--- src/causes.rt:146:17
 returns-2 : tie.Need-returns-2
 returns-2 c = let k = c .before .before .before .before .before .before .before .before .before .before .before .before .before in
     let a = k .args in
     let u = held-edge (c .before .before .before .before .before .before .before .before .before .edge-at .result) _ (getD ((decode-graph (a .graph .now)) .edges) (a .j) no-edge) (c .before .before .before .before .before .before .before .edge .given .1) (c .before .before .before .before .before .before .before .before .before .edge-at .ensures) in
     better-is (decode-graph (a .graph .now)) (decode-property (a .property .now)) _ (a .label) (a .b) (a .s .nodes) (a .best) (a .j) true true true u (eq-eqb _ _ (c .before .before .before .before .if1 .taken)) (lt-ltb _ _ (c .before .before .if2 .taken)) (sym (c .before .is-ahead .ensures) ∙ c .if3 .taken)
 
--- src/causes.rt:149:9
 returns-3 : tie.Need-returns-3
 returns-3 c = let k = c .before .before .before .before .before .before .before .before .before .before .before .before .before in
     let a = k .args in
     let u = held-edge (c .before .before .before .before .before .before .before .before .before .edge-at .result) _ (getD ((decode-graph (a .graph .now)) .edges) (a .j) no-edge) (c .before .before .before .before .before .before .before .edge .given .1) (c .before .before .before .before .before .before .before .before .before .edge-at .ensures) in
     better-is (decode-graph (a .graph .now)) (decode-property (a .property .now)) _ (a .label) (a .b) (a .s .nodes) (a .best) (a .j) true true false u (eq-eqb _ _ (c .before .before .before .before .if1 .taken)) (lt-ltb _ _ (c .before .before .if2 .taken)) (sym (c .before .is-ahead .ensures) ∙ c .if3 .left)
 
--- src/causes.rt:149:9
 returns-4 : tie.Need-returns-4
 returns-4 c = let k = c .before .before .before .before .before .before .before .before .before .before .before in
     let a = k .args in
     let u = held-edge (c .before .before .before .before .before .before .before .edge-at .result) _ (getD ((decode-graph (a .graph .now)) .edges) (a .j) no-edge) (c .before .before .before .before .before .edge .given .1) (c .before .before .before .before .before .before .before .edge-at .ensures) in
     better-is (decode-graph (a .graph .now)) (decode-property (a .property .now)) _ (a .label) (a .b) (a .s .nodes) (a .best) (a .j) true false _ u (eq-eqb _ _ (c .before .before .if1 .taken)) (le-ltb _ _ (c .if2 .left)) refl
 
--- src/causes.rt:127:1
 returns-5 : tie.Need-returns-5
 returns-5 c = let k = c .before .before .before .before .before .before .before .before .before in
     let a = k .args in

@@ -3,15 +3,12 @@ use borrow.Author.Needs.{needs}
 use Rattle.judging.proofs.causes.box_cause.Statement.{statement}
 use Rattle.judging.proofs.causes.box_cause.Tie as tie
 
--- src/causes.rt:190:9
 foremost-requires : tie.Need-foremost-requires
 foremost-requires c κs = search needs
 
--- src/causes.rt:192:9
 returns : tie.Need-returns
 returns c = let k = c .before .before .before .before .before .before in let a = k .args in box-found (a .s) (a .graph .now) (a .property .now) (k .pre .0) (a .g) (a .label) (a .b) (c .before .before .foremost .result) (c .before .before .foremost .ensures) (c .if1 .taken)
 
--- src/causes.rt:178:1
 returns-2 : tie.Need-returns-2
 returns-2 c = let k = c .before .before .before .before .before .before in let a = k .args in box-not-found (a .s) (a .graph .now) (a .property .now) (k .pre .0) (a .g) (a .label) (a .b) (c .before .before .foremost .result) (c .before .before .foremost .ensures) (c .if1 .left)
 

@@ -9,31 +9,24 @@ use borrow.Author.Needs.{needs}
 use Rattle.judging.proofs.causes.fails_at.Statement.{statement}
 use Rattle.judging.proofs.causes.fails_at.Tie as tie
 
--- src/causes.rt:50:25
 node-at-requires : tie.Need-node-at-requires
 node-at-requires c κs = search needs
 
--- src/causes.rt:50:20
 enum-known-v : tie.Need-enum-known-v
 enum-known-v c = search needs
 
--- src/causes.rt:51:9
 enum-told : tie.Need-enum-told
 enum-told c = search needs
 
--- src/causes.rt:51:9
 returns : tie.Need-returns
 returns c = search needs
 
--- src/causes.rt:53:28
 mul-get16 : tie.Need-mul-get16
 mul-get16 c = search needs
 
--- src/causes.rt:53:9
 get16-requires : tie.Need-get16-requires
 get16-requires c κs = search needs
 
--- src/causes.rt:46:1
 returns-2 : tie.Need-returns-2
 returns-2 c = let k = c .before .before .before .before .before .before .before .before .before in
     let a = k .args in

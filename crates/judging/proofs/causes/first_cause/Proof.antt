@@ -6,31 +6,24 @@ use borrow.Author.Needs.{needs}
 use Rattle.judging.proofs.causes.first_cause.Statement.{statement}
 use Rattle.judging.proofs.causes.first_cause.Tie as tie
 
--- src/causes.rt:212:24
 row-at-requires : tie.Need-row-at-requires
 row-at-requires c κs = search needs
 
--- src/causes.rt:212:19
 enum-known-x : tie.Need-enum-known-x
 enum-known-x c = search needs
 
--- src/causes.rt:213:9
 enum-told : tie.Need-enum-told
 enum-told c = search needs
 
--- src/causes.rt:213:9
 returns : tie.Need-returns
 returns c = search needs
 
--- src/causes.rt:218:13
 cast-a : tie.Need-cast-a
 cast-a c = search needs
 
--- src/causes.rt:219:13
 cast-b : tie.Need-cast-b
 cast-b c = search needs
 
--- src/causes.rt:221:13
 lower-requires : tie.Need-lower-requires
 lower-requires c κs = let k = c .before .before .before .before .before .before .before .before .before .before .before in
     let a = k .args in
@@ -38,35 +31,30 @@ lower-requires c κs = let k = c .before .before .before .before .before .before
     let m = both-rows (a .s) (a .graph .now) (a .property .now) (k .pre .0) (a .g) (a .r) (k .pre .1 .1 .0) _ u (c .if1 .taken) in
     (k .pre .0, (k .pre .1 .0, (m .0, (m .1, k .pre .1 .1 .1))))
 
--- src/causes.rt:222:9
 returns-2 : tie.Need-returns-2
 returns-2 c = let k = c .before .before .before .before .before .before .before .before .before .before .before .before in
     let a = k .args in
     let u = held-row (c .before .before .before .before .before .before .before .before .row-at .result) _ (row (decode-property (a .property .now)) (a .r)) (c .before .before .before .before .before .before .x .given .1) (c .before .before .before .before .before .before .before .before .row-at .ensures) in
     first-both (a .s) (a .graph .now) (a .property .now) (k .pre .0) (a .g) (a .r) (k .pre .1 .1 .0) _ u (c .lower .result) (c .before .if1 .taken) (c .lower .ensures)
 
--- src/causes.rt:225:9
 returns-3 : tie.Need-returns-3
 returns-3 c = let k = c .before .before .before .before .before .before .before .before .before .before .before .before .before in
     let a = k .args in
     let u = held-row (c .before .before .before .before .before .before .before .before .before .row-at .result) _ (row (decode-property (a .property .now)) (a .r)) (c .before .before .before .before .before .before .before .x .given .1) (c .before .before .before .before .before .before .before .before .before .row-at .ensures) in
     first-either (a .s) (a .graph .now) (a .property .now) (k .pre .0) (a .g) (a .r) (k .pre .1 .1 .0) _ u (c .if2 .taken)
 
--- src/causes.rt:228:9
 box-cause-requires : tie.Need-box-cause-requires
 box-cause-requires c κs = let k = c .before .before .before .before .before .before .before .before .before .before .before .before .before .before .before in
     let a = k .args in
     let u = held-row (c .before .before .before .before .before .before .before .before .before .before .before .row-at .result) _ (row (decode-property (a .property .now)) (a .r)) (c .before .before .before .before .before .before .before .before .before .x .given .1) (c .before .before .before .before .before .before .before .before .before .before .before .row-at .ensures) in
     (k .pre .0, (k .pre .1 .0, (box-row (a .s) (a .graph .now) (a .property .now) (k .pre .0) (a .g) (a .r) (k .pre .1 .1 .0) _ u (c .if3 .taken), k .pre .1 .1 .1)))
 
--- src/causes.rt:228:9
 returns-4 : tie.Need-returns-4
 returns-4 c = let k = c .before .before .before .before .before .before .before .before .before .before .before .before .before .before .before .before in
     let a = k .args in
     let u = held-row (c .before .before .before .before .before .before .before .before .before .before .before .before .row-at .result) _ (row (decode-property (a .property .now)) (a .r)) (c .before .before .before .before .before .before .before .before .before .before .x .given .1) (c .before .before .before .before .before .before .before .before .before .before .before .before .row-at .ensures) in
     first-box (a .s) (a .graph .now) (a .property .now) (k .pre .0) (a .g) (a .r) (k .pre .1 .1 .0) _ u (c .box-cause .result) (c .before .if3 .taken) (c .box-cause .ensures)
 
--- src/causes.rt:201:1
 returns-5 : tie.Need-returns-5
 returns-5 c = let k = c .before .before .before .before .before .before .before .before .before .before .before .before .before .before .before in
     let a = k .args in

@@ -23,11 +23,9 @@ Inv-loop graph property s work₀ g₀ first₀ work g first = (g ≤ s .nodes)
 abbrev μ-loop : tie.MeasureT-loop
 μ-loop graph property s work₀ g₀ first₀ work g first = s .nodes - g
 
--- src/causes.rt:79:5
 put16-requires : tie.Need-put16-requires Inv-loop μ-loop
 put16-requires c κs = omega (arith, c .before .before .before .before .pre .1 .0)
 
--- src/causes.rt:80:5
 loop-holds : tie.Need-loop-holds Inv-loop μ-loop
 loop-holds c = let k = c .before .before .before .before .before .before .before in
     let a = k .args in
@@ -35,29 +33,23 @@ loop-holds c = let k = c .before .before .before .before .before .before .before
     let z = sym (first-edge-zero (decode-graph (a .graph .now))) in
     (omega arith, omega (arith, n .kept .0, k .pre .1 .0), z, firsts-on (a .s) (a .graph .now) (a .property .now) (k .pre .0) (a .work .now) _ 0 0 (n .ensures) (k .pre .1 .0) (omega arith) z (λ u h. absurd (omega arith)), ranked-kept (a .s) (a .graph .now) (a .property .now) (k .pre .0) (a .work .now) _ 0 0 (n .ensures) (k .pre .1 .1), refl)
 
--- src/causes.rt:81:9
 next-first-requires : tie.Need-next-first-requires Inv-loop μ-loop
 next-first-requires c κs = let k = c .before .before .before .before .before .before .before .before .before .before in (k .pre .0 .graph-file, k .pre .0 .nodes-are, c .before .before .loop .inv .2)
 
--- src/causes.rt:82:9
 add-g : tie.Need-add-g Inv-loop μ-loop
 add-g c = omega (arith, c .before .if1 .taken, c .before .before .before .before .before .before .before .before .before .before .before .pre .0 .few-nodes)
 
--- src/causes.rt:83:39
 cast-put16 : tie.Need-cast-put16 Inv-loop μ-loop
 cast-put16 c = let k = c .before .before .before .before .before .before .before .before .before .before .before .before in
     let a = k .args in
     omega (arith, c .before .next-first .ensures, few-first (a .s) (a .graph .now) (a .property .now) (k .pre .0) (c .before .before .before .before .loop .g + 1))
 
--- src/causes.rt:83:9
 put16-requires-2 : tie.Need-put16-requires-2 Inv-loop μ-loop
 put16-requires-2 c κs = omega (arith, c .before .before .if1 .taken, c .before .before .before .before .before .before .before .before .before .before .before .before .pre .0 .few-nodes, c .before .before .before .before .loop .inv .1)
 
--- src/causes.rt:80:5
 loop-less : tie.Need-loop-less Inv-loop μ-loop
 loop-less c = omega (arith, c .before .before .before .before .before .if1 .taken)
 
--- src/causes.rt:80:5
 loop-again : tie.Need-loop-again Inv-loop μ-loop
 loop-again c = let k = c .before .before .before .before .before .before .before .before .before .before .before .before .before .before .before in
     let a = k .args in
@@ -66,11 +58,9 @@ loop-again c = let k = c .before .before .before .before .before .before .before
     let f = c .before .before .before .before .next-first in
     (omega (arith, c .before .before .before .before .before .if1 .taken), omega (arith, n .kept .0, l .inv .1), f .ensures, firsts-on (a .s) (a .graph .now) (a .property .now) (k .pre .0) (l .work) _ (l .g + 1) (f .result) (n .ensures) (l .inv .1) (omega (arith, c .before .before .before .before .before .if1 .taken, k .pre .0 .few-nodes)) (f .ensures) (l .inv .3), ranked-kept (a .s) (a .graph .now) (a .property .now) (k .pre .0) (l .work) _ (l .g + 1) (f .result) (n .ensures) (l .inv .4), n .kept .0 ∙ l .inv .5)
 
--- src/causes.rt:73:1
 same-length : tie.Need-same-length Inv-loop μ-loop
 same-length c = c .before .before .loop .inv .5 ∙ c .before .before .before .before .before .put16 .kept .0
 
--- src/causes.rt:73:1
 returns : tie.Need-returns Inv-loop μ-loop
 returns c = let k = c .before .before .before .before .before .before .before .before .before .before in
     let a = k .args in

@@ -18,37 +18,30 @@ Inv-loop graph property s work g₀ g = (g ≤ s .nodes) × ((u : ℕ) → u < g
 abbrev μ-loop : tie.MeasureT-loop
 μ-loop graph property s work g₀ g = s .nodes - g
 
--- src/causes.rt:63:5
 loop-holds : tie.Need-loop-holds Inv-loop μ-loop
 loop-holds c = (omega arith, λ u h. absurd (omega arith))
 
--- src/causes.rt:64:12
 fails-at-requires : tie.Need-fails-at-requires Inv-loop μ-loop
 fails-at-requires c κs = let k = c .before .before .before .before .before .before in (k .pre .0, (c .if1 .taken, (k .pre .1 .0, k .pre .1 .1)))
 
--- src/causes.rt:65:13
 returns : tie.Need-returns Inv-loop μ-loop
 returns c = let k = c .before .before .before .before .before .before .before .before in
     let a = k .args in
     let l = c .before .before .before .before .loop in
     sym (failing-at (decode-graph (a .graph .now)) (decode-property (a .property .now)) (l .g) (omega (arith, c .before .before .if1 .taken, size-is (a .s) (a .graph .now) (a .property .now) (k .pre .0))) (l .inv .1) (subst T (sym (sym (c .before .fails-at .ensures) ∙ c .if2 .taken)) tt))
 
--- src/causes.rt:67:9
 add-g : tie.Need-add-g Inv-loop μ-loop
 add-g c = omega (arith, c .before .before .if1 .taken, c .before .before .before .before .before .before .before .before .pre .0 .few-nodes)
 
--- src/causes.rt:63:5
 loop-less : tie.Need-loop-less Inv-loop μ-loop
 loop-less c = omega (arith, c .before .before .if1 .taken)
 
--- src/causes.rt:63:5
 loop-again : tie.Need-loop-again Inv-loop μ-loop
 loop-again c = let k = c .before .before .before .before .before .before .before .before in
     let a = k .args in
     let l = c .before .before .before .before .loop in
     (omega (arith, c .before .before .if1 .taken), none-on (fails-at (decode-graph (a .graph .now)) (decode-property (a .property .now))) (l .g) (l .inv .1) (sym (c .before .fails-at .ensures) ∙ c .if2 .left))
 
--- src/causes.rt:58:1
 returns-2 : tie.Need-returns-2 Inv-loop μ-loop
 returns-2 c = let k = c .before .before .before .before .before .before in
     let a = k .args in

@@ -20,27 +20,21 @@ Inv-loop graph property s work g label b end j₀ best₀ j best = (first-edge (
 abbrev μ-loop : tie.MeasureT-loop
 μ-loop graph property s work g label b end j₀ best₀ j best = end - j
 
--- src/causes.rt:167:42
 add-get16 : tie.Need-add-get16 Inv-loop μ-loop
 add-get16 c = let k = c .before .before .before in omega (arith, k .pre .1 .0, k .pre .0 .few-nodes)
 
--- src/causes.rt:167:15
 get16-requires : tie.Need-get16-requires Inv-loop μ-loop
 get16-requires c κs = let k = c .before .before .before in omega (arith, k .pre .1 .0, k .pre .0 .few-nodes, k .pre .1 .1 .1 .room)
 
--- src/causes.rt:167:15
 cast-end : tie.Need-cast-end Inv-loop μ-loop
 cast-end c = search needs
 
--- src/causes.rt:168:17
 get16-requires-2 : tie.Need-get16-requires-2 Inv-loop μ-loop
 get16-requires-2 c κs = let k = c .before .before .before .before in omega (arith, k .pre .1 .0, k .pre .0 .few-nodes, k .pre .1 .1 .1 .room)
 
--- src/causes.rt:168:17
 cast-j : tie.Need-cast-j Inv-loop μ-loop
 cast-j c = search needs
 
--- src/causes.rt:170:5
 loop-holds : tie.Need-loop-holds Inv-loop μ-loop
 loop-holds c = let k = c .before .before .before .before .before in
     let a = k .args in
@@ -49,32 +43,27 @@ loop-holds c = let k = c .before .before .before .before .before in
     let d : c .get162 .result ≡ first-edge (decode-graph (a .graph .now)) (a .g) = c .get162 .ensures ∙ k .pre .1 .1 .1 .firsts (a .g) (omega (arith, k .pre .1 .0, n)) in
     (omega (arith, d), omega (arith, d, e, edges-start (a .s) (a .graph .now) (a .property .now) (k .pre .0) (a .g) (a .label) (a .b)), e, best-start (a .s) (a .graph .now) (a .property .now) (k .pre .0) (a .g) (a .label) (a .b) ∙ ap (λ (i : ℕ). first-or (best-target (decode-graph (a .graph .now)) (decode-property (a .property .now)) (a .g) (a .label) (a .b) i) (a .s .nodes)) (sym d))
 
--- src/causes.rt:171:9
 better-requires : tie.Need-better-requires Inv-loop μ-loop
 better-requires c κs = let k = c .before .before .before .before .before .before .before in
     let a = k .args in
     let l = c .before .loop in
     (k .pre .0, (k .pre .1 .1 .0, (best-le (a .s) (a .graph .now) (a .property .now) (k .pre .0) (a .g) (a .label) (a .b) (l .j) (l .best) (l .inv .3) (omega (arith, l .inv .1, l .inv .2)), (edge-there (a .s) (a .graph .now) (a .property .now) (k .pre .0) (a .g) (a .label) (a .b) (l .j) (omega (arith, c .loop-test .taken, l .inv .2)), k .pre .1 .1 .1))))
 
--- src/causes.rt:172:9
 add-j : tie.Need-add-j Inv-loop μ-loop
 add-j c = let k = c .before .before .before .before .before .before .before .before in
     let a = k .args in
     let l = c .before .before .loop in
     omega (arith, c .before .loop-test .taken, l .inv .2, few-first (a .s) (a .graph .now) (a .property .now) (k .pre .0) (a .g + 1))
 
--- src/causes.rt:170:5
 loop-less : tie.Need-loop-less Inv-loop μ-loop
 loop-less c = omega (arith, c .before .loop-test .taken)
 
--- src/causes.rt:170:5
 loop-again : tie.Need-loop-again Inv-loop μ-loop
 loop-again c = let k = c .before .before .before .before .before .before .before .before in
     let a = k .args in
     let l = c .before .before .loop in
     (omega (arith, l .inv .0), omega (arith, c .before .loop-test .taken), l .inv .2, best-turn (a .s) (a .graph .now) (a .property .now) (k .pre .0) (a .g) (a .label) (a .b) (l .j) (l .best) (l .inv .3) (c .better .result) (l .inv .0) (omega (arith, c .before .loop-test .taken, l .inv .2)) (c .better .ensures))
 
--- src/causes.rt:155:1
 returns : tie.Need-returns Inv-loop μ-loop
 returns c = let k = c .before .before .before .before .before .before .before in
     let a = k .args in

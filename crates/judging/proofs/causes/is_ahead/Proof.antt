@@ -4,15 +4,12 @@ use borrow.Author.Needs.{needs}
 use Rattle.judging.proofs.causes.is_ahead.Statement.{statement}
 use Rattle.judging.proofs.causes.is_ahead.Tie as tie
 
--- src/causes.rt:121:9
 rank-of-requires : tie.Need-rank-of-requires
 rank-of-requires c κs = search needs
 
--- src/causes.rt:122:9
 rank-of-requires-2 : tie.Need-rank-of-requires-2
 rank-of-requires-2 c κs = search needs
 
--- src/causes.rt:109:1
 returns : tie.Need-returns
 returns c = let a = c .before .before .before .before .before .args in ahead-by (decode-graph (a .graph .now)) (decode-property (a .property .now)) (a .x) (a .t) (a .b) (c .before .rank-of .result) (c .rank-of2 .result) (c .before .rank-of .ensures) (c .rank-of2 .ensures)
 

@@ -6,34 +6,27 @@ use borrow.Author.Needs.{needs}
 use Rattle.judging.proofs.causes.second_cause.Statement.{statement}
 use Rattle.judging.proofs.causes.second_cause.Tie as tie
 
--- src/causes.rt:241:24
 row-at-requires : tie.Need-row-at-requires
 row-at-requires c κs = search needs
 
--- src/causes.rt:241:19
 enum-known-x : tie.Need-enum-known-x
 enum-known-x c = search needs
 
--- src/causes.rt:242:9
 enum-told : tie.Need-enum-told
 enum-told c = search needs
 
--- src/causes.rt:242:9
 returns : tie.Need-returns
 returns c = search needs
 
--- src/causes.rt:250:18
 cast-t9 : tie.Need-cast-t9
 cast-t9 c = search needs
 
--- src/causes.rt:248:9
 returns-2 : tie.Need-returns-2
 returns-2 c = let k = c .before .before .before .before .before .before .before .before .before in
     let a = k .args in
     let u = held-row (c .before .before .before .before .before .before .row-at .result) _ (row (decode-property (a .property .now)) (a .r)) (c .before .before .before .before .x .given .1) (c .before .before .before .before .before .before .row-at .ensures) in
     second-either (a .s) (a .graph .now) (a .property .now) (k .pre .0) (a .g) (a .r) (k .pre .1 .1) _ u (c .before .if1 .taken)
 
--- src/causes.rt:237:1
 returns-3 : tie.Need-returns-3
 returns-3 c = let k = c .before .before .before .before .before .before .before .before in
     let a = k .args in

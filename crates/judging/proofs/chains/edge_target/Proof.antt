@@ -8,23 +8,18 @@ use borrow.Author.Needs.{needs}
 use Rattle.judging.proofs.chains.edge_target.Statement.{statement}
 use Rattle.judging.proofs.chains.edge_target.Tie as tie
 
--- src/chains.rt:36:28
 edge-at-requires : tie.Need-edge-at-requires
 edge-at-requires c κs = search needs
 
--- src/chains.rt:36:20
 enum-known-edge : tie.Need-enum-known-edge
 enum-known-edge c = search needs
 
--- src/chains.rt:37:9
 enum-told : tie.Need-enum-told
 enum-told c = search needs
 
--- src/chains.rt:37:9
 returns : tie.Need-returns
 returns c = search needs
 
--- src/chains.rt:32:1
 returns-2 : tie.Need-returns-2
 returns-2 c = let a = c .before .before .before .before .before .args in ap (λ (y : GraphEdge). y .to) (held-edge (c .before .before .before .edge-at .result) _ (getD ((decode-graph (a .graph .now)) .edges) (a .e) no-edge) (c .before .edge .given .1) (c .before .before .before .edge-at .ensures))
 

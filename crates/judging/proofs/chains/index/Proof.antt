@@ -5,19 +5,15 @@ use borrow.Author.Needs.{needs}
 use Rattle.judging.proofs.chains.index.Statement.{statement}
 use Rattle.judging.proofs.chains.index.Tie as tie
 
--- src/chains.rt:117:5
 link-graph-requires : tie.Need-link-graph-requires
 link-graph-requires c κs = let k = c .before .before .before .before in let a = k .args in let r = k .pre .0 in (r .graph-file, (r .nodes-are, (r .edges-are, (r .few-edges, (omega (arith, r .few-nodes), (omega (arith, r .few-edges, k .pre .1 .1), edges-none (a .s) (a .graph .now) (a .property .now) r (a .work .now) (k .pre .1 .0)))))))
 
--- src/chains.rt:125:5
 link-places-requires : tie.Need-link-places-requires
 link-places-requires c κs = let k = c .before .before .before .before .before .before .before .before in let a = k .args in let e = c .before .before .before .link-graph in (k .pre .0, (omega (arith, e .kept .1 .1 .1 .0, k .pre .1 .1), places-none (a .s) (a .graph .now) (a .property .now) (k .pre .0) (a .work .now) _ (k .pre .1 .0) (e .ensures .1)))
 
--- src/chains.rt:113:1
 same-length : tie.Need-same-length
 same-length c = search needs
 
--- src/chains.rt:113:1
 returns : tie.Need-returns
 returns c = let k = c .before .before .before .before .before .before .before .before .before .before .before in
     let a = k .args in

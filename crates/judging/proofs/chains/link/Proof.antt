@@ -3,31 +3,24 @@ use borrow.Author.Needs.{needs}
 use Rattle.judging.proofs.chains.link.Statement.{statement}
 use Rattle.judging.proofs.chains.link.Tie as tie
 
--- src/chains.rt:26:9
 get16-requires : tie.Need-get16-requires
 get16-requires c κs = search needs
 
--- src/chains.rt:27:5
 put16-requires : tie.Need-put16-requires
 put16-requires c κs = search needs
 
--- src/chains.rt:28:30
 add-put16 : tie.Need-add-put16
 add-put16 c = search needs
 
--- src/chains.rt:28:29
 cast-put16 : tie.Need-cast-put16
 cast-put16 c = search needs
 
--- src/chains.rt:28:5
 put16-requires-2 : tie.Need-put16-requires-2
 put16-requires-2 c κs = search needs
 
--- src/chains.rt:22:1
 same-length : tie.Need-same-length
 same-length c = search needs
 
--- src/chains.rt:22:1
 returns : tie.Need-returns
 returns c =
     let a = c .before .before .before .before .before .before .before .before .before .before .before .args in

@@ -15,27 +15,21 @@ Inv-loop graph nodes edges work₀ heads nexts e₀ work e = (e ≤ edges) × (l
 abbrev μ-loop : tie.MeasureT-loop
 μ-loop graph nodes edges work₀ heads nexts e₀ work e = edges - e
 
--- src/chains.rt:82:5
 loop-holds : tie.Need-loop-holds Inv-loop μ-loop
 loop-holds c = (omega arith, refl, c .before .before .pre .1 .1 .1 .1 .1 .1, λ q d. refl)
 
--- src/chains.rt:83:13
 edge-target-requires : tie.Need-edge-target-requires Inv-loop μ-loop
 edge-target-requires c κs = let k = c .before .before .before .before in (k .pre .0, (k .pre .1 .0, omega (arith, c .loop-test .taken, k .pre .1 .0, k .pre .1 .1 .0)))
 
--- src/chains.rt:84:9
 link-requires : tie.Need-link-requires Inv-loop μ-loop
 link-requires c κs = let k = c .before .before .before .before .before .before in let a = k .args in let l = c .before .before .before .loop in may-link (a .graph .now) (k .pre .0) (a .nodes) (a .edges) (k .pre .1 .0) (k .pre .1 .1 .0) (a .heads) (a .nexts) (k .pre .1 .1 .1 .1 .0) (k .pre .1 .1 .1 .0) (l .work) (omega (arith, l .inv .1, k .pre .1 .1 .1 .1 .1 .0)) (l .e) (c .before .edge-target .result) (c .before .edge-target .ensures) (c .before .before .loop-test .taken)
 
--- src/chains.rt:85:9
 add-e : tie.Need-add-e Inv-loop μ-loop
 add-e c = omega (arith, c .before .before .before .before .before .loop-test .taken, c .before .before .before .before .before .before .before .before .before .pre .1 .1 .1 .0)
 
--- src/chains.rt:82:5
 loop-less : tie.Need-loop-less Inv-loop μ-loop
 loop-less c = omega (arith, c .before .before .before .before .before .loop-test .taken)
 
--- src/chains.rt:82:5
 loop-again : tie.Need-loop-again Inv-loop μ-loop
 loop-again c = let k = c .before .before .before .before .before .before .before .before .before in
     let a = k .args in
@@ -43,11 +37,9 @@ loop-again c = let k = c .before .before .before .before .before .before .before
     let r = edge-on (a .graph .now) (k .pre .0) (a .nodes) (a .edges) (k .pre .1 .0) (k .pre .1 .1 .0) (a .heads) (a .nexts) (k .pre .1 .1 .1 .1 .0) (k .pre .1 .1 .1 .0) (l .work) (omega (arith, l .inv .1, k .pre .1 .1 .1 .1 .1 .0)) (l .e) (c .before .before .before .before .edge-target .result) (c .before .before .before .before .edge-target .ensures) (c .before .before .before .before .before .loop-test .taken) (a .work .now) _ (l .inv .2) (l .inv .3) (c .before .before .link .ensures) in
     (omega (arith, c .before .before .before .before .before .loop-test .taken), c .before .before .link .kept .0 ∙ l .inv .1, r .0, r .1)
 
--- src/chains.rt:70:1
 same-length : tie.Need-same-length Inv-loop μ-loop
 same-length c = c .before .loop .inv .1
 
--- src/chains.rt:70:1
 returns : tie.Need-returns Inv-loop μ-loop
 returns c = let k = c .before .before .before .before in
     let a = k .args in

@@ -4,26 +4,21 @@ use borrow.Author.Needs.{needs}
 use Rattle.judging.proofs.chains.link_place.Statement.{statement}
 use Rattle.judging.proofs.chains.link_place.Tie as tie
 
--- src/chains.rt:94:9
 row-named-requires : tie.Need-row-named-requires
 row-named-requires c κs = search needs
 
--- src/chains.rt:96:9
 link-requires : tie.Need-link-requires
 link-requires c κs = search needs
 
--- src/chains.rt:90:1
 same-length : tie.Need-same-length
 same-length c = search needs
 
--- src/chains.rt:90:1
 returns : tie.Need-returns
 returns c =
     let k = c .before .before .before .before .before .before .before .before .before .before in
     let a = k .args in
     place-on (a .s) (a .graph .now) (a .property .now) (k .pre .0) (a .work .now) (a .j) (c .before .before .before .before .before .before .row-named .result) (k .pre .1 .0) (k .pre .1 .1 .1) _ (k .pre .1 .1 .0) (c .before .before .before .before .before .before .row-named .ensures) (c .before .before .before .before .if1 .taken) (c .before .before .link .ensures)
 
--- src/chains.rt:90:1
 returns-2 : tie.Need-returns-2
 returns-2 c =
     let k = c .before .before .before .before .before .before in

@@ -18,41 +18,33 @@ Inv-loop graph property s work₀ j₀ work j =
 abbrev μ-loop : tie.MeasureT-loop
 μ-loop graph property s work₀ j₀ work j = 2 * s .rows - j
 
--- src/chains.rt:106:5
 loop-holds : tie.Need-loop-holds Inv-loop μ-loop
 loop-holds c = (omega arith, refl, c .before .before .before .pre .1 .1, λ q d. refl)
 
--- src/chains.rt:106:15
 mul-if1 : tie.Need-mul-if1 Inv-loop μ-loop
 mul-if1 c = omega (arith, c .before .before .before .before .before .pre .0 .few-rows)
 
--- src/chains.rt:107:9
 link-place-requires : tie.Need-link-place-requires Inv-loop μ-loop
 link-place-requires c κs =
     let k = c .before .before .before .before .before .before .before in
     let l = c .before .before .before .loop in
     (k .pre .0, (c .before .if1 .taken, (omega (arith, l .inv .1, k .pre .1 .0), l .inv .2)))
 
--- src/chains.rt:108:9
 add-j : tie.Need-add-j Inv-loop μ-loop
 add-j c = omega (arith, c .before .before .before .before .if1 .taken, c .before .before .before .before .before .before .before .before .before .before .pre .0 .few-rows)
 
--- src/chains.rt:106:5
 loop-less : tie.Need-loop-less Inv-loop μ-loop
 loop-less c = omega (arith, c .before .before .before .before .if1 .taken)
 
--- src/chains.rt:106:5
 loop-again : tie.Need-loop-again Inv-loop μ-loop
 loop-again c =
     let l = c .before .before .before .before .before .before .loop in
     let n = c .before .before .link-place in
     (omega (arith, c .before .before .before .before .if1 .taken), n .kept .1 .1 .1 .0 ∙ l .inv .1, n .ensures .0, λ q d. n .ensures .1 q d ∙ l .inv .3 q d)
 
--- src/chains.rt:101:1
 same-length : tie.Need-same-length Inv-loop μ-loop
 same-length c = search needs
 
--- src/chains.rt:101:1
 returns : tie.Need-returns Inv-loop μ-loop
 returns c =
     let a = c .before .before .before .before .before .before .args in

@@ -2,19 +2,15 @@ use borrow.Author.Tests.{eq-eqb, ne-eqb}
 use Rattle.judging.proofs.chains.operand.Statement.{statement}
 use Rattle.judging.proofs.chains.operand.Tie as tie
 
--- src/chains.rt:48:13
 returns : tie.Need-returns
 returns c = simp (c .before .if1 .taken, eq-eqb _ _ (c .if2 .taken))
 
--- src/chains.rt:50:9
 returns-2 : tie.Need-returns-2
 returns-2 c = simp (c .before .if1 .taken, ne-eqb _ _ (c .if2 .left))
 
--- src/chains.rt:53:9
 returns-3 : tie.Need-returns-3
 returns-3 c = simp (c .before .if1 .left, c .if3 .taken)
 
--- src/chains.rt:43:1
 returns-4 : tie.Need-returns-4
 returns-4 c = simp (c .before .if1 .left, c .if3 .left)
 

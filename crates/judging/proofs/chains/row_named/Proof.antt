@@ -6,27 +6,21 @@ use borrow.Author.Needs.{needs}
 use Rattle.judging.proofs.chains.row_named.Statement.{statement}
 use Rattle.judging.proofs.chains.row_named.Tie as tie
 
--- src/chains.rt:63:26
 row-at-requires : tie.Need-row-at-requires
 row-at-requires c κs = search needs
 
--- src/chains.rt:63:19
 enum-known-row : tie.Need-enum-known-row
 enum-known-row c = search needs
 
--- src/chains.rt:64:9
 enum-told : tie.Need-enum-told
 enum-told c = search needs
 
--- src/chains.rt:64:9
 returns : tie.Need-returns
 returns c = search needs
 
--- src/chains.rt:66:5
 operand-requires : tie.Need-operand-requires
 operand-requires c κs = search needs
 
--- src/chains.rt:59:1
 returns-2 : tie.Need-returns-2
 returns-2 c =
     let a = c .before .before .before .before .before .before .before .args in

@@ -10,39 +10,30 @@ use Rattle.judging.proofs.checks.check_both.Tie as tie
 use Rattle.files.proofs.check.check.Reads as check-reads
 use Rattle.files.proofs.check.check_graph.Reads as check-graph-reads
 
--- src/checks.rt:34:11
 check-graph-requires : tie.Need-check-graph-requires
 check-graph-requires c κs = search needs
 
--- src/checks.rt:35:26
 enum-known-refusal : tie.Need-enum-known-refusal
 enum-known-refusal c = search needs
 
--- src/checks.rt:36:29
 enum-known-nodes : tie.Need-enum-known-nodes
 enum-known-nodes c = search needs
 
--- src/checks.rt:36:55
 check-requires : tie.Need-check-requires
 check-requires c κs = search needs
 
--- src/checks.rt:37:30
 enum-known-refusal-2 : tie.Need-enum-known-refusal-2
 enum-known-refusal-2 c = search needs
 
--- src/checks.rt:39:24
 enum-known-nodes2 : tie.Need-enum-known-nodes2
 enum-known-nodes2 c = search needs
 
--- src/checks.rt:26:1
 returns : tie.Need-returns
 returns c = let a = c .before .before .before .before .before .before .args in sym (ap (λ (x : Checked). both-checked x (checked (a .limits) (kind-of (a .kind)) (a .second .now) 2)) (sym (c .before .before .before .check-graph .ensures) ∙ c .before .refusal .given .1))
 
--- src/checks.rt:26:1
 returns-2 : tie.Need-returns-2
 returns-2 c = sym (ap₂ both-checked (sym (c .before .before .before .before .before .before .before .check-graph .ensures) ∙ c .before .before .before .before .before .nodes .given .1) (sym (c .before .before .before .check .ensures) ∙ c .before .refusal2 .given .1))
 
--- src/checks.rt:26:1
 returns-3 : tie.Need-returns-3
 returns-3 c = sym (ap₂ both-checked (sym (c .before .before .before .before .before .before .before .check-graph .ensures) ∙ c .before .before .before .before .before .nodes .given .1) (sym (c .before .before .before .check .ensures) ∙ c .before .nodes2 .given .1))
 

@@ -20,31 +20,24 @@ Inv-loop first second s row₀ h₀ row h = (h ≤ s .nodes2) × (length row ≡
 abbrev μ-loop : tie.MeasureT-loop
 μ-loop first second s row₀ h₀ row h = s .nodes2 - h
 
--- src/cover.rt:37:5
 loop-holds : tie.Need-loop-holds Inv-loop μ-loop
 loop-holds c = (omega arith, refl, chosen-none (λ x. (node (decode-graph (c .before .before .args .second .now)) x) .entry))
 
--- src/cover.rt:38:12
 is-entry-requires : tie.Need-is-entry-requires Inv-loop μ-loop
 is-entry-requires c κs = search needs
 
--- src/cover.rt:39:21
 slice-aggregate-put-bit : tie.Need-slice-aggregate-put-bit Inv-loop μ-loop
 slice-aggregate-put-bit c = search needs
 
--- src/cover.rt:39:13
 put-bit-requires : tie.Need-put-bit-requires Inv-loop μ-loop
 put-bit-requires c κs = search needs
 
--- src/cover.rt:41:9
 add-h : tie.Need-add-h Inv-loop μ-loop
 add-h c = search needs
 
--- src/cover.rt:37:5
 loop-less : tie.Need-loop-less Inv-loop μ-loop
 loop-less c = search needs
 
--- src/cover.rt:37:5
 loop-again : tie.Need-loop-again Inv-loop μ-loop
 loop-again c = let k = c .before .before .before .before .before .before .before in
     let l = c .before .before .before .before .loop in
@@ -55,7 +48,6 @@ loop-again c = let k = c .before .before .before .before .before .before .before
       ⊎-elim (λ u. subst (Chosen p (l .h + 1)) (sym (u .4)) (chosen-put p (l .row) (l .h) (l .inv .2) (u .2 .last .0) (omega (arith, l .inv .1)) (omega (arith, c .before .before .if1 .taken, k .pre .few-second-nodes)) (u .2 .ensures) (sym (y .ensures) ∙ u .0 .taken))) (λ u. subst (Chosen p (l .h + 1)) (sym (u .1)) (chosen-over p (l .row) (l .h) (l .inv .2) (sym (y .ensures) ∙ u .0 .left))) (c .if2 .came),
     )
 
--- src/cover.rt:31:1
 returns : tie.Need-returns Inv-loop μ-loop
 returns c = let l = c .before .before .loop in let k = c .before .before .before .before .before in let e : l .h ≡ k .args .s .nodes2 = omega (arith, c .if1 .left, l .inv .0) in (l .inv .1, subst (λ (n : ℕ). Chosen (λ x. (node (decode-graph (k .args .second .now)) x) .entry) n (l .row)) e (l .inv .2))
 

@@ -19,43 +19,34 @@ Inv-loop first second s work row g₀ g = (g ≤ s .nodes) × ((u : ℕ) → u <
 abbrev μ-loop : tie.MeasureT-loop
 μ-loop first second s work row g₀ g = s .nodes - g
 
--- src/cover.rt:78:15
 entries-requires : tie.Need-entries-requires Inv-loop μ-loop
 entries-requires c κs = search needs
 
--- src/cover.rt:80:5
 loop-holds : tie.Need-loop-holds Inv-loop μ-loop
 loop-holds c = (omega arith, λ u h. absurd (omega arith))
 
--- src/cover.rt:81:49
 slice-aggregate-is-uncovered : tie.Need-slice-aggregate-is-uncovered Inv-loop μ-loop
 slice-aggregate-is-uncovered c = search needs
 
--- src/cover.rt:81:12
 is-uncovered-requires : tie.Need-is-uncovered-requires Inv-loop μ-loop
 is-uncovered-requires c κs = search needs
 
--- src/cover.rt:82:13
 returns : tie.Need-returns Inv-loop μ-loop
 returns c = let k = c .before .before .before .before .before .before .before .before .before .before in
     let l = c .before .before .before .before .before .loop in
     lowest-at (k .args .s) (k .args .first .now) (k .args .second .now) (k .pre .0) (l .g) (c .before .before .before .if1 .taken) (l .inv .1) (c .before .is-uncovered .result) (c .before .is-uncovered .ensures) (c .if2 .taken)
 
--- src/cover.rt:84:9
 add-g : tie.Need-add-g Inv-loop μ-loop
 add-g c = search needs
 
--- src/cover.rt:80:5
 loop-less : tie.Need-loop-less Inv-loop μ-loop
 loop-less c = search needs
 
--- src/cover.rt:80:5
 loop-again : tie.Need-loop-again Inv-loop μ-loop
 loop-again c = let a = c .before .before .before .before .before .before .before .before .before .before .args in
     let l = c .before .before .before .before .before .loop in
     (omega (arith, c .before .before .before .if1 .taken), none-on (misses (decode-graph (a .first .now)) (decode-graph (a .second .now))) (l .g) (l .inv .1) (sym (c .before .is-uncovered .ensures) ∙ c .if2 .left))
 
--- src/cover.rt:74:1
 returns-2 : tie.Need-returns-2 Inv-loop μ-loop
 returns-2 c = let k = c .before .before .before .before .before .before .before in
     let l = c .before .before .loop in

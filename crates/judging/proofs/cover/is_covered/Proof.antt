@@ -4,15 +4,12 @@ use Rattle.judging.proofs.cover.is_covered.Statement.{statement}
 use Rattle.judging.proofs.cover.is_covered.Tie as tie
 use Rattle.judging.proofs.rows.meets.Reads as meets-reads
 
--- src/cover.rt:51:26
 mul-meets : tie.Need-mul-meets
 mul-meets c = search needs
 
--- src/cover.rt:51:5
 meets-requires : tie.Need-meets-requires
 meets-requires c κs = search needs
 
--- src/cover.rt:47:1
 returns : tie.Need-returns
 returns c = let k = c .before .before .before .before .before in covered-by (k .args .s) (k .args .first .now) (k .args .second .now) (k .pre .1 .0) (k .args .work .now) (k .pre .1 .1 .1 .1 .0) (k .args .entries .now) (k .pre .1 .1 .1 .1 .1) (k .args .g) (k .pre .1 .1 .0) (c .meets .result) (c .meets .ensures .0) (c .meets .ensures .1)
 

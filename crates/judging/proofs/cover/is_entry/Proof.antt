@@ -7,23 +7,18 @@ use borrow.Author.Needs.{needs}
 use Rattle.judging.proofs.cover.is_entry.Statement.{statement}
 use Rattle.judging.proofs.cover.is_entry.Tie as tie
 
--- src/cover.rt:23:25
 node-at-requires : tie.Need-node-at-requires
 node-at-requires c κs = search needs
 
--- src/cover.rt:23:20
 enum-known-v : tie.Need-enum-known-v
 enum-known-v c = search needs
 
--- src/cover.rt:24:9
 enum-told : tie.Need-enum-told
 enum-told c = search needs
 
--- src/cover.rt:24:9
 returns : tie.Need-returns
 returns c = search needs
 
--- src/cover.rt:19:1
 returns-2 : tie.Need-returns-2
 returns-2 c = let a = c .before .before .before .before .before .before .args in
     ap (λ (n : GraphNode). n .entry) (held-node (c .before .before .before .node-at .result) _ (node (decode-graph (a .second .now)) (a .h)) (c .before .v .given .1) (c .before .before .before .node-at .ensures))

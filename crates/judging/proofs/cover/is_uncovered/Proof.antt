@@ -10,27 +10,21 @@ use Rattle.judging.proofs.cover.is_uncovered.Tie as tie
 use Rattle.files.proofs.graph.node_at.Reads as node-at-reads
 use Rattle.judging.proofs.cover.is_covered.Reads as is-covered-reads
 
--- src/cover.rt:66:25
 node-at-requires : tie.Need-node-at-requires
 node-at-requires c κs = search needs
 
--- src/cover.rt:66:20
 enum-known-v : tie.Need-enum-known-v
 enum-known-v c = search needs
 
--- src/cover.rt:67:9
 enum-told : tie.Need-enum-told
 enum-told c = search needs
 
--- src/cover.rt:67:9
 returns : tie.Need-returns
 returns c = search needs
 
--- src/cover.rt:69:9
 is-covered-requires : tie.Need-is-covered-requires
 is-covered-requires c κs = search needs
 
--- src/cover.rt:55:1
 returns-2 : tie.Need-returns-2
 returns-2 c = let a = c .before .before .before .before .before .before .before .before .before .before .args in
     ap₂ (λ (n : GraphNode) (b : Bool). n .entry && not b) (held-node (c .before .before .before .before .before .node-at .result) _ (node (decode-graph (a .first .now)) (a .g)) (c .before .before .before .v .given .1) (c .before .before .before .before .before .node-at .ensures)) (c .before .is-covered .ensures)

@@ -15,37 +15,29 @@ Inv-loop first second s work out₀ g₀ out g = (g ≤ s .nodes) × (out ≡ pu
 abbrev μ-loop : tie.MeasureT-loop
 μ-loop first second s work out₀ g₀ out g = s .nodes - g
 
--- src/cover.rt:78:5
 loop-holds : tie.Need-loop-holds Inv-loop μ-loop
 loop-holds c = let a = c .before .before .before .before .args in (omega arith, lines-none (decode-graph (a .first .now)) (decode-graph (a .second .now)) (a .out .now), refl)
 
--- src/cover.rt:79:32
 mul-put-line : tie.Need-mul-put-line Inv-loop μ-loop
 mul-put-line c = omega (arith, c .before .if1 .taken, c .before .before .before .before .before .before .before .before .pre .0 .few-first-nodes)
 
--- src/cover.rt:79:9
 put-line-requires : tie.Need-put-line-requires Inv-loop μ-loop
 put-line-requires c κs = let k = c .before .before .before .before .before .before .before .before in (omega (arith, c .before .if1 .taken, k .pre .1 .1 .1, c .before .before .before .loop .inv .2), omega (arith, c .before .if1 .taken, k .pre .0 .few-first-nodes, k .pre .1 .0))
 
--- src/cover.rt:80:9
 add-g : tie.Need-add-g Inv-loop μ-loop
 add-g c = omega (arith, c .before .before .before .before .if1 .taken, c .before .before .before .before .before .before .before .before .before .before .before .pre .0 .few-first-nodes)
 
--- src/cover.rt:78:5
 loop-less : tie.Need-loop-less Inv-loop μ-loop
 loop-less c = omega (arith, c .before .before .before .before .if1 .taken)
 
--- src/cover.rt:78:5
 loop-again : tie.Need-loop-again Inv-loop μ-loop
 loop-again c = let l = c .before .before .before .before .before .before .loop in
     let x = c .before .before .put-line in
     (omega (arith, c .before .before .before .before .if1 .taken), line-on (c .before .before .before .before .before .before .before .before .before .before .before .args .s) (c .before .before .before .before .before .before .before .before .before .before .before .args .first .now) (c .before .before .before .before .before .before .before .before .before .before .before .args .second .now) (c .before .before .before .before .before .before .before .before .before .before .before .pre .0) (c .before .before .before .before .before .before .before .before .before .before .before .args .work .now) (c .before .before .before .before .before .before .before .before .before .before .before .pre .1 .1 .0) (c .before .before .before .before .before .before .before .before .before .before .before .args .out .now) (l .out) (x .last .0) (l .g) (c .before .before .before .before .if1 .taken) (l .inv .1) (x .ensures), x .kept .0 ∙ l .inv .2)
 
--- src/cover.rt:73:1
 same-length : tie.Need-same-length Inv-loop μ-loop
 same-length c = c .before .before .loop .inv .2
 
--- src/cover.rt:73:1
 returns : tie.Need-returns Inv-loop μ-loop
 returns c = let l = c .before .before .loop in line-end (c .before .before .before .before .before .before .before .args .s) (c .before .before .before .before .before .before .before .args .first .now) (c .before .before .before .before .before .before .before .args .second .now) (c .before .before .before .before .before .before .before .pre .0) (c .before .before .before .before .before .before .before .args .work .now) (c .before .before .before .before .before .before .before .pre .1 .1 .0) (c .before .before .before .before .before .before .before .args .out .now) (l .out) (l .g) (l .inv .0) (c .if1 .left) (l .inv .1)
 

@@ -7,36 +7,28 @@ use Rattle.judging.proofs.causes.first_failing.Reads as first-failing-r
 use Rattle.judging.proofs.decide.fail.Reads as fail-reads
 use Rattle.judging.proofs.decide.find_ranks.Reads as find-ranks-reads
 
--- src/decide.rt:65:5
 find-ranks-requires : tie.Need-find-ranks-requires
 find-ranks-requires c κs = search needs
 
--- src/decide.rt:66:9
 first-failing-requires : tie.Need-first-failing-requires
 first-failing-requires c κs = search needs
 
--- src/decide.rt:68:9
 fail-requires : tie.Need-fail-requires
 fail-requires c κs = let k = c .before .before .before .before .before .before .before .before .before .before .before .before .before .before in
     (k .pre .0, (omega (arith, c .before .before .before .before .before .before .before .before .find-ranks .kept .1 .1 .1 .0, k .pre .1), (c .before .before .before .before .before .before .before .before .find-ranks .ensures, (c .before .before .before .before .first-failing .ensures, c .before .before .if1 .taken))))
 
--- src/decide.rt:68:9
 same-length : tie.Need-same-length
 same-length c = search needs
 
--- src/decide.rt:68:9
 same-length-2 : tie.Need-same-length-2
 same-length-2 c = search needs
 
--- src/decide.rt:68:9
 returns : tie.Need-returns
 returns c = search needs
 
--- src/decide.rt:61:1
 same-length-3 : tie.Need-same-length-3
 same-length-3 c = search needs
 
--- src/decide.rt:61:1
 returns-2 : tie.Need-returns-2
 returns-2 c = let k = c .before .before .before .before .before .before .before .before .before .before .before .before in answers-clean (k .args .s) (k .args .graph .now) (k .args .property .now) (k .pre .0) (k .args .out .now) (c .before .before .first-failing .result) (c .before .before .first-failing .ensures) (c .if1 .left)
 

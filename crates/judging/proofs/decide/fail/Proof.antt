@@ -7,60 +7,46 @@ use borrow.Author.Needs.{needs}
 use Rattle.judging.proofs.decide.fail.Statement.{statement}
 use Rattle.judging.proofs.decide.fail.Tie as tie
 
--- src/decide.rt:50:5
 first-edges-requires : tie.Need-first-edges-requires
 first-edges-requires c κs = search needs
 
--- src/decide.rt:51:11
 sub-clear : tie.Need-sub-clear
 sub-clear c = search needs
 
--- src/decide.rt:51:11
 part-clear-start : tie.Need-part-clear-start
 part-clear-start c = search needs
 
--- src/decide.rt:51:11
 part-clear-end : tie.Need-part-clear-end
 part-clear-end c = search needs
 
--- src/decide.rt:51:5
 clear-requires : tie.Need-clear-requires
 clear-requires c κs = search needs
 
--- src/decide.rt:52:9
 walk-requires : tie.Need-walk-requires
 walk-requires c κs = let k = c .before .before .before .before .before .before .before .before .before .before .before .before .before in
     (k .pre .0, (still-settled (c .before .before .before .before .before .before .before .first-edges .last .1 .1 .1 .0) (c .before .before .before .clear .last .0) (c .before .before .before .before .before .before .before .first-edges .ensures .room) (c .before .before .before .clear .ensures) (k .args .s) (k .args .graph .now) (k .args .property .now) (k .pre .0) (c .before .before .before .before .before .before .before .first-edges .ensures), (no-marks (c .before .before .before .before .before .before .before .first-edges .last .1 .1 .1 .0) (c .before .before .before .clear .last .0) (c .before .before .before .before .before .before .before .first-edges .ensures .room) (c .before .before .before .clear .ensures), (k .pre .1 .1 .1 .0, not-satisfied (k .args .s) (k .args .graph .now) (k .args .property .now) (k .pre .0) (k .args .g) (k .pre .1 .1 .1 .0) (k .pre .1 .1 .1 .1)))))
 
--- src/decide.rt:53:20
 mul-if1 : tie.Need-mul-if1
 mul-if1 c = let k = c .before .before .before .before .before .before .before .before .before .before .before .before .before .before .before .before in omega (arith, listed-few (k .args .s) (k .args .graph .now) (k .args .property .now) (k .pre .0) (c .before .before .walk .result) (c .before .before .walk .last .1 .1 .1 .0) (c .before .before .walk .ensures .0))
 
--- src/decide.rt:54:32
 whole-requires : tie.Need-whole-requires
 whole-requires c κs = search needs
 
--- src/decide.rt:54:9
 same-length : tie.Need-same-length
 same-length c = c .before .before .before .before .walk .kept .1 .1 .1 .0 ∙ cleared-length 32768 1024 (c .before .before .before .before .before .before .before .before .before .before .before .before .first-edges .last .1 .1 .1 .0) (c .before .before .before .before .before .before .before .before .clear .last .0) (c .before .before .before .before .before .before .before .before .clear .ensures) ∙ c .before .before .before .before .before .before .before .before .before .before .before .before .first-edges .kept .1 .1 .1 .0
 
--- src/decide.rt:54:9
 returns : tie.Need-returns
 returns c = let k = c .before .before .before .before .before .before .before .before .before .before .before .before .before .before .before .before .before .before in answers-full (k .args .s) (k .args .graph .now) (k .args .property .now) (k .pre .0) (k .args .g) (k .pre .1 .1 .1 .0) (k .pre .1 .1 .1 .1) (c .before .before .before .before .walk .last .1 .1 .1 .0) (c .before .before .before .before .walk .result) (c .before .before .before .before .walk .ensures .1) (k .args .out .now) (c .whole .result) (c .before .if1 .taken) (c .whole .ensures)
 
--- src/decide.rt:56:5
 write-sheet-requires : tie.Need-write-sheet-requires
 write-sheet-requires c κs = search needs
 
--- src/decide.rt:39:1
 same-length-2 : tie.Need-same-length-2
 same-length-2 c = search needs
 
--- src/decide.rt:39:1
 same-length-3 : tie.Need-same-length-3
 same-length-3 c = c .before .before .before .before .before .before .before .before .walk .kept .1 .1 .1 .0 ∙ cleared-length 32768 1024 (c .before .before .before .before .before .before .before .before .before .before .before .before .before .before .before .before .first-edges .last .1 .1 .1 .0) (c .before .before .before .before .before .before .before .before .before .before .before .before .clear .last .0) (c .before .before .before .before .before .before .before .before .before .before .before .before .clear .ensures) ∙ c .before .before .before .before .before .before .before .before .before .before .before .before .before .before .before .before .first-edges .kept .1 .1 .1 .0
 
--- src/decide.rt:39:1
 returns-2 : tie.Need-returns-2
 returns-2 c = let k = c .before .before .before .before .before .before .before .before .before .before .before .before .before .before .before .before .before .before .before .before .before .before in answers-written (k .args .s) (k .args .graph .now) (k .args .property .now) (k .pre .0) (k .args .g) (k .pre .1 .1 .1 .0) (k .pre .1 .1 .1 .1) (c .before .before .before .before .before .before .before .before .walk .last .1 .1 .1 .0) (c .before .before .before .before .before .before .before .before .walk .result) (c .before .before .before .before .before .before .before .before .walk .ensures .1) (k .args .out .now) (c .before .before .write-sheet .last .1 .1 .1 .1 .0) (c .before .before .before .before .before .if1 .left) (c .before .before .write-sheet .ensures)
 

@@ -11,15 +11,12 @@ use Rattle.judging.proofs.chains.index.Reads as index-reads
 use Rattle.judging.proofs.levels.levels.Reads as levels-reads
 use Rattle.judging.proofs.levels.start.Reads as start-reads
 
--- src/decide.rt:32:5
 clear-requires : tie.Need-clear-requires
 clear-requires c κs = search needs
 
--- src/decide.rt:33:5
 index-requires : tie.Need-index-requires
 index-requires c κs = let k = c .before .before .before .before .before .before .before .before in let x = c .before .before .before .clear in (k .pre .0, (x .ensures ∙ ap (λ (n : ℕ). replicate n 0) (sym (x .kept .0)), omega (arith, x .kept .0, k .pre .1)))
 
--- src/decide.rt:34:9
 start-requires : tie.Need-start-requires
 start-requires c κs = let k = c .before .before .before .before .before .before .before .before .before .before .before .before in
     let x = c .before .before .before .before .before .before .before .clear in
@@ -27,15 +24,12 @@ start-requires c κs = let k = c .before .before .before .before .before .before
     let zeros = x .ensures ∙ ap (λ (n : ℕ). replicate n 0) (sym (x .kept .0)) in
     (k .pre .0, (first-finding (x .last .0) (i .last .1 .1 .1 .0) zeros (i .ensures .1) (k .args .s) (k .args .graph .now) (k .args .property .now) (k .pre .0) (omega (arith, i .kept .1 .1 .1 .0, x .kept .0, k .pre .1)) (i .ensures .0), zero-ranks (x .last .0) (i .last .1 .1 .1 .0) zeros (i .ensures .1)))
 
--- src/decide.rt:35:5
 levels-requires : tie.Need-levels-requires
 levels-requires c κs = search needs
 
--- src/decide.rt:28:1
 same-length : tie.Need-same-length
 same-length c = search needs
 
--- src/decide.rt:28:1
 returns : tie.Need-returns
 returns c = search needs
 

@@ -7,41 +7,32 @@ use Rattle.judging.proofs.decide.judge_files.Tie as tie
 use Rattle.judging.proofs.checks.check_both.Reads as check-both-reads
 use Rattle.judging.proofs.decide.decide.Reads as decide-reads
 
--- src/decide.rt:84:11
 check-both-requires : tie.Need-check-both-requires
 check-both-requires c κs = search needs
 
--- src/decide.rt:85:30
 enum-known-refusal : tie.Need-enum-known-refusal
 enum-known-refusal c = search needs
 
--- src/decide.rt:87:13
 enum-known-nodes : tie.Need-enum-known-nodes
 enum-known-nodes c = search needs
 
--- src/decide.rt:94:24
 sub-t14 : tie.Need-sub-t14
 sub-t14 c = let n = files-counts _ _ _ _ (c .before .before .before .check-both .ensures) (c .before .nodes .given .1) in nodes-first _ _ (n .first-within) (n .nodes-are) (n .records-are)
 
--- src/decide.rt:97:13
 decide-requires : tie.Need-decide-requires
 decide-requires c κs = let k = c .before .before .before .before .before .before .before .before .before .before in
     let n = files-counts _ _ _ _ (c .before .before .before .before .before .check-both .ensures) (c .before .before .before .nodes .given .1) in
     (both-ready _ (k .pre .0) _ _ (n .first-within) (n .second-within) _ _ _ (n .nodes-are) (n .records-are) (n .records2-are), k .pre .1)
 
--- src/decide.rt:74:1
 returns : tie.Need-returns
 returns c = files-refused _ _ _ _ (c .before .before .before .check-both .ensures) _ _ (c .before .refusal .given .1)
 
--- src/decide.rt:74:1
 same-length : tie.Need-same-length
 same-length c = search needs
 
--- src/decide.rt:74:1
 same-length-2 : tie.Need-same-length-2
 same-length-2 c = search needs
 
--- src/decide.rt:74:1
 returns-2 : tie.Need-returns-2
 returns-2 c = files-passed _ _ _ _ (c .before .before .before .before .before .before .before .before .before .before .check-both .ensures) _ _ (c .before .before .before .before .before .before .before .before .nodes .given .1) (c .before .before .before .before .decide .ensures)
 

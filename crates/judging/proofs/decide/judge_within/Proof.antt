@@ -11,31 +11,24 @@ use Rattle.files.proofs.cells.clear.Reads as clear-reads
 use Rattle.files.proofs.refusal.Refusal.whole.Reads as whole-reads
 use Rattle.judging.proofs.decide.judge_files.Reads as judge-files-reads
 
--- src/decide.rt:114:32
 whole-requires : tie.Need-whole-requires
 whole-requires c κs = search needs
 
--- src/decide.rt:114:9
 returns : tie.Need-returns
 returns c = let a = c .before .before .before .before .before .before .args in does-short (a .limits) property (a .graph .now) (a .property .now) judge-room (judge-said (decode-graph (a .graph .now)) (decode-property (a .property .now))) (a .out .now) (a .work .now) (judged-is (a .limits) (a .graph .now) (a .property .now) (length (a .out .now)) (length (a .work .now))) (c .before .if1 .taken) (c .whole .ensures)
 
--- src/decide.rt:116:9
 judge-files-requires : tie.Need-judge-files-requires
 judge-files-requires c κs = search needs
 
--- src/decide.rt:117:5
 clear-requires : tie.Need-clear-requires
 clear-requires c κs = search needs
 
--- src/decide.rt:103:1
 same-length : tie.Need-same-length
 same-length c = search needs
 
--- src/decide.rt:103:1
 same-length-2 : tie.Need-same-length-2
 same-length-2 c = search needs
 
--- src/decide.rt:103:1
 returns-2 : tie.Need-returns-2
 returns-2 c = let a = c .before .before .before .before .before .before .before .before .before .before .before .before .before .before .before .before .args in
     let j = c .before .before .before .before .before .before .before .before .judge-files in

@@ -12,24 +12,19 @@ use borrow.Author.Needs.{needs}
 use Rattle.judging.proofs.levels.arrive.Statement.{statement}
 use Rattle.judging.proofs.levels.arrive.Tie as tie
 
--- src/levels.rt:147:28
 edge-at-requires : tie.Need-edge-at-requires
 edge-at-requires c κs = search needs
 
--- src/levels.rt:147:20
 enum-known-edge : tie.Need-enum-known-edge
 enum-known-edge c = search needs
 
--- src/levels.rt:148:9
 enum-told : tie.Need-enum-told
 enum-told c = search needs
 
--- src/levels.rt:148:9
 returns : tie.Need-returns
 returns c =
     absurd (edge-read (c .before .before .edge-at .result) _ _ (c .before .before .edge-at .ensures) (c .enum-told .given .1))
 
--- src/levels.rt:151:9
 give-requires : tie.Need-give-requires
 give-requires c κs =
     let k = c .before .before .before .before .before .before .before .before .before .before in
@@ -38,11 +33,9 @@ give-requires c κs =
     let m = may-give (a .s) (a .graph .now) (a .property .now) (k .pre .0) (a .k) (a .tail) (a .work .now) (k .pre .1 .1 .1 .0) ((getD ((decode-graph (a .graph .now)) .edges) (a .e) no-edge) .from) (a .q) (from-in (a .s) (a .graph .now) (a .property .now) (k .pre .0) (a .e) (k .pre .1 .0)) (k .pre .1 .1 .0) (k .pre .1 .1 .1 .1 (sym (ap (λ (u : GraphEdge). u .label) h) ∙ c .before .if1 .taken)) in
     subst (λ (n : ℕ). (pair n (a .q) < 8192) × ((rank-at (a .work .now) n (a .q) ≡ 0 → a .tail < 8192) × ((41664 ≤ length (a .work .now)) × (a .k ≤ 8192)))) (sym (ap (λ (u : GraphEdge). u .from) h)) m
 
--- src/levels.rt:151:9
 same-length : tie.Need-same-length
 same-length c = search needs
 
--- src/levels.rt:151:9
 returns-2 : tie.Need-returns-2
 returns-2 c =
     let k = c .before .before .before .before .before .before .before .before .before .before .before .before .before in
@@ -52,7 +45,6 @@ returns-2 c =
     (subst (λ (n : ℕ). (c .before .before .give .result ≡ tail-after (a .work .now) (a .tail) n (a .q)) × (c .before .before .give .last .0 ≡ given (a .work .now) (a .tail) n (a .q) (a .k))) (ap (λ (u : GraphEdge). u .from) h) (c .before .before .give .ensures)) in
     (x .0, λ t. x .1)
 
--- src/levels.rt:133:1
 returns-3 : tie.Need-returns-3
 returns-3 c =
     let k = c .before .before .before .before .before .before .before .before .before in

@@ -19,28 +19,23 @@ Inv-loop graph property s work₀ tail v label q k at₀ end₀ work at end = (l
 abbrev μ-loop : tie.MeasureT-loop
 μ-loop graph property s work₀ tail v label q k at₀ end₀ work at end = at
 
--- src/levels.rt:171:18
 get16-requires : tie.Need-get16-requires Inv-loop μ-loop
 get16-requires c κs =
     let k = c .before .before .before .before in
     omega (arith, k .pre .1 .1 .1 .0 .room, k .pre .0 .few-nodes, k .pre .1 .0)
 
--- src/levels.rt:171:18
 cast-at : tie.Need-cast-at Inv-loop μ-loop
 cast-at c = search needs
 
--- src/levels.rt:173:5
 loop-holds : tie.Need-loop-holds Inv-loop μ-loop
 loop-holds c =
     let k = c .before .before .before .before .before in
     let a = k .args in
     (refl, grew-none (decode-graph (a .graph .now)) (decode-property (a .property .now)) (a .k) (a .tail) (a .work .now) (k .pre .1 .1 .1 .0), walk-start (into (decode-graph (a .graph .now)) (a .v)) (length ((decode-graph (a .graph .now)) .edges)) (c .get16 .result) (λ (e : ℕ). (getD ((decode-graph (a .graph .now)) .edges) e no-edge) .label ≡ a .label → Given (a .work .now) ((getD ((decode-graph (a .graph .now)) .edges) e no-edge) .from) (a .q)) (c .get16 .ensures ∙ k .pre .1 .1 .1 .0 .index .by-node .heads-are (a .v) (node-in (a .s) (a .graph .now) (a .property .now) (k .pre .0) (a .v) (k .pre .1 .0))))
 
--- src/levels.rt:174:17
 sub-e : tie.Need-sub-e Inv-loop μ-loop
 sub-e c = search needs
 
--- src/levels.rt:175:9
 arrive-requires : tie.Need-arrive-requires Inv-loop μ-loop
 arrive-requires c κs =
     let k = c .before .before .before .before .before .before .before .before in
@@ -50,7 +45,6 @@ arrive-requires c κs =
     let h : l .at - 1 < a .s .edges = omega (arith, i .1, edges-is (a .s) (a .graph .now) (a .property .now) (k .pre .0)) in
     (k .pre .0, (h, (k .pre .1 .1 .0, (l .inv .1 .finding, k .pre .1 .1 .1 .1 (l .at - 1) h (i .0)))))
 
--- src/levels.rt:176:14
 get16-requires-2 : tie.Need-get16-requires-2 Inv-loop μ-loop
 get16-requires-2 c κs =
     let k = c .before .before .before .before .before .before .before .before .before .before .before .before in
@@ -60,11 +54,9 @@ get16-requires-2 c κs =
     let i = walk-item (into (decode-graph (a .graph .now)) (a .v)) (length ((decode-graph (a .graph .now)) .edges)) (l .at) (λ (e : ℕ). (getD ((decode-graph (a .graph .now)) .edges) e no-edge) .label ≡ a .label → Given (l .work) ((getD ((decode-graph (a .graph .now)) .edges) e no-edge) .from) (a .q)) (l .inv .2) (c .before .before .before .before .before .loop-test .taken) in
     omega (arith, i .1, edges-is (a .s) (a .graph .now) (a .property .now) (k .pre .0), k .pre .0 .few-edges, x .ensures .0 .finding .room)
 
--- src/levels.rt:176:14
 cast-at-2 : tie.Need-cast-at-2 Inv-loop μ-loop
 cast-at-2 c = search needs
 
--- src/levels.rt:173:5
 loop-less : tie.Need-loop-less Inv-loop μ-loop
 loop-less c =
     let k = c .before .before .before .before .before .before .before .before .before .before .before .before .before in
@@ -75,7 +67,6 @@ loop-less c =
     let n = c .get162 .ensures ∙ x .ensures .0 .finding .index .by-node .nexts-are (a .v) (l .at - 1) (node-in (a .s) (a .graph .now) (a .property .now) (k .pre .0) (a .v) (k .pre .1 .0)) (i .1) (i .0) in
     walk-less (into (decode-graph (a .graph .now)) (a .v)) (l .at) (c .get162 .result) (c .before .before .before .before .before .before .loop-test .taken) n
 
--- src/levels.rt:173:5
 loop-again : tie.Need-loop-again Inv-loop μ-loop
 loop-again c =
     let k = c .before .before .before .before .before .before .before .before .before .before .before .before .before in
@@ -91,11 +82,9 @@ loop-again c =
           (x .ensures .1),
     )
 
--- src/levels.rt:157:1
 same-length : tie.Need-same-length Inv-loop μ-loop
 same-length c = c .before .loop .inv .0
 
--- src/levels.rt:157:1
 returns : tie.Need-returns Inv-loop μ-loop
 returns c =
     let k = c .before .before .before .before .before .before .before in

@@ -11,43 +11,33 @@ use borrow.Author.Needs.{needs}
 use Rattle.judging.proofs.levels.falls_alone.Statement.{statement}
 use Rattle.judging.proofs.levels.falls_alone.Tie as tie
 
--- src/levels.rt:67:25
 node-at-requires : tie.Need-node-at-requires
 node-at-requires c κs = search needs
 
--- src/levels.rt:67:20
 enum-known-v : tie.Need-enum-known-v
 enum-known-v c = search needs
 
--- src/levels.rt:68:9
 enum-told : tie.Need-enum-told
 enum-told c = search needs
 
--- src/levels.rt:68:9
 returns : tie.Need-returns
 returns c = search needs
 
--- src/levels.rt:70:24
 row-at-requires : tie.Need-row-at-requires
 row-at-requires c κs = search needs
 
--- src/levels.rt:70:19
 enum-known-x : tie.Need-enum-known-x
 enum-known-x c = search needs
 
--- src/levels.rt:71:9
 enum-told-2 : tie.Need-enum-told-2
 enum-told-2 c = search needs
 
--- src/levels.rt:71:9
 returns-2 : tie.Need-returns-2
 returns-2 c = search needs
 
--- src/levels.rt:73:5
 leaf-false-requires : tie.Need-leaf-false-requires
 leaf-false-requires c κs = search needs
 
--- src/levels.rt:63:1
 returns-3 : tie.Need-returns-3
 returns-3 c = let a = c .before .before .before .before .before .before .before .before .before .before .before .args in
     let v = held-node (c .before .before .before .before .before .before .before .before .node-at .result) _ (node (decode-graph (a .graph .now)) (a .g)) (c .before .before .before .before .before .before .v .given .1) (c .before .before .before .before .before .before .before .before .node-at .ensures) in

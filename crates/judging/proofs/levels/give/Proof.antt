@@ -6,51 +6,39 @@ use borrow.Author.Needs.{needs}
 use Rattle.judging.proofs.levels.give.Statement.{statement}
 use Rattle.judging.proofs.levels.give.Tie as tie
 
--- src/levels.rt:30:13
 mul-p : tie.Need-mul-p
 mul-p c = search needs
 
--- src/levels.rt:30:13
 add-p : tie.Need-add-p
 add-p c = search needs
 
--- src/levels.rt:31:8
 get16-requires : tie.Need-get16-requires
 get16-requires c κs = search needs
 
--- src/levels.rt:32:27
 add-put16 : tie.Need-add-put16
 add-put16 c = search needs
 
--- src/levels.rt:32:9
 put16-requires : tie.Need-put16-requires
 put16-requires c κs = search needs
 
--- src/levels.rt:33:41
 cast-put16 : tie.Need-cast-put16
 cast-put16 c = search needs
 
--- src/levels.rt:33:9
 put16-requires-2 : tie.Need-put16-requires-2
 put16-requires-2 c κs = omega (arith, c .before .before .before .before .before .before .before .before .before .pre .1 .0 (sym (c .before .before .before .before .before .before .get16 .ensures) ∙ c .before .before .before .before .before .if1 .taken), c .before .before .before .put16 .kept .0, c .before .before .before .before .before .before .before .before .before .pre .1 .1 .0)
 
--- src/levels.rt:34:16
 add-result : tie.Need-add-result
 add-result c = omega (arith, c .before .before .before .before .before .before .before .before .before .before .before .before .pre .1 .0 (sym (c .before .before .before .before .before .before .before .before .before .get16 .ensures) ∙ c .before .before .before .before .before .before .before .before .if1 .taken))
 
--- src/levels.rt:34:9
 same-length : tie.Need-same-length
 same-length c = search needs
 
--- src/levels.rt:34:9
 returns : tie.Need-returns
 returns c = let a = c .before .before .before .before .before .before .before .before .before .before .before .before .args in give-yes (a .work .now) (c .before .before .before .before .before .before .put16 .last .0) (c .before .before .put162 .last .0) (a .tail) (a .g) (a .r) (a .k) (32 * (a .g) + a .r) refl (sym (c .before .before .before .before .before .before .before .before .before .get16 .ensures) ∙ c .before .before .before .before .before .before .before .before .if1 .taken) (c .before .before .before .before .before .before .put16 .ensures) (c .before .before .put162 .ensures)
 
--- src/levels.rt:26:1
 same-length-2 : tie.Need-same-length-2
 same-length-2 c = search needs
 
--- src/levels.rt:26:1
 returns-2 : tie.Need-returns-2
 returns-2 c = let a = c .before .before .before .before .args in give-no (a .work .now) (a .tail) (a .g) (a .r) (a .k) (λ z. c .if1 .left (c .before .get16 .ensures ∙ z))
 

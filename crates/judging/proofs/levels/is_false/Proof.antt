@@ -6,19 +6,15 @@ use borrow.Author.Needs.{needs}
 use Rattle.judging.proofs.levels.is_false.Statement.{statement}
 use Rattle.judging.proofs.levels.is_false.Tie as tie
 
--- src/levels.rt:44:28
 mul-get16 : tie.Need-mul-get16
 mul-get16 c = search needs
 
--- src/levels.rt:44:28
 add-get16 : tie.Need-add-get16
 add-get16 c = search needs
 
--- src/levels.rt:44:9
 get16-requires : tie.Need-get16-requires
 get16-requires c κs = search needs
 
--- src/levels.rt:40:1
 returns : tie.Need-returns
 returns c = ap (λ (y : ℕ). leb 1 y && leb y (c .before .before .args .k)) (c .get16 .ensures)
 

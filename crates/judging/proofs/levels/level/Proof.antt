@@ -17,14 +17,12 @@ Inv-loop graph property s work₀ head tail k i₀ end₀ work i end = (head ≤
 abbrev μ-loop : tie.MeasureT-loop
 μ-loop graph property s work₀ head tail k i₀ end₀ work i end = tail - i
 
--- src/levels.rt:249:5
 loop-holds : tie.Need-loop-holds Inv-loop μ-loop
 loop-holds c =
     let k = c .before .before .before in
     let a = k .args in
     (omega arith, omega (arith, k .pre .1 .1 .0), refl, grew-none (decode-graph (a .graph .now)) (decode-property (a .property .now)) (a .k) (a .tail) (a .work .now) (entry-finding (a .s) (a .graph .now) (a .property .now) (k .pre .0) (a .k) (a .head) (a .tail) (a .work .now) (k .pre .1 .0) (k .pre .1 .1 .0)), λ j h m. absurd (omega (arith, h, m)))
 
--- src/levels.rt:250:17
 get16-requires : tie.Need-get16-requires Inv-loop μ-loop
 get16-requires c κs =
     let k = c .before .before .before .before .before .before in
@@ -32,11 +30,9 @@ get16-requires c κs =
     let l = c .before .before .loop in
     omega (arith, c .before .loop-test .taken, tail-fits (a .s) (a .graph .now) (a .property .now) (k .pre .0) (a .k) (a .head) (a .tail) (a .work .now) (k .pre .1 .0), l .inv .3 .finding .room)
 
--- src/levels.rt:250:17
 cast-p : tie.Need-cast-p Inv-loop μ-loop
 cast-p c = search needs
 
--- src/levels.rt:253:9
 pop-requires : tie.Need-pop-requires Inv-loop μ-loop
 pop-requires c κs =
     let k = c .before .before .before .before .before .before .before .before in
@@ -45,18 +41,15 @@ pop-requires c κs =
     let x = popped (a .s) (a .graph .now) (a .property .now) (k .pre .0) (a .k) (a .head) (a .tail) (l .end) (a .work .now) (l .work) (k .pre .1 .0) (l .inv .3) (l .i) (c .before .get16 .result) (c .before .before .before .loop-test .taken) (c .before .get16 .ensures) in
     (k .pre .0, (x .0, (x .1, (l .inv .3 .finding, x .2))))
 
--- src/levels.rt:254:9
 add-i : tie.Need-add-i Inv-loop μ-loop
 add-i c =
     let k = c .before .before .before .before .before .before .before .before .before .before .before in
     let a = k .args in
     omega (arith, c .before .before .before .before .before .before .loop-test .taken, tail-fits (a .s) (a .graph .now) (a .property .now) (k .pre .0) (a .k) (a .head) (a .tail) (a .work .now) (k .pre .1 .0))
 
--- src/levels.rt:249:5
 loop-less : tie.Need-loop-less Inv-loop μ-loop
 loop-less c = omega (arith, c .before .before .before .before .before .before .loop-test .taken)
 
--- src/levels.rt:249:5
 loop-again : tie.Need-loop-again Inv-loop μ-loop
 loop-again c =
     let k = c .before .before .before .before .before .before .before .before .before .before .before in
@@ -72,11 +65,9 @@ loop-again c =
           (λ m. popped-done (a .s) (a .graph .now) (a .property .now) (k .pre .0) (a .k) (a .head) (a .tail) (l .end) (a .work .now) (l .work) (k .pre .1 .0) (l .inv .3) (l .i) (c .before .before .before .before .get16 .result) (c .before .before .before .before .before .before .loop-test .taken) (c .before .before .before .before .get16 .ensures) (x .last .1 .1 .1 .0) (x .ensures .1)),
     )
 
--- src/levels.rt:235:1
 same-length : tie.Need-same-length Inv-loop μ-loop
 same-length c = c .before .loop .inv .2
 
--- src/levels.rt:235:1
 returns : tie.Need-returns Inv-loop μ-loop
 returns c =
     let k = c .before .before .before .before .before in

@@ -15,20 +15,17 @@ Inv-loop graph property s work₀ first head₀ tail₀ k₀ work head tail k = 
 abbrev μ-loop : tie.MeasureT-loop
 μ-loop graph property s work₀ first head₀ tail₀ k₀ work head tail k = 8192 - head
 
--- src/levels.rt:267:5
 loop-holds : tie.Need-loop-holds Inv-loop μ-loop
 loop-holds c =
     let k = c .before .before .before in
     (refl, omega arith, k .pre .1)
 
--- src/levels.rt:268:13
 level-requires : tie.Need-level-requires Inv-loop μ-loop
 level-requires c κs =
     let k = c .before .before .before .before .before .before in
     let l = c .before .before .loop in
     (k .pre .0, (l .inv .2, (c .before .loop-test .taken, l .inv .1)))
 
--- src/levels.rt:271:9
 add-k : tie.Need-add-k Inv-loop μ-loop
 add-k c =
     let k = c .before .before .before .before .before .before .before .before .before in
@@ -36,7 +33,6 @@ add-k c =
     let l = c .before .before .before .before .before .loop in
     omega (arith, l .inv .2 .low, c .before .before .before .before .loop-test .taken, tail-fits (a .s) (a .graph .now) (a .property .now) (k .pre .0) (l .k) (l .head) (l .tail) (l .work) (l .inv .2))
 
--- src/levels.rt:267:5
 loop-less : tie.Need-loop-less Inv-loop μ-loop
 loop-less c =
     let k = c .before .before .before .before .before .before .before .before .before in
@@ -44,7 +40,6 @@ loop-less c =
     let l = c .before .before .before .before .before .loop in
     omega (arith, c .before .before .before .before .loop-test .taken, tail-fits (a .s) (a .graph .now) (a .property .now) (k .pre .0) (l .k) (l .head) (l .tail) (l .work) (l .inv .2))
 
--- src/levels.rt:267:5
 loop-again : tie.Need-loop-again Inv-loop μ-loop
 loop-again c =
     let k = c .before .before .before .before .before .before .before .before .before in
@@ -53,11 +48,9 @@ loop-again c =
     let x = c .before .before .level in
     (x .kept .1 .1 .1 .0 ∙ l .inv .0, omega arith, subst (λ (n : ℕ). Found (decode-graph (a .graph .now)) (decode-property (a .property .now)) n (l .tail) (x .result) (x .last .1 .1 .1 .0)) (sym (add-one (l .k))) (x .ensures))
 
--- src/levels.rt:260:1
 same-length : tie.Need-same-length Inv-loop μ-loop
 same-length c = c .before .loop .inv .0
 
--- src/levels.rt:260:1
 returns : tie.Need-returns Inv-loop μ-loop
 returns c =
     let k = c .before .before .before .before .before in

@@ -19,28 +19,23 @@ Inv-loop graph property s work₀ tail v r k at₀ end₀ work at end = (length 
 abbrev μ-loop : tie.MeasureT-loop
 μ-loop graph property s work₀ tail v r k at₀ end₀ work at end = at
 
--- src/levels.rt:224:18
 get16-requires : tie.Need-get16-requires Inv-loop μ-loop
 get16-requires c κs =
     let k = c .before .before .before .before in
     omega (arith, k .pre .1 .1 .1 .0 .room, k .pre .0 .few-rows, k .pre .1 .1 .0)
 
--- src/levels.rt:224:18
 cast-at : tie.Need-cast-at Inv-loop μ-loop
 cast-at c = search needs
 
--- src/levels.rt:226:5
 loop-holds : tie.Need-loop-holds Inv-loop μ-loop
 loop-holds c =
     let k = c .before .before .before .before .before in
     let a = k .args in
     (refl, grew-none (decode-graph (a .graph .now)) (decode-property (a .property .now)) (a .k) (a .tail) (a .work .now) (k .pre .1 .1 .1 .0), walk-start (uses (decode-property (a .property .now)) (a .r)) (2 * length (decode-property (a .property .now))) (c .get16 .result) (λ (j : ℕ). RowDone (decode-graph (a .graph .now)) (decode-property (a .property .now)) (a .k) (a .work .now) (a .v) (a .r) (j / 2)) (c .get16 .ensures ∙ (k .pre .1 .1 .1 .0) .index .by-row .heads-are (a .r) (row-in (a .s) (a .graph .now) (a .property .now) (k .pre .0) (a .r) (k .pre .1 .1 .0))))
 
--- src/levels.rt:227:17
 sub-j : tie.Need-sub-j Inv-loop μ-loop
 sub-j c = search needs
 
--- src/levels.rt:228:9
 row-on-requires : tie.Need-row-on-requires Inv-loop μ-loop
 row-on-requires c κs =
     let k = c .before .before .before .before .before .before .before .before in
@@ -49,7 +44,6 @@ row-on-requires c κs =
     let i = walk-item (uses (decode-property (a .property .now)) (a .r)) (2 * length (decode-property (a .property .now))) (l .at) (λ (j : ℕ). RowDone (decode-graph (a .graph .now)) (decode-property (a .property .now)) (a .k) (l .work) (a .v) (a .r) (j / 2)) (l .inv .2) (c .before .loop-test .taken) in
     (k .pre .0, (k .pre .1 .0, (k .pre .1 .1 .0, (omega (arith, i .1, rows-is (a .s) (a .graph .now) (a .property .now) (k .pre .0)), (l .inv .1 .finding, ((k .pre .1 .1 .1 .1), ((l .at - 1) % 2, i .0)))))))
 
--- src/levels.rt:229:14
 get16-requires-2 : tie.Need-get16-requires-2 Inv-loop μ-loop
 get16-requires-2 c κs =
     let k = c .before .before .before .before .before .before .before .before .before .before .before .before in
@@ -59,11 +53,9 @@ get16-requires-2 c κs =
     let i = walk-item (uses (decode-property (a .property .now)) (a .r)) (2 * length (decode-property (a .property .now))) (l .at) (λ (j : ℕ). RowDone (decode-graph (a .graph .now)) (decode-property (a .property .now)) (a .k) (l .work) (a .v) (a .r) (j / 2)) (l .inv .2) (c .before .before .before .before .before .loop-test .taken) in
     omega (arith, i .1, rows-is (a .s) (a .graph .now) (a .property .now) (k .pre .0), k .pre .0 .few-rows, x .ensures .0 .finding .room)
 
--- src/levels.rt:229:14
 cast-at-2 : tie.Need-cast-at-2 Inv-loop μ-loop
 cast-at-2 c = search needs
 
--- src/levels.rt:226:5
 loop-less : tie.Need-loop-less Inv-loop μ-loop
 loop-less c =
     let k = c .before .before .before .before .before .before .before .before .before .before .before .before .before in
@@ -74,7 +66,6 @@ loop-less c =
     let n = c .get162 .ensures ∙ x .ensures .0 .finding .index .by-row .nexts-are (a .r) (l .at - 1) (row-in (a .s) (a .graph .now) (a .property .now) (k .pre .0) (a .r) (k .pre .1 .1 .0)) (i .1) (i .0) in
     walk-less (uses (decode-property (a .property .now)) (a .r)) (l .at) (c .get162 .result) (c .before .before .before .before .before .before .loop-test .taken) n
 
--- src/levels.rt:226:5
 loop-again : tie.Need-loop-again Inv-loop μ-loop
 loop-again c =
     let k = c .before .before .before .before .before .before .before .before .before .before .before .before .before in
@@ -90,11 +81,9 @@ loop-again c =
           (x .ensures .1),
     )
 
--- src/levels.rt:211:1
 same-length : tie.Need-same-length Inv-loop μ-loop
 same-length c = c .before .loop .inv .0
 
--- src/levels.rt:211:1
 returns : tie.Need-returns Inv-loop μ-loop
 returns c =
     let k = c .before .before .before .before .before .before .before in

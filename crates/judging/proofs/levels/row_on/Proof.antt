@@ -10,24 +10,19 @@ use borrow.Author.Needs.{needs}
 use Rattle.judging.proofs.levels.row_on.Statement.{statement}
 use Rattle.judging.proofs.levels.row_on.Tie as tie
 
--- src/levels.rt:196:24
 row-at-requires : tie.Need-row-at-requires
 row-at-requires c κs = search needs
 
--- src/levels.rt:196:19
 enum-known-x : tie.Need-enum-known-x
 enum-known-x c = search needs
 
--- src/levels.rt:197:9
 enum-told : tie.Need-enum-told
 enum-told c = search needs
 
--- src/levels.rt:197:9
 returns : tie.Need-returns
 returns c =
     absurd (row-read (c .before .before .row-at .result) _ _ (c .before .before .row-at .ensures) (c .enum-told .given .1))
 
--- src/levels.rt:200:9
 boxes-requires : tie.Need-boxes-requires
 boxes-requires c κs =
     let k = c .before .before .before .before .before .before .before .before .before .before in
@@ -36,11 +31,9 @@ boxes-requires c κs =
     let b = box-row (a .s) (a .graph .now) (a .property .now) (k .pre .0) (a .k) (a .tail) (a .work .now) (k .pre .1 .1 .1 .1 .0) (a .v) (a .r) (a .q) (k .pre .1 .0) (k .pre .1 .1 .1 .0) (k .pre .1 .1 .1 .1 .1 .0) (k .pre .1 .1 .1 .1 .1 .1) _ h (c .before .if1 .taken) in
     (k .pre .0, (k .pre .1 .0, (k .pre .1 .1 .1 .0, ((k .pre .1 .1 .1 .1 .0), λ e he i d. box-level (decode-graph (a .graph .now)) (decode-property (a .property .now)) (a .k) (a .v) (a .q) _ (a .r) e b (omega (arith, he, edges-is (a .s) (a .graph .now) (a .property .now) (k .pre .0))) i d (k .pre .1 .1 .1 .1 .1 .0)))))
 
--- src/levels.rt:200:9
 same-length : tie.Need-same-length
 same-length c = search needs
 
--- src/levels.rt:200:9
 returns-2 : tie.Need-returns-2
 returns-2 c =
     let k = c .before .before .before .before .before .before .before .before .before .before .before .before .before in
@@ -50,11 +43,9 @@ returns-2 c =
     let x = c .before .before .boxes in
     (x .ensures .0, box-done (decode-graph (a .graph .now)) (decode-property (a .property .now)) (a .k) (x .last .1 .1 .1 .0) (a .v) (a .r) (a .q) _ (a .r) b (λ j hj i d. x .ensures .1 j (omega (arith, hj, edges-is (a .s) (a .graph .now) (a .property .now) (k .pre .0))) i d))
 
--- src/levels.rt:202:31
 cast-is-false : tie.Need-cast-is-false
 cast-is-false c = search needs
 
--- src/levels.rt:202:9
 is-false-requires : tie.Need-is-false-requires
 is-false-requires c κs =
     let k = c .before .before .before .before .before .before .before .before .before .before .before in
@@ -62,11 +53,9 @@ is-false-requires c κs =
     let h = held-row (c .before .before .before .before .before .before .before .row-at .result) _ (row (decode-property (a .property .now)) (a .q)) (c .before .before .before .before .before .x .given .1) (c .before .before .before .before .before .before .before .row-at .ensures) in
     a-fits (a .s) (a .graph .now) (a .property .now) (k .pre .0) (a .k) (a .tail) (a .work .now) (k .pre .1 .1 .1 .1 .0) (a .v) (a .r) (a .q) (k .pre .1 .0) (k .pre .1 .1 .1 .0) (k .pre .1 .1 .1 .1 .1 .0) (k .pre .1 .1 .1 .1 .1 .1) _ h (c .before .before .if1 .left)
 
--- src/levels.rt:203:31
 cast-is-false-2 : tie.Need-cast-is-false-2
 cast-is-false-2 c = search needs
 
--- src/levels.rt:203:9
 is-false-requires-2 : tie.Need-is-false-requires-2
 is-false-requires-2 c κs =
     let k = c .before .before .before .before .before .before .before .before .before .before .before .before .before .before in
@@ -74,7 +63,6 @@ is-false-requires-2 c κs =
     let h = held-row (c .before .before .before .before .before .before .before .before .before .before .row-at .result) _ (row (decode-property (a .property .now)) (a .q)) (c .before .before .before .before .before .before .before .before .x .given .1) (c .before .before .before .before .before .before .before .before .before .before .row-at .ensures) in
     b-fits (a .s) (a .graph .now) (a .property .now) (k .pre .0) (a .k) (a .tail) (a .work .now) (k .pre .1 .1 .1 .1 .0) (a .v) (a .r) (a .q) (k .pre .1 .0) (k .pre .1 .1 .1 .0) (k .pre .1 .1 .1 .1 .1 .0) (k .pre .1 .1 .1 .1 .1 .1) _ h (c .before .before .before .before .before .if1 .left)
 
--- src/levels.rt:205:9
 give-requires : tie.Need-give-requires
 give-requires c κs =
     let k = c .before .before .before .before .before .before .before .before .before .before .before .before .before .before .before .before .before .before in
@@ -82,11 +70,9 @@ give-requires c κs =
     let h = held-row (c .before .before .before .before .before .before .before .before .before .before .before .before .before .before .row-at .result) _ (row (decode-property (a .property .now)) (a .q)) (c .before .before .before .before .before .before .before .before .before .before .before .before .x .given .1) (c .before .before .before .before .before .before .before .before .before .before .before .before .before .before .row-at .ensures) in
     may-give (a .s) (a .graph .now) (a .property .now) (k .pre .0) (a .k) (a .tail) (a .work .now) (k .pre .1 .1 .1 .1 .0) (a .v) (a .q) (k .pre .1 .0) (k .pre .1 .1 .1 .0) (row-turns (a .s) (a .graph .now) (a .property .now) (k .pre .0) (a .k) (a .tail) (a .work .now) (k .pre .1 .1 .1 .1 .0) (a .v) (a .r) (a .q) (k .pre .1 .0) (k .pre .1 .1 .1 .0) (k .pre .1 .1 .1 .1 .1 .0) (k .pre .1 .1 .1 .1 .1 .1) _ h (c .before .before .before .before .before .before .before .before .before .if1 .left) (c .before .before .before .before .before .before .is-false .result) (c .before .before .before .is-false2 .result) (c .before .before .before .before .before .before .is-false .ensures) (c .before .before .before .is-false2 .ensures) (c .before .if2 .taken))
 
--- src/levels.rt:205:9
 same-length-2 : tie.Need-same-length-2
 same-length-2 c = search needs
 
--- src/levels.rt:205:9
 returns-3 : tie.Need-returns-3
 returns-3 c =
     let k = c .before .before .before .before .before .before .before .before .before .before .before .before .before .before .before .before .before .before .before .before .before in
@@ -95,11 +81,9 @@ returns-3 c =
     let x = gave (a .s) (a .graph .now) (a .property .now) (k .pre .0) (a .k) (a .tail) (a .work .now) (k .pre .1 .1 .1 .1 .0) (a .v) (a .q) (k .pre .1 .0) (k .pre .1 .1 .1 .0) (row-turns (a .s) (a .graph .now) (a .property .now) (k .pre .0) (a .k) (a .tail) (a .work .now) (k .pre .1 .1 .1 .1 .0) (a .v) (a .r) (a .q) (k .pre .1 .0) (k .pre .1 .1 .1 .0) (k .pre .1 .1 .1 .1 .1 .0) (k .pre .1 .1 .1 .1 .1 .1) _ h (c .before .before .before .before .before .before .before .before .before .before .before .before .if1 .left) (c .before .before .before .before .before .before .before .before .before .is-false .result) (c .before .before .before .before .before .before .is-false2 .result) (c .before .before .before .before .before .before .before .before .before .is-false .ensures) (c .before .before .before .before .before .before .is-false2 .ensures) (c .before .before .before .before .if2 .taken)) (c .before .before .give .result) (c .before .before .give .last .0) (c .before .before .give .ensures) in
     (x .0, given-done (a .s) (a .graph .now) (a .property .now) (k .pre .0) (a .k) (a .tail) (a .work .now) (k .pre .1 .1 .1 .1 .0) (a .v) (a .r) (a .q) (k .pre .1 .0) (k .pre .1 .1 .1 .0) (k .pre .1 .1 .1 .1 .1 .0) (k .pre .1 .1 .1 .1 .1 .1) _ h (c .before .before .before .before .before .before .before .before .before .before .before .before .if1 .left) (c .before .before .give .last .0) (x .1))
 
--- src/levels.rt:182:1
 same-length-3 : tie.Need-same-length-3
 same-length-3 c = search needs
 
--- src/levels.rt:182:1
 returns-4 : tie.Need-returns-4
 returns-4 c =
     let k = c .before .before .before .before .before .before .before .before .before .before .before .before .before .before .before .before .before in

@@ -20,29 +20,24 @@ Inv-loop graph property s work₀ g₀ end₀ work g end = (g ≤ s .nodes) × (
 abbrev μ-loop : tie.MeasureT-loop
 μ-loop graph property s work₀ g₀ end₀ work g end = s .nodes - g
 
--- src/levels.rt:123:5
 loop-holds : tie.Need-loop-holds Inv-loop μ-loop
 loop-holds c =
     let k = c .before .before .before in
     let a = k .args in
     (omega arith, refl, grew-none (decode-graph (a .graph .now)) (decode-property (a .property .now)) 0 0 (a .work .now) (k .pre .1 .0), λ j h. absurd (omega arith))
 
--- src/levels.rt:124:9
 start-node-requires : tie.Need-start-node-requires Inv-loop μ-loop
 start-node-requires c κs =
     let k = c .before .before .before .before .before .before .before in
     let l = c .before .before .before .loop in
     (k .pre .0, (c .before .if1 .taken, l .inv .2 .finding))
 
--- src/levels.rt:125:9
 add-g : tie.Need-add-g Inv-loop μ-loop
 add-g c = omega (arith, c .before .before .before .before .if1 .taken, c .before .before .before .before .before .before .before .before .before .before .pre .0 .few-nodes)
 
--- src/levels.rt:123:5
 loop-less : tie.Need-loop-less Inv-loop μ-loop
 loop-less c = omega (arith, c .before .before .before .before .if1 .taken)
 
--- src/levels.rt:123:5
 loop-again : tie.Need-loop-again Inv-loop μ-loop
 loop-again c =
     let k = c .before .before .before .before .before .before .before .before .before .before in
@@ -57,11 +52,9 @@ loop-again c =
           (x .ensures .1),
     )
 
--- src/levels.rt:117:1
 same-length : tie.Need-same-length Inv-loop μ-loop
 same-length c = c .before .before .loop .inv .1
 
--- src/levels.rt:117:1
 returns : tie.Need-returns Inv-loop μ-loop
 returns c =
     let k = c .before .before .before .before .before .before in

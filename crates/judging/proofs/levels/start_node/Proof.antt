@@ -18,29 +18,24 @@ Inv-loop graph property s work₀ tail g r₀ end₀ work r end = (r ≤ s .rows
 abbrev μ-loop : tie.MeasureT-loop
 μ-loop graph property s work₀ tail g r₀ end₀ work r end = s .rows - r
 
--- src/levels.rt:109:5
 loop-holds : tie.Need-loop-holds Inv-loop μ-loop
 loop-holds c =
     let k = c .before .before .before in
     let a = k .args in
     (omega arith, refl, grew-none (decode-graph (a .graph .now)) (decode-property (a .property .now)) 0 (a .tail) (a .work .now) (k .pre .1 .1), λ j h. absurd (omega arith))
 
--- src/levels.rt:110:9
 start-pair-requires : tie.Need-start-pair-requires Inv-loop μ-loop
 start-pair-requires c κs =
     let k = c .before .before .before .before .before .before .before in
     let l = c .before .before .before .loop in
     (k .pre .0, (k .pre .1 .0, (c .before .if1 .taken, l .inv .2 .finding)))
 
--- src/levels.rt:111:9
 add-r : tie.Need-add-r Inv-loop μ-loop
 add-r c = omega (arith, c .before .before .before .before .if1 .taken, c .before .before .before .before .before .before .before .before .before .before .pre .0 .few-rows)
 
--- src/levels.rt:109:5
 loop-less : tie.Need-loop-less Inv-loop μ-loop
 loop-less c = omega (arith, c .before .before .before .before .if1 .taken)
 
--- src/levels.rt:109:5
 loop-again : tie.Need-loop-again Inv-loop μ-loop
 loop-again c =
     let k = c .before .before .before .before .before .before .before .before .before .before in
@@ -55,11 +50,9 @@ loop-again c =
           (x .ensures .1),
     )
 
--- src/levels.rt:96:1
 same-length : tie.Need-same-length Inv-loop μ-loop
 same-length c = c .before .before .loop .inv .1
 
--- src/levels.rt:96:1
 returns : tie.Need-returns Inv-loop μ-loop
 returns c =
     let l = c .before .before .loop in

@@ -7,22 +7,18 @@ use borrow.Author.Needs.{needs}
 use Rattle.judging.proofs.levels.start_pair.Statement.{statement}
 use Rattle.judging.proofs.levels.start_pair.Tie as tie
 
--- src/levels.rt:89:8
 falls-alone-requires : tie.Need-falls-alone-requires
 falls-alone-requires c κs = search needs
 
--- src/levels.rt:90:9
 give-requires : tie.Need-give-requires
 give-requires c κs =
     let k = c .before .before .before .before .before .before in
     let a = k .args in
     may-give (a .s) (a .graph .now) (a .property .now) (k .pre .0) 0 (a .tail) (a .work .now) (k .pre .1 .1 .1) (a .g) (a .r) (k .pre .1 .0) (k .pre .1 .1 .0) (subst T (sym (sym (c .before .before .falls-alone .ensures) ∙ c .before .if1 .taken)) tt)
 
--- src/levels.rt:90:9
 same-length : tie.Need-same-length
 same-length c = search needs
 
--- src/levels.rt:90:9
 returns : tie.Need-returns
 returns c =
     let k = c .before .before .before .before .before .before .before .before .before in
@@ -30,7 +26,6 @@ returns c =
     let x = gave (a .s) (a .graph .now) (a .property .now) (k .pre .0) 0 (a .tail) (a .work .now) (k .pre .1 .1 .1) (a .g) (a .r) (k .pre .1 .0) (k .pre .1 .1 .0) (subst T (sym (sym (c .before .before .before .before .before .falls-alone .ensures) ∙ c .before .before .before .before .if1 .taken)) tt) _ _ (c .before .before .give .ensures) in
     (x .0, λ t. x .1)
 
--- src/levels.rt:77:1
 returns-2 : tie.Need-returns-2
 returns-2 c =
     let k = c .before .before .before .before .before in

@@ -21,61 +21,48 @@ Inv-loop first second s work₀ slot gone at₀ work at = (length work ≡ lengt
 abbrev μ-loop : tie.MeasureT-loop
 μ-loop first second s work₀ slot gone at₀ work at = at
 
--- src/matches.rt:134:18
 get16-requires : tie.Need-get16-requires Inv-loop μ-loop
 get16-requires c κs = omega (arith, c .before .before .before .before .before .pre .1 .1 .0, c .before .before .before .before .before .pre .1 .0 .few-first-nodes, c .before .before .before .before .before .pre .1 .1 .1 .0 .room)
 
--- src/matches.rt:134:18
 cast-at : tie.Need-cast-at Inv-loop μ-loop
 cast-at c = search needs
 
--- src/matches.rt:135:5
 loop-holds : tie.Need-loop-holds Inv-loop μ-loop
 loop-holds c = (refl, shrank-none (decode-graph (c .before .before .before .before .before .before .args .first .now)) (decode-graph (c .before .before .before .before .before .before .args .second .now)) (c .before .before .before .before .before .before .args .work .now) (c .before .before .before .before .before .before .pre .1 .1 .1 .0), slot-start (c .before .before .before .before .before .before .args .s) (c .before .before .before .before .before .before .args .first .now) (c .before .before .before .before .before .before .args .second .now) (c .before .before .before .before .before .before .pre .1 .0) (c .before .before .before .before .before .before .args .slot) (c .before .before .before .before .before .before .pre .1 .1 .0) (c .before .before .before .before .before .before .args .work .now) (c .get16 .result) _ (c .before .before .before .before .before .before .pre .1 .1 .1 .0) (c .get16 .ensures))
 
--- src/matches.rt:136:17
 sub-e : tie.Need-sub-e Inv-loop μ-loop
 sub-e c = omega (arith, c .loop-test .taken)
 
--- src/matches.rt:137:13
 source-of-requires : tie.Need-source-of-requires Inv-loop μ-loop
 source-of-requires c κs = let k = c .before .before .before .before .before .before .before .before in let i = slot-item (c .before .before .before .before .before .before .before .before .args .s) (c .before .before .before .before .before .before .before .before .args .first .now) (c .before .before .before .before .before .before .before .before .args .second .now) (c .before .before .before .before .before .before .before .before .pre .1 .0) (k .args .slot) (k .pre .1 .1 .0) (c .before .loop .at) _ (c .before .loop .inv .2) (c .loop-test .taken) in (k .pre .1 .0 .first-file, (k .pre .1 .0 .first-nodes-are, omega (arith, i .0, k .pre .1 .0 .first-edges-are, k .pre .1 .0 .first-nodes-are)))
 
--- src/matches.rt:138:24
 mul-drop-row : tie.Need-mul-drop-row Inv-loop μ-loop
 mul-drop-row c = let k = c .before .before .before .before .before .before .before .before .before .before in let i = slot-item (c .before .before .before .before .before .before .before .before .before .before .args .s) (c .before .before .before .before .before .before .before .before .before .before .args .first .now) (c .before .before .before .before .before .before .before .before .before .before .args .second .now) (c .before .before .before .before .before .before .before .before .before .before .pre .1 .0) (k .args .slot) (k .pre .1 .1 .0) (c .before .before .before .loop .at) _ (c .before .before .before .loop .inv .2) (c .before .before .loop-test .taken) in omega (arith, c .before .source-of .ensures, i .1, k .pre .1 .0 .few-first-nodes)
 
--- src/matches.rt:138:9
 drop-row-requires : tie.Need-drop-row-requires Inv-loop μ-loop
 drop-row-requires c κs = let k = c .before .before .before .before .before .before .before .before .before .before in let i = slot-item (c .before .before .before .before .before .before .before .before .before .before .args .s) (c .before .before .before .before .before .before .before .before .before .before .args .first .now) (c .before .before .before .before .before .before .before .before .before .before .args .second .now) (c .before .before .before .before .before .before .before .before .before .before .pre .1 .0) (k .args .slot) (k .pre .1 .1 .0) (c .before .before .before .loop .at) _ (c .before .before .before .loop .inv .2) (c .before .before .loop-test .taken) in (omega (arith, c .before .source-of .ensures, i .1, k .pre .1 .0 .few-first-nodes, c .before .before .before .loop .inv .1 .refining .room), k .pre .0)
 
--- src/matches.rt:139:14
 get16-requires-2 : tie.Need-get16-requires-2 Inv-loop μ-loop
 get16-requires-2 c κs = let k = c .before .before .before .before .before .before .before .before .before .before .before .before .before .before in let i = slot-item (c .before .before .before .before .before .before .before .before .before .before .before .before .before .before .args .s) (c .before .before .before .before .before .before .before .before .before .before .before .before .before .before .args .first .now) (c .before .before .before .before .before .before .before .before .before .before .before .before .before .before .args .second .now) (c .before .before .before .before .before .before .before .before .before .before .before .before .before .before .pre .1 .0) (k .args .slot) (k .pre .1 .1 .0) (c .before .before .before .before .before .before .before .loop .at) _ (c .before .before .before .before .before .before .before .loop .inv .2) (c .before .before .before .before .before .before .loop-test .taken) in omega (arith, i .0, k .pre .1 .0 .few-first-edges, c .before .before .before .drop-row .kept .0, c .before .before .before .before .before .before .before .loop .inv .1 .refining .room)
 
--- src/matches.rt:139:14
 cast-at-2 : tie.Need-cast-at-2 Inv-loop μ-loop
 cast-at-2 c = search needs
 
--- src/matches.rt:135:5
 loop-less : tie.Need-loop-less Inv-loop μ-loop
 loop-less c = let k = c .before .before .before .before .before .before .before .before .before .before .before .before .before .before .before in
     let l = c .before .before .before .before .before .before .before .before .loop in
     let r = source-dropped (c .before .before .before .before .before .before .before .before .before .before .before .before .before .before .before .args .s) (c .before .before .before .before .before .before .before .before .before .before .before .before .before .before .before .args .first .now) (c .before .before .before .before .before .before .before .before .before .before .before .before .before .before .before .args .second .now) (c .before .before .before .before .before .before .before .before .before .before .before .before .before .before .before .pre .1 .0) (k .args .slot) (k .pre .1 .1 .0) (k .args .work .now) (l .work) (c .before .before .before .before .drop-row .last .0) (k .args .gone .now) (l .at) (c .get162 .result) (c .before .before .before .before .before .before .source-of .result) (l .inv .1) (l .inv .2) (c .before .before .before .before .before .before .before .loop-test .taken) (c .get162 .ensures) (c .before .before .before .before .before .before .source-of .ensures) (c .before .before .before .before .drop-row .ensures .0) (c .before .before .before .before .drop-row .ensures .1) (c .before .before .before .before .drop-row .kept .0) (k .pre .1 .1 .1 .1) in
     slot-less (c .before .before .before .before .before .before .before .before .before .before .before .before .before .before .before .args .s) (c .before .before .before .before .before .before .before .before .before .before .before .before .before .before .before .args .first .now) (c .before .before .before .before .before .before .before .before .before .before .before .before .before .before .before .args .second .now) (c .before .before .before .before .before .before .before .before .before .before .before .before .before .before .before .pre .1 .0) (k .args .slot) (k .pre .1 .1 .0) (c .before .before .before .before .drop-row .last .0) (l .at) (c .get162 .result) _ (r .0 .refining) (l .inv .2) (c .before .before .before .before .before .before .before .loop-test .taken) (c .get162 .ensures)
 
--- src/matches.rt:135:5
 loop-again : tie.Need-loop-again Inv-loop μ-loop
 loop-again c = let k = c .before .before .before .before .before .before .before .before .before .before .before .before .before .before .before in
     let l = c .before .before .before .before .before .before .before .before .loop in
     let r = source-dropped (c .before .before .before .before .before .before .before .before .before .before .before .before .before .before .before .args .s) (c .before .before .before .before .before .before .before .before .before .before .before .before .before .before .before .args .first .now) (c .before .before .before .before .before .before .before .before .before .before .before .before .before .before .before .args .second .now) (c .before .before .before .before .before .before .before .before .before .before .before .before .before .before .before .pre .1 .0) (k .args .slot) (k .pre .1 .1 .0) (k .args .work .now) (l .work) (c .before .before .before .before .drop-row .last .0) (k .args .gone .now) (l .at) (c .get162 .result) (c .before .before .before .before .before .before .source-of .result) (l .inv .1) (l .inv .2) (c .before .before .before .before .before .before .before .loop-test .taken) (c .get162 .ensures) (c .before .before .before .before .before .before .source-of .ensures) (c .before .before .before .before .drop-row .ensures .0) (c .before .before .before .before .drop-row .ensures .1) (c .before .before .before .before .drop-row .kept .0) (k .pre .1 .1 .1 .1) in
     (c .before .before .before .before .drop-row .kept .0 ∙ l .inv .0, r .0, r .1)
 
--- src/matches.rt:123:1
 same-length : tie.Need-same-length Inv-loop μ-loop
 same-length c = c .before .loop .inv .0
 
--- src/matches.rt:123:1
 returns : tie.Need-returns Inv-loop μ-loop
 returns c = (c .before .loop .inv .1, all-dropped (c .before .before .before .before .before .before .before .before .args .s) (c .before .before .before .before .before .before .before .before .args .first .now) (c .before .before .before .before .before .before .before .before .args .second .now) (c .before .before .before .before .before .before .before .before .pre .1 .0) (c .before .before .before .before .before .before .before .before .args .slot) (c .before .before .before .before .before .before .before .before .pre .1 .1 .0) (c .before .loop .work) (c .before .before .before .before .before .before .before .before .args .gone .now) (c .before .loop .at) (omega (arith, c .loop-test .left)) (c .before .loop .inv .2))
 

@@ -14,23 +14,18 @@ Inv-loop work label row found gone₀ k₀ gone k = (k ≤ 8) × (length gone �
 abbrev μ-loop : tie.MeasureT-loop
 μ-loop work label row found gone₀ k₀ gone k = 8 - k
 
--- src/matches.rt:116:5
 loop-holds : tie.Need-loop-holds Inv-loop μ-loop
 loop-holds c = let k = c .before .before .before .before in (omega arith, refl, sifted-none (k .args .work .now) (k .args .label) (k .args .row .now) (k .args .found .now) (k .args .gone .now) 0)
 
--- src/matches.rt:117:9
 sift-word-requires : tie.Need-sift-word-requires Inv-loop μ-loop
 sift-word-requires c κs = let k = c .before .before .before .before .before .before .before in let l = c .before .before .loop in ((k .pre .0 .0, (k .pre .0 .1 .0, omega (arith, l .inv .1, k .pre .0 .1 .1))), (k .pre .1 .0, (k .pre .1 .1, c .before .loop-test .taken)))
 
--- src/matches.rt:118:9
 add-k : tie.Need-add-k Inv-loop μ-loop
 add-k c = omega (arith, c .before .before .before .before .loop-test .taken)
 
--- src/matches.rt:116:5
 loop-less : tie.Need-loop-less Inv-loop μ-loop
 loop-less c = omega (arith, c .before .before .before .before .loop-test .taken)
 
--- src/matches.rt:116:5
 loop-again : tie.Need-loop-again Inv-loop μ-loop
 loop-again c = let k = c .before .before .before .before .before .before .before .before .before .before in
     let l = c .before .before .before .before .before .loop in
@@ -38,11 +33,9 @@ loop-again c = let k = c .before .before .before .before .before .before .before
     let e : 32 * l .k + 32 ≡ 32 * (l .k + 1) = omega arith in
     (omega (arith, c .before .before .before .before .loop-test .taken), p .kept .1 .1 .1 .1 .0 ∙ l .inv .1, subst (Sifted (k .args .work .now) (k .args .label) (k .args .row .now) (k .args .found .now) (k .args .gone .now) (p .last .1 .1 .1 .1 .0) 0) e (sifted-on (k .args .work .now) (k .args .label) (k .args .row .now) (k .args .found .now) (k .args .gone .now) (l .gone) (p .last .1 .1 .1 .1 .0) 0 (32 * l .k) (32 * l .k + 32) (omega (arith, c .before .before .before .before .loop-test .taken)) (l .inv .2) (p .ensures)))
 
--- src/matches.rt:111:1
 same-length : tie.Need-same-length Inv-loop μ-loop
 same-length c = c .before .loop .inv .1
 
--- src/matches.rt:111:1
 returns : tie.Need-returns Inv-loop μ-loop
 returns c = let k = c .before .before .before .before .before .before in
     let l = c .before .loop in

@@ -7,39 +7,30 @@ use Rattle.judging.proofs.matches.sift_at.Tie as tie
 use Rattle.files.proofs.cells.put_bit.Reads as put-bit-reads
 use Rattle.judging.proofs.rows.meets.Reads as meets-reads
 
--- src/matches.rt:91:37
 mul-meets : tie.Need-mul-meets
 mul-meets c = search needs
 
--- src/matches.rt:91:37
 add-meets : tie.Need-add-meets
 add-meets c = search needs
 
--- src/matches.rt:91:29
 mul-meets-2 : tie.Need-mul-meets-2
 mul-meets-2 c = search needs
 
--- src/matches.rt:91:9
 add-meets-2 : tie.Need-add-meets-2
 add-meets-2 c = search needs
 
--- src/matches.rt:88:9
 meets-requires : tie.Need-meets-requires
 meets-requires c κs = search needs
 
--- src/matches.rt:93:9
 put-bit-requires : tie.Need-put-bit-requires
 put-bit-requires c κs = search needs
 
--- src/matches.rt:84:1
 same-length : tie.Need-same-length
 same-length c = search needs
 
--- src/matches.rt:84:1
 returns : tie.Need-returns
 returns c = let k = c .before .before .before .before .before .before .before .before .before in asked-unmet (k .args .work .now) (k .args .label) (k .args .row .now) (k .args .gone .now) (c .before .before .put-bit .last .0) (k .args .x) (k .pre .0 .1) (k .pre .1 .1 .1) (c .before .before .put-bit .ensures) (λ m. c .before .before .before .before .before .meets .ensures .1 (subst T (sym (c .before .before .before .before .if1 .taken)) tt) (m .0) (m .1) (m .2) (m .3))
 
--- src/matches.rt:84:1
 returns-2 : tie.Need-returns-2
 returns-2 c = let k = c .before .before .before .before .before in asked-met (k .args .work .now) (k .args .label) (k .args .row .now) (k .args .gone .now) (k .args .x) (c .before .meets .ensures .0 (not-off (c .before .meets .result) (c .if1 .left)))
 

@@ -20,50 +20,39 @@ Inv-loop work label row found gone₀ k rest₀ gone rest = (length gone ≡ len
 abbrev μ-loop : tie.MeasureT-loop
 μ-loop work label row found gone₀ k rest₀ gone rest = rest
 
--- src/matches.rt:102:9
 get32-requires : tie.Need-get32-requires Inv-loop μ-loop
 get32-requires c κs = search needs
 
--- src/matches.rt:103:5
 loop-holds : tie.Need-loop-holds Inv-loop μ-loop
 loop-holds c = let k = c .before .before .before .before .before in (refl, (left-all (k .args .found .now) (k .args .k) (c .get32 .result) (Decided (k .args .work .now) (k .args .label) (k .args .row .now) (k .args .found .now) (k .args .k) (k .args .gone .now)) (λ b. omega (arith, c .before .before .shared-slice-known3 .given b)) (c .get32 .ensures), λ y b t. t, λ y b t. inl t))
 
--- src/matches.rt:104:17
 mul-x : tie.Need-mul-x Inv-loop μ-loop
 mul-x c = let k = c .before .before .before .before .before .before .before in omega (arith, k .pre .1 .1 .1)
 
--- src/matches.rt:104:27
 cast-x : tie.Need-cast-x Inv-loop μ-loop
 cast-x c = let l = c .before .loop in omega (arith, trailing-le 32 (l .rest))
 
--- src/matches.rt:104:17
 add-x : tie.Need-add-x Inv-loop μ-loop
 add-x c = let k = c .before .before .before .before .before .before .before in let l = c .before .loop in omega (arith, trailing-le 32 (l .rest), k .pre .1 .1 .1)
 
--- src/matches.rt:105:9
 sift-at-requires : tie.Need-sift-at-requires Inv-loop μ-loop
 sift-at-requires c κs = let k = c .before .before .before .before .before .before .before .before in let l = c .before .before .loop in ((k .pre .0 .0, omega (arith, l .inv .0, k .pre .0 .1 .1)), (k .pre .1 .0, (k .pre .1 .1 .0, omega (arith, k .pre .1 .1 .1, lowest-low (l .rest) (c .before .loop-test .taken) (l .inv .1 .0 .0)))))
 
--- src/matches.rt:106:24
 sub-rest : tie.Need-sub-rest Inv-loop μ-loop
 sub-rest c = omega (arith, c .before .before .before .before .loop-test .taken)
 
--- src/matches.rt:103:5
 loop-less : tie.Need-loop-less Inv-loop μ-loop
 loop-less c = let l = c .before .before .before .before .before .loop in omega (arith, and-le-r (l .rest) (l .rest - 1), c .before .before .before .before .loop-test .taken)
 
--- src/matches.rt:103:5
 loop-again : tie.Need-loop-again Inv-loop μ-loop
 loop-again c = let k = c .before .before .before .before .before .before .before .before .before .before .before in
     let l = c .before .before .before .before .before .loop in
     let p = c .before .before .sift-at in
     (p .kept .1 .1 .1 .0 ∙ l .inv .0, sifting-turn (k .args .work .now) (k .args .label) (k .args .row .now) (k .args .found .now) (k .args .k) (k .args .gone .now) (l .gone) (p .last .1 .1 .1 .0) (l .rest) _ _ (k .pre .1 .1 .1) (c .before .before .before .before .loop-test .taken) refl refl (p .ensures) (l .inv .1))
 
--- src/matches.rt:98:1
 same-length : tie.Need-same-length Inv-loop μ-loop
 same-length c = c .before .loop .inv .0
 
--- src/matches.rt:98:1
 returns : tie.Need-returns Inv-loop μ-loop
 returns c = let k = c .before .before .before .before .before .before .before in let l = c .before .loop in sifting-end (k .args .work .now) (k .args .label) (k .args .row .now) (k .args .found .now) (k .args .k) (k .args .gone .now) (l .gone) (l .rest) (k .pre .1 .1 .1) (c .loop-test .left) (l .inv .1)
 

@@ -9,23 +9,18 @@ use Rattle.judging.proofs.matches.source_of.Statement.{statement}
 use Rattle.judging.proofs.matches.source_of.Tie as tie
 use Rattle.files.proofs.graph.edge_at.Reads as edge-at-reads
 
--- src/matches.rt:34:25
 edge-at-requires : tie.Need-edge-at-requires
 edge-at-requires c κs = search needs
 
--- src/matches.rt:34:20
 enum-known-x : tie.Need-enum-known-x
 enum-known-x c = search needs
 
--- src/matches.rt:35:9
 enum-told : tie.Need-enum-told
 enum-told c = search needs
 
--- src/matches.rt:35:9
 returns : tie.Need-returns
 returns c = search needs
 
--- src/matches.rt:30:1
 returns-2 : tie.Need-returns-2
 returns-2 c = let a = c .before .before .before .before .before .args in ap (λ (y : GraphEdge). y .from) (held-edge (c .before .before .before .edge-at .result) _ (getD ((decode-graph (a .graph .now)) .edges) (a .e) no-edge) (c .before .x .given .1) (c .before .before .before .edge-at .ensures))
 

@@ -7,39 +7,30 @@ use Rattle.judging.proofs.order.leave.Tie as tie
 use Rattle.files.proofs.cells.get8.Reads as get8-reads
 use Rattle.files.proofs.cells.put8.Reads as put8-reads
 
--- src/order.rt:32:14
 get8-requires : tie.Need-get8-requires
 get8-requires c κs = search needs
 
--- src/order.rt:32:14
 cast-up : tie.Need-cast-up
 cast-up c = search needs
 
--- src/order.rt:34:9
 same-length : tie.Need-same-length
 same-length c = search needs
 
--- src/order.rt:34:9
 returns : tie.Need-returns
 returns c = search needs
 
--- src/order.rt:40:36
 cast-put8 : tie.Need-cast-put8
 cast-put8 c = search needs
 
--- src/order.rt:40:5
 put8-requires : tie.Need-put8-requires
 put8-requires c κs = omega (arith, (none-reaches (c .before .before .before .before .before .before .before .before .before .args .s .nodes) (c .before .before .before .before .before .before .before .before .before .args .w .left) (c .before .before .before .before .get8 .result) (c .before .if1 .left)) .0, c .before .before .before .before .before .before .before .before .before .pre .0 .few-first-nodes, c .before .before .before .before .before .before .before .before .before .pre .1 .1)
 
--- src/order.rt:43:15
 add-t18 : tie.Need-add-t18
 add-t18 c = omega (arith, (none-reaches (c .before .before .before .before .before .before .before .before .before .before .before .before .args .s .nodes) (c .before .before .before .before .before .before .before .before .before .before .before .before .args .w .left) (c .before .before .before .before .before .before .before .get8 .result) (c .before .before .before .before .if1 .left)) .0, c .before .before .before .before .before .before .before .before .before .before .before .before .pre .0 .few-first-nodes)
 
--- src/order.rt:26:1
 same-length-2 : tie.Need-same-length-2
 same-length-2 c = search needs
 
--- src/order.rt:26:1
 returns-2 : tie.Need-returns-2
 returns-2 c = ((none-reaches (c .before .before .before .before .before .before .before .before .before .before .before .before .args .s .nodes) (c .before .before .before .before .before .before .before .before .before .before .before .before .args .w .left) (c .before .before .before .before .before .before .before .get8 .result) (c .before .before .before .before .if1 .left)) .1, byte-put (c .before .before .before .before .before .before .before .before .before .before .before .before .args .work .now) (c .before .before .put8 .last .0) 30528 (c .before .before .before .before .before .before .before .before .before .before .before .before .args .w .left) _ 29760 30816 (c .before .before .put8 .ensures) (omega arith) (omega (arith, (none-reaches (c .before .before .before .before .before .before .before .before .before .before .before .before .args .s .nodes) (c .before .before .before .before .before .before .before .before .before .before .before .before .args .w .left) (c .before .before .before .before .before .before .before .get8 .result) (c .before .before .before .before .if1 .left)) .0, c .before .before .before .before .before .before .before .before .before .before .before .before .pre .0 .few-first-nodes)))
 

@@ -16,31 +16,24 @@ Inv-loop first second s work₀ left₀ work left = (length work ≡ length work
 abbrev μ-loop : tie.MeasureT-loop
 μ-loop first second s work₀ left₀ work left = left
 
--- src/order.rt:124:5
 loop-holds : tie.Need-loop-holds Inv-loop μ-loop
 loop-holds c = (refl, omega arith, λ q d. refl)
 
--- src/order.rt:125:9
 sub-left : tie.Need-sub-left Inv-loop μ-loop
 sub-left c = omega (arith, c .loop-test .taken)
 
--- src/order.rt:126:13
 source-of-requires : tie.Need-source-of-requires Inv-loop μ-loop
 source-of-requires c κs = let k = c .before .before .before .before .before in (k .pre .0 .first-file, (k .pre .0 .first-nodes-are, omega (arith, c .loop-test .taken, c .before .loop .inv .1, k .pre .0 .first-edges-are, k .pre .0 .first-nodes-are)))
 
--- src/order.rt:127:40
 cast-put16 : tie.Need-cast-put16 Inv-loop μ-loop
 cast-put16 c = omega (arith, c .before .before .loop-test .taken, c .before .before .before .loop .inv .1, c .before .before .before .before .before .before .before .pre .0 .few-first-edges)
 
--- src/order.rt:127:9
 put16-requires : tie.Need-put16-requires Inv-loop μ-loop
 put16-requires c κs = let k = c .before .before .before .before .before .before .before in let b = first-edge-in (c .before .before .before .before .before .before .before .args .s) (c .before .before .before .before .before .before .before .args .first .now) (c .before .before .before .before .before .before .before .args .second .now) (c .before .before .before .before .before .before .before .pre .0) (c .before .before .before .loop .left - 1) (omega (arith, c .before .before .loop-test .taken, c .before .before .before .loop .inv .1)) in omega (arith, c .before .source-of .ensures, b .0, k .pre .0 .few-first-nodes, c .before .before .before .loop .inv .0, k .pre .1)
 
--- src/order.rt:124:5
 loop-less : tie.Need-loop-less Inv-loop μ-loop
 loop-less c = omega (arith, c .before .before .before .before .before .loop-test .taken)
 
--- src/order.rt:124:5
 loop-again : tie.Need-loop-again Inv-loop μ-loop
 loop-again c = let k = c .before .before .before .before .before .before .before .before .before .before in
     let l = c .before .before .before .before .before .before .loop in
@@ -48,11 +41,9 @@ loop-again c = let k = c .before .before .before .before .before .before .before
     let b = first-edge-in (c .before .before .before .before .before .before .before .before .before .before .args .s) (c .before .before .before .before .before .before .before .before .before .before .args .first .now) (c .before .before .before .before .before .before .before .before .before .before .args .second .now) (c .before .before .before .before .before .before .before .before .before .before .pre .0) (l .left - 1) (omega (arith, c .before .before .before .before .before .loop-test .taken, l .inv .1)) in
     (p .kept .0 ∙ l .inv .0, omega (arith, c .before .before .before .before .before .loop-test .taken, l .inv .1), outside-on 29760 30816 (k .args .work .now) (l .work) (p .last .0) (l .inv .2) (pair-put (l .work) (p .last .0) 29760 (c .before .before .before .before .source-of .result) _ 29760 30816 (p .ensures) (omega arith) (omega (arith, c .before .before .before .before .source-of .ensures, b .0, k .pre .0 .few-first-nodes))))
 
--- src/order.rt:119:1
 same-length : tie.Need-same-length Inv-loop μ-loop
 same-length c = c .before .loop .inv .0
 
--- src/order.rt:119:1
 returns : tie.Need-returns Inv-loop μ-loop
 returns c = c .before .loop .inv .2
 

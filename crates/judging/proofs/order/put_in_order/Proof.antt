@@ -15,35 +15,27 @@ Inv-loop first second s work₀ root₀ left₀ work root left = (length work �
 abbrev μ-loop : tie.MeasureT-loop
 μ-loop first second s work₀ root₀ left₀ work root left = s .nodes - root
 
--- src/order.rt:136:5
 put-cursors-requires : tie.Need-put-cursors-requires Inv-loop μ-loop
 put-cursors-requires c κs = c .before .before .before .before .pre
 
--- src/order.rt:139:5
 loop-holds : tie.Need-loop-holds Inv-loop μ-loop
 loop-holds c = (refl, λ q d. refl)
 
--- src/order.rt:140:9
 visit-requires : tie.Need-visit-requires Inv-loop μ-loop
 visit-requires c κs = (c .before .before .before .before .before .before .before .before .before .before .before .pre .0, (c .before .if1 .taken, omega (arith, c .before .before .before .loop .inv .0, c .before .before .before .before .before .before .put-cursors .kept .1 .1 .1 .0, c .before .before .before .before .before .before .before .before .before .before .before .pre .1)))
 
--- src/order.rt:141:9
 add-root : tie.Need-add-root Inv-loop μ-loop
 add-root c = omega (arith, c .before .before .before .before .if1 .taken, c .before .before .before .before .before .before .before .before .before .before .before .before .before .before .pre .0 .few-first-nodes)
 
--- src/order.rt:139:5
 loop-less : tie.Need-loop-less Inv-loop μ-loop
 loop-less c = omega (arith, c .before .before .before .before .if1 .taken)
 
--- src/order.rt:139:5
 loop-again : tie.Need-loop-again Inv-loop μ-loop
 loop-again c = let l = c .before .before .before .before .before .before .loop in let p = c .before .before .visit in (p .kept .1 .1 .1 .0 ∙ l .inv .0, outside-on 29760 30816 (c .before .before .before .before .before .before .before .before .before .put-cursors .last .1 .1 .1 .0) (l .work) (p .last .1 .1 .1 .0) (l .inv .1) (p .ensures))
 
--- src/order.rt:132:1
 same-length : tie.Need-same-length Inv-loop μ-loop
 same-length c = c .before .before .loop .inv .0 ∙ c .before .before .before .before .before .put-cursors .kept .1 .1 .1 .0
 
--- src/order.rt:132:1
 returns : tie.Need-returns Inv-loop μ-loop
 returns c = outside-on 29760 30816 (c .before .before .before .before .before .before .before .before .before .before .args .work .now) (c .before .before .before .before .before .put-cursors .last .1 .1 .1 .0) (c .before .before .loop .work) (c .before .before .before .before .before .put-cursors .ensures) (c .before .before .loop .inv .1)
 

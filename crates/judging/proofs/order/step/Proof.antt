@@ -18,99 +18,75 @@ use Rattle.files.proofs.cells.put_bit.Reads as put-bit-reads
 use Rattle.files.proofs.graph.edge_at.Reads as edge-at-reads
 use Rattle.judging.proofs.order.leave.Reads as leave-reads
 
--- src/order.rt:54:13
 get16-requires : tie.Need-get16-requires
 get16-requires c κs = search needs
 
--- src/order.rt:54:13
 cast-e : tie.Need-cast-e
 cast-e c = search needs
 
--- src/order.rt:56:9
 leave-requires : tie.Need-leave-requires
 leave-requires c κs = search needs
 
--- src/order.rt:56:9
 same-length : tie.Need-same-length
 same-length c = search needs
 
--- src/order.rt:56:9
 returns : tie.Need-returns
 returns c = search needs
 
--- src/order.rt:58:25
 edge-at-requires : tie.Need-edge-at-requires
 edge-at-requires c κs = search needs
 
--- src/order.rt:58:20
 enum-known-x : tie.Need-enum-known-x
 enum-known-x c = search needs
 
--- src/order.rt:59:9
 enum-told : tie.Need-enum-told
 enum-told c = search needs
 
--- src/order.rt:59:9
 same-length-2 : tie.Need-same-length-2
 same-length-2 c = search needs
 
--- src/order.rt:59:9
 returns-2 : tie.Need-returns-2
 returns-2 c = search needs
 
--- src/order.rt:62:9
 leave-requires-2 : tie.Need-leave-requires-2
 leave-requires-2 c κs = search needs
 
--- src/order.rt:62:9
 same-length-3 : tie.Need-same-length-3
 same-length-3 c = search needs
 
--- src/order.rt:62:9
 returns-3 : tie.Need-returns-3
 returns-3 c = search needs
 
--- src/order.rt:64:38
 add-put16 : tie.Need-add-put16
 add-put16 c = search needs
 
--- src/order.rt:64:37
 cast-put16 : tie.Need-cast-put16
 cast-put16 c = search needs
 
--- src/order.rt:64:5
 put16-requires : tie.Need-put16-requires
 put16-requires c κs = search needs
 
--- src/order.rt:65:8
 has-bit-requires : tie.Need-has-bit-requires
 has-bit-requires c κs = omega (arith, (ap (λ (z : GraphEdge). z .to) (held-edge (c .before .before .before .before .before .before .before .before .before .before .edge-at .result) _ (edge (decode-graph (c .before .before .before .before .before .before .before .before .before .before .before .before .before .before .before .before .before .before .args .first .now)) (c .before .before .before .before .before .before .before .before .before .before .before .before .before .get16 .result)) (c .before .before .before .before .before .before .before .before .x .given .1) (c .before .before .before .before .before .before .before .before .before .before .edge-at .ensures))), (first-edge-in (c .before .before .before .before .before .before .before .before .before .before .before .before .before .before .before .before .before .before .args .s) (c .before .before .before .before .before .before .before .before .before .before .before .before .before .before .before .before .before .before .args .first .now) (c .before .before .before .before .before .before .before .before .before .before .before .before .before .before .before .before .before .before .args .second .now) (c .before .before .before .before .before .before .before .before .before .before .before .before .before .before .before .before .before .before .pre .0) (c .before .before .before .before .before .before .before .before .before .before .before .before .before .get16 .result) (omega (arith, c .before .before .before .before .before .before .before .before .before .before .before .if1 .left))) .1, c .before .before .before .before .before .before .before .before .before .before .before .before .before .before .before .before .before .before .pre .0 .few-first-nodes, c .before .before .before .put16 .kept .0, c .before .before .before .before .before .before .before .before .before .before .before .before .before .before .before .before .before .before .pre .1 .1)
 
--- src/order.rt:66:9
 same-length-4 : tie.Need-same-length-4
 same-length-4 c = search needs
 
--- src/order.rt:66:9
 returns-4 : tie.Need-returns-4
 returns-4 c = (c .before .before .before .before .before .before .before .before .before .before .before .before .before .before .before .before .before .before .before .before .pre .1 .0, pair-put (c .before .before .before .before .before .before .before .before .before .before .before .before .before .before .before .before .before .before .before .before .args .work .now) (c .before .before .before .before .before .put16 .last .0) 29760 (c .before .before .before .before .before .before .before .before .before .before .before .before .before .before .before .before .before .before .before .before .args .w .node) _ 29760 30816 (c .before .before .before .before .before .put16 .ensures) (omega arith) (omega (arith, c .before .before .before .before .before .before .before .before .before .before .before .before .before .before .before .before .before .before .before .before .pre .1 .0, c .before .before .before .before .before .before .before .before .before .before .before .before .before .before .before .before .before .before .before .before .pre .0 .few-first-nodes)))
 
--- src/order.rt:68:5
 put-bit-requires : tie.Need-put-bit-requires
 put-bit-requires c κs = omega (arith, (ap (λ (z : GraphEdge). z .to) (held-edge (c .before .before .before .before .before .before .before .before .before .before .before .before .before .edge-at .result) _ (edge (decode-graph (c .before .before .before .before .before .before .before .before .before .before .before .before .before .before .before .before .before .before .before .before .before .args .first .now)) (c .before .before .before .before .before .before .before .before .before .before .before .before .before .before .before .before .get16 .result)) (c .before .before .before .before .before .before .before .before .before .before .before .x .given .1) (c .before .before .before .before .before .before .before .before .before .before .before .before .before .edge-at .ensures))), (first-edge-in (c .before .before .before .before .before .before .before .before .before .before .before .before .before .before .before .before .before .before .before .before .before .args .s) (c .before .before .before .before .before .before .before .before .before .before .before .before .before .before .before .before .before .before .before .before .before .args .first .now) (c .before .before .before .before .before .before .before .before .before .before .before .before .before .before .before .before .before .before .before .before .before .args .second .now) (c .before .before .before .before .before .before .before .before .before .before .before .before .before .before .before .before .before .before .before .before .before .pre .0) (c .before .before .before .before .before .before .before .before .before .before .before .before .before .before .before .before .get16 .result) (omega (arith, c .before .before .before .before .before .before .before .before .before .before .before .before .before .before .if1 .left))) .1, c .before .before .before .before .before .before .before .before .before .before .before .before .before .before .before .before .before .before .before .before .before .pre .0 .few-first-nodes, c .before .before .before .before .before .before .put16 .kept .0, c .before .before .before .before .before .before .before .before .before .before .before .before .before .before .before .before .before .before .before .before .before .pre .1 .1)
 
--- src/order.rt:69:38
 cast-put8 : tie.Need-cast-put8
 cast-put8 c = omega (arith, c .before .before .before .before .before .before .before .before .before .before .before .before .before .before .before .before .before .before .before .before .before .before .before .before .before .pre .1 .0, c .before .before .before .before .before .before .before .before .before .before .before .before .before .before .before .before .before .before .before .before .before .before .before .before .before .pre .0 .few-first-nodes)
 
--- src/order.rt:69:5
 put8-requires : tie.Need-put8-requires
 put8-requires c κs = omega (arith, (ap (λ (z : GraphEdge). z .to) (held-edge (c .before .before .before .before .before .before .before .before .before .before .before .before .before .before .before .before .before .edge-at .result) _ (edge (decode-graph (c .before .before .before .before .before .before .before .before .before .before .before .before .before .before .before .before .before .before .before .before .before .before .before .before .before .args .first .now)) (c .before .before .before .before .before .before .before .before .before .before .before .before .before .before .before .before .before .before .before .before .get16 .result)) (c .before .before .before .before .before .before .before .before .before .before .before .before .before .before .before .x .given .1) (c .before .before .before .before .before .before .before .before .before .before .before .before .before .before .before .before .before .edge-at .ensures))), (first-edge-in (c .before .before .before .before .before .before .before .before .before .before .before .before .before .before .before .before .before .before .before .before .before .before .before .before .before .args .s) (c .before .before .before .before .before .before .before .before .before .before .before .before .before .before .before .before .before .before .before .before .before .before .before .before .before .args .first .now) (c .before .before .before .before .before .before .before .before .before .before .before .before .before .before .before .before .before .before .before .before .before .before .before .before .before .args .second .now) (c .before .before .before .before .before .before .before .before .before .before .before .before .before .before .before .before .before .before .before .before .before .before .before .before .before .pre .0) (c .before .before .before .before .before .before .before .before .before .before .before .before .before .before .before .before .before .before .before .before .get16 .result) (omega (arith, c .before .before .before .before .before .before .before .before .before .before .before .before .before .before .before .before .before .before .if1 .left))) .1, c .before .before .before .before .before .before .before .before .before .before .before .before .before .before .before .before .before .before .before .before .before .before .before .before .before .pre .0 .few-first-nodes, c .before .before .before .before .before .before .before .before .before .before .put16 .kept .0, c .before .before .before .put-bit .kept .0, c .before .before .before .before .before .before .before .before .before .before .before .before .before .before .before .before .before .before .before .before .before .before .before .before .before .pre .1 .1)
 
--- src/order.rt:49:1
 same-length-5 : tie.Need-same-length-5
 same-length-5 c = search needs
 
--- src/order.rt:49:1
 returns-5 : tie.Need-returns-5
 returns-5 c = let k = c .before .before .before .before .before .before .before .before .before .before .before .before .before .before .before .before .before .before .before .before .before .before .before .before .before .before .before .before in
     let to-low : c .before .before .before .before .before .before .before .before .before .before .before .before .before .before .before .before .before .before .x .given .0 .0 .to < k .args .s .nodes = omega (arith, (ap (λ (z : GraphEdge). z .to) (held-edge (c .before .before .before .before .before .before .before .before .before .before .before .before .before .before .before .before .before .before .before .before .edge-at .result) _ (edge (decode-graph (c .before .before .before .before .before .before .before .before .before .before .before .before .before .before .before .before .before .before .before .before .before .before .before .before .before .before .before .before .args .first .now)) (c .before .before .before .before .before .before .before .before .before .before .before .before .before .before .before .before .before .before .before .before .before .before .before .get16 .result)) (c .before .before .before .before .before .before .before .before .before .before .before .before .before .before .before .before .before .before .x .given .1) (c .before .before .before .before .before .before .before .before .before .before .before .before .before .before .before .before .before .before .before .before .edge-at .ensures))), (first-edge-in (c .before .before .before .before .before .before .before .before .before .before .before .before .before .before .before .before .before .before .before .before .before .before .before .before .before .before .before .before .args .s) (c .before .before .before .before .before .before .before .before .before .before .before .before .before .before .before .before .before .before .before .before .before .before .before .before .before .before .before .before .args .first .now) (c .before .before .before .before .before .before .before .before .before .before .before .before .before .before .before .before .before .before .before .before .before .before .before .before .before .before .before .before .args .second .now) (c .before .before .before .before .before .before .before .before .before .before .before .before .before .before .before .before .before .before .before .before .before .before .before .before .before .before .before .before .pre .0) (c .before .before .before .before .before .before .before .before .before .before .before .before .before .before .before .before .before .before .before .before .before .before .before .get16 .result) (omega (arith, c .before .before .before .before .before .before .before .before .before .before .before .before .before .before .before .before .before .before .before .before .before .if1 .left))) .1) in (

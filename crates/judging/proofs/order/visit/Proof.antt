@@ -9,39 +9,30 @@ use Rattle.files.proofs.cells.put8.Reads as put8-reads
 use Rattle.files.proofs.cells.put_bit.Reads as put-bit-reads
 use Rattle.judging.proofs.order.walk_from.Reads as walk-from-reads
 
--- src/order.rt:110:8
 has-bit-requires : tie.Need-has-bit-requires
 has-bit-requires c κs = search needs
 
--- src/order.rt:111:9
 same-length : tie.Need-same-length
 same-length c = search needs
 
--- src/order.rt:111:9
 returns : tie.Need-returns
 returns c = search needs
 
--- src/order.rt:113:5
 put-bit-requires : tie.Need-put-bit-requires
 put-bit-requires c κs = search needs
 
--- src/order.rt:114:38
 cast-put8 : tie.Need-cast-put8
 cast-put8 c = search needs
 
--- src/order.rt:114:5
 put8-requires : tie.Need-put8-requires
 put8-requires c κs = search needs
 
--- src/order.rt:115:5
 walk-from-requires : tie.Need-walk-from-requires
 walk-from-requires c κs = search needs
 
--- src/order.rt:106:1
 same-length-2 : tie.Need-same-length-2
 same-length-2 c = search needs
 
--- src/order.rt:106:1
 returns-2 : tie.Need-returns-2
 returns-2 c = let k = c .before .before .before .before .before .before .before .before .before .before .before .before .before .before .before .before .before .before in
     outside-on 29760 30816 (k .args .work .now) (c .before .before .before .before .before .before .before .before .before .before .put-bit .last .0) (c .before .before .walk-from .last .1 .1 .1 .0) (bit-put (k .args .work .now) (c .before .before .before .before .before .before .before .before .before .before .put-bit .last .0) 30784 (k .args .root) 29760 30816 (c .before .before .before .before .before .before .before .before .before .before .put-bit .ensures) (omega arith) (omega (arith, k .pre .1 .0, k .pre .0 .few-first-nodes)))

@@ -14,43 +14,33 @@ Inv-loop first second s work₀ root left w₀ steps₀ work w steps = (length w
 abbrev μ-loop : tie.MeasureT-loop
 μ-loop first second s work₀ root left w₀ steps₀ work w steps = steps
 
--- src/order.rt:94:21
 add-steps : tie.Need-add-steps Inv-loop μ-loop
 add-steps c = omega (arith, c .before .before .before .before .pre .0 .few-first-nodes, c .before .before .before .before .pre .0 .few-first-edges)
 
--- src/order.rt:95:5
 loop-holds : tie.Need-loop-holds Inv-loop μ-loop
 loop-holds c = (refl, c .before .before .before .before .pre .1 .0, λ q d. refl)
 
--- src/order.rt:97:13
 same-length : tie.Need-same-length Inv-loop μ-loop
 same-length c = c .before .before .loop .inv .0
 
--- src/order.rt:97:13
 returns : tie.Need-returns Inv-loop μ-loop
 returns c = c .before .before .loop .inv .2
 
--- src/order.rt:99:9
 step-requires : tie.Need-step-requires Inv-loop μ-loop
 step-requires c κs = (c .before .before .before .before .before .before .before .before .pre .0, (c .before .before .before .loop .inv .1, omega (arith, c .before .before .before .loop .inv .0, c .before .before .before .before .before .before .before .before .pre .1 .1)))
 
--- src/order.rt:100:9
 sub-steps : tie.Need-sub-steps Inv-loop μ-loop
 sub-steps c = omega (arith, c .before .before .before .before .before .loop-test .taken)
 
--- src/order.rt:95:5
 loop-less : tie.Need-loop-less Inv-loop μ-loop
 loop-less c = omega (arith, c .before .before .before .before .before .loop-test .taken)
 
--- src/order.rt:95:5
 loop-again : tie.Need-loop-again Inv-loop μ-loop
 loop-again c = let l = c .before .before .before .before .before .before .loop in let p = c .before .before .step in (p .kept .1 .1 .1 .0 ∙ l .inv .0, p .ensures .0, outside-on 29760 30816 (c .before .before .before .before .before .before .before .before .before .before .before .args .work .now) (l .work) (p .last .1 .1 .1 .0) (l .inv .2) (p .ensures .1))
 
--- src/order.rt:78:1
 same-length-2 : tie.Need-same-length-2 Inv-loop μ-loop
 same-length-2 c = c .before .loop .inv .0
 
--- src/order.rt:78:1
 returns-2 : tie.Need-returns-2 Inv-loop μ-loop
 returns-2 c = c .before .loop .inv .2
 

@@ -16,34 +16,27 @@ Inv-loop first second s work₀ label₀ work label = (label ≤ 9) × (length w
 abbrev μ-loop : tie.MeasureT-loop
 μ-loop first second s work₀ label₀ work label = 9 - label
 
--- src/refine.rt:70:5
 loop-holds : tie.Need-loop-holds Inv-loop μ-loop
 loop-holds c = (omega arith, refl, shrank-none (decode-graph (c .before .before .before .args .first .now)) (decode-graph (c .before .before .before .args .second .now)) (c .before .before .before .args .work .now) (c .before .before .before .pre .1), λ l h. absurd (omega (arith, h)))
 
--- src/refine.rt:71:9
 drop-lacking-by-requires : tie.Need-drop-lacking-by-requires Inv-loop μ-loop
 drop-lacking-by-requires c κs = (c .before .before .before .before .before .before .pre .0, (c .before .loop-test .taken, c .before .before .loop .inv .2 .refining))
 
--- src/refine.rt:72:9
 add-label : tie.Need-add-label Inv-loop μ-loop
 add-label c = omega (arith, c .before .before .before .before .loop-test .taken)
 
--- src/refine.rt:70:5
 loop-less : tie.Need-loop-less Inv-loop μ-loop
 loop-less c = omega (arith, c .before .before .before .before .loop-test .taken)
 
--- src/refine.rt:70:5
 loop-again : tie.Need-loop-again Inv-loop μ-loop
 loop-again c = let k = c .before .before .before .before .before .before .before .before .before in
     let l = c .before .before .before .before .before .loop in
     let p = c .before .before .drop-lacking-by in
     (omega (arith, c .before .before .before .before .loop-test .taken), p .kept .1 .1 .1 .0 ∙ l .inv .1, shrank-on (decode-graph (c .before .before .before .before .before .before .before .before .before .args .first .now)) (decode-graph (c .before .before .before .before .before .before .before .before .before .args .second .now)) (k .args .work .now) (l .work) (p .last .1 .1 .1 .0) (l .inv .2) (p .ensures .0), leadings-kept (c .before .before .before .before .before .before .before .before .before .args .s) (c .before .before .before .before .before .before .before .before .before .args .first .now) (c .before .before .before .before .before .before .before .before .before .args .second .now) (c .before .before .before .before .before .before .before .before .before .pre .0) (l .work) (p .last .1 .1 .1 .0) (l .label) (p .ensures .0) (l .inv .3) (p .ensures .1))
 
--- src/refine.rt:65:1
 same-length : tie.Need-same-length Inv-loop μ-loop
 same-length c = c .before .loop .inv .1
 
--- src/refine.rt:65:1
 returns : tie.Need-returns Inv-loop μ-loop
 returns c = let l = c .before .loop in (l .inv .2, λ n h. l .inv .3 n (omega (arith, h, c .loop-test .left)))
 

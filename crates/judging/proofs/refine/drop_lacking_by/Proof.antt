@@ -20,52 +20,41 @@ Inv-loop first second s work₀ label gone v₀ work v = (v ≤ s .nodes) × (le
 abbrev μ-loop : tie.MeasureT-loop
 μ-loop first second s work₀ label gone v₀ work v = s .nodes - v
 
--- src/refine.rt:56:16
 lacking-requires : tie.Need-lacking-requires Inv-loop μ-loop
 lacking-requires c κs = let k = c .before .before .before .before in (k .pre .1 .1 .room, (k .pre .0 .few-second-nodes, k .pre .1 .0))
 
--- src/refine.rt:58:5
 loop-holds : tie.Need-loop-holds Inv-loop μ-loop
 loop-holds c = (omega arith, refl, shrank-none (decode-graph (c .before .before .before .before .before .args .first .now)) (decode-graph (c .before .before .before .before .before .args .second .now)) (c .before .before .before .before .before .args .work .now) (c .before .before .before .before .before .pre .1 .1), λ e h he li below. absurd (omega (arith, below)))
 
--- src/refine.rt:59:43
 mul-drop-from : tie.Need-mul-drop-from Inv-loop μ-loop
 mul-drop-from c = omega (arith, c .before .if1 .taken, c .before .before .before .before .before .before .before .before .before .pre .0 .few-first-nodes)
 
--- src/refine.rt:59:43
 add-drop-from : tie.Need-add-drop-from Inv-loop μ-loop
 add-drop-from c = omega (arith, c .before .if1 .taken, c .before .before .before .before .before .before .before .before .before .pre .0 .few-first-nodes, c .before .before .before .before .before .before .before .before .before .pre .1 .0)
 
--- src/refine.rt:59:58
 slice-aggregate-drop-from : tie.Need-slice-aggregate-drop-from Inv-loop μ-loop
 slice-aggregate-drop-from c = omega (arith, c .before .before .before .before .before .lacking .ensures .0)
 
--- src/refine.rt:59:9
 drop-from-requires : tie.Need-drop-from-requires Inv-loop μ-loop
 drop-from-requires c κs = let k = c .before .before .before .before .before .before .before .before .before .before in
     let l = c .before .before .before .before .loop in
     (omega (arith, c .before .before .before .before .before .lacking .ensures .0), (k .pre .0, (omega (arith, c .before .before .if1 .taken, k .pre .1 .0), (l .inv .2 .refining, lacking-drop (c .before .before .before .before .before .before .before .before .before .before .args .s) (c .before .before .before .before .before .before .before .before .before .before .args .first .now) (c .before .before .before .before .before .before .before .before .before .before .args .second .now) (c .before .before .before .before .before .before .before .before .before .before .pre .0) (k .args .work .now) (k .pre .1 .1) (l .v) (k .args .label) (c .before .before .if1 .taken) (k .pre .1 .0) (c .before .before .before .before .before .lacking .result) (c .before .before .before .before .before .lacking .ensures .1)))))
 
--- src/refine.rt:60:9
 add-v : tie.Need-add-v Inv-loop μ-loop
 add-v c = search needs
 
--- src/refine.rt:58:5
 loop-less : tie.Need-loop-less Inv-loop μ-loop
 loop-less c = search needs
 
--- src/refine.rt:58:5
 loop-again : tie.Need-loop-again Inv-loop μ-loop
 loop-again c = let k = c .before .before .before .before .before .before .before .before .before .before .before .before .before in
     let l = c .before .before .before .before .before .before .before .loop in
     let p = c .before .before .drop-from in
     (omega (arith, c .before .before .before .before .before .if1 .taken), p .kept .1 .1 .1 .0 ∙ l .inv .1, shrank-on (decode-graph (c .before .before .before .before .before .before .before .before .before .before .before .before .before .args .first .now)) (decode-graph (c .before .before .before .before .before .before .before .before .before .before .before .before .before .args .second .now)) (k .args .work .now) (l .work) (p .last .1 .1 .1 .0) (l .inv .2) (p .ensures .0), dropped-turn (c .before .before .before .before .before .before .before .before .before .before .before .before .before .args .s) (c .before .before .before .before .before .before .before .before .before .before .before .before .before .args .first .now) (c .before .before .before .before .before .before .before .before .before .before .before .before .before .args .second .now) (c .before .before .before .before .before .before .before .before .before .before .before .before .before .pre .0) (l .work) (p .last .1 .1 .1 .0) (c .before .before .before .before .before .before .before .before .lacking .result) (k .args .label) (l .v) (p .ensures .0) (l .inv .3) (p .ensures .1))
 
--- src/refine.rt:52:1
 same-length : tie.Need-same-length Inv-loop μ-loop
 same-length c = c .before .before .loop .inv .1
 
--- src/refine.rt:52:1
 returns : tie.Need-returns Inv-loop μ-loop
 returns c = let k = c .before .before .before .before .before .before .before .before in
     let l = c .before .before .loop in

@@ -17,31 +17,24 @@ Inv-loop s row₀ x₀ row x = (x ≤ s .nodes2) × (length row ≡ 32) × ((h :
 abbrev μ-loop : tie.MeasureT-loop
 μ-loop s row₀ x₀ row x = s .nodes2 - x
 
--- src/refine.rt:83:5
 loop-holds : tie.Need-loop-holds Inv-loop μ-loop
 loop-holds c = (omega arith, refl, chosen-none (λ h. true))
 
--- src/refine.rt:84:17
 slice-aggregate-put-bit : tie.Need-slice-aggregate-put-bit Inv-loop μ-loop
 slice-aggregate-put-bit c = search needs
 
--- src/refine.rt:84:9
 put-bit-requires : tie.Need-put-bit-requires Inv-loop μ-loop
 put-bit-requires c κs = search needs
 
--- src/refine.rt:85:9
 add-x : tie.Need-add-x Inv-loop μ-loop
 add-x c = search needs
 
--- src/refine.rt:83:5
 loop-less : tie.Need-loop-less Inv-loop μ-loop
 loop-less c = search needs
 
--- src/refine.rt:83:5
 loop-again : tie.Need-loop-again Inv-loop μ-loop
 loop-again c = let l = c .before .before .before .before .before .loop in let p = c .before .put-bit in (omega (arith, c .before .before .before .if1 .taken), p .kept .0 ∙ l .inv .1, chosen-put (λ h. true) (l .row) (l .x) (l .inv .2) (p .last .0) (omega (arith, l .inv .1)) (omega (arith, c .before .before .before .if1 .taken, c .before .before .before .before .before .before .pre)) (p .ensures) refl)
 
--- src/refine.rt:77:1
 returns : tie.Need-returns Inv-loop μ-loop
 returns c = let l = c .before .before .loop in let e : l .x ≡ c .before .before .before .args .s .nodes2 = omega (arith, c .if1 .left, l .inv .0) in (l .inv .1, λ h b. l .inv .2 h b ∙ ap (ltb h) e)
 

@@ -18,39 +18,30 @@ Inv-loop first second s work₀ row v₀ work v = (v ≤ s .nodes) × (length wo
 abbrev μ-loop : tie.MeasureT-loop
 μ-loop first second s work₀ row v₀ work v = s .nodes - v
 
--- src/refine.rt:95:15
 everything-requires : tie.Need-everything-requires Inv-loop μ-loop
 everything-requires c κs = search needs
 
--- src/refine.rt:97:5
 loop-holds : tie.Need-loop-holds Inv-loop μ-loop
 loop-holds c = (omega arith, refl, λ u h a b. absurd (omega (arith, a)), λ q d. refl)
 
--- src/refine.rt:98:37
 mul-put-row : tie.Need-mul-put-row Inv-loop μ-loop
 mul-put-row c = search needs
 
--- src/refine.rt:98:23
 add-put-row : tie.Need-add-put-row Inv-loop μ-loop
 add-put-row c = search needs
 
--- src/refine.rt:98:47
 slice-aggregate-put-row : tie.Need-slice-aggregate-put-row Inv-loop μ-loop
 slice-aggregate-put-row c = omega (arith, c .before .before .before .before .before .everything .ensures .0)
 
--- src/refine.rt:98:9
 put-row-requires : tie.Need-put-row-requires Inv-loop μ-loop
 put-row-requires c κs = (omega (arith, c .before .before .if1 .taken, c .before .before .before .before .before .before .before .before .before .pre .0 .few-first-nodes, c .before .before .before .before .loop .inv .1, c .before .before .before .before .before .before .before .before .before .pre .1), omega (arith, c .before .before .before .before .before .everything .ensures .0))
 
--- src/refine.rt:99:9
 add-v : tie.Need-add-v Inv-loop μ-loop
 add-v c = search needs
 
--- src/refine.rt:97:5
 loop-less : tie.Need-loop-less Inv-loop μ-loop
 loop-less c = search needs
 
--- src/refine.rt:97:5
 loop-again : tie.Need-loop-again Inv-loop μ-loop
 loop-again c = let k = c .before .before .before .before .before .before .before .before .before .before .before .before in
     let l = c .before .before .before .before .before .before .before .loop in
@@ -58,11 +49,9 @@ loop-again c = let k = c .before .before .before .before .before .before .before
     let r = held-turn (k .args .work .now) (l .work) (p .last .0) (c .before .before .before .before .before .before .before .before .everything .result) (k .args .s .nodes2) (l .v) (omega (arith, c .before .before .before .before .before .if1 .taken, k .pre .0 .few-first-nodes)) (c .before .before .before .before .before .before .before .before .everything .ensures .1) (p .ensures .0) (p .ensures .1) (l .inv .2) (l .inv .3) in
     (omega (arith, c .before .before .before .before .before .if1 .taken), p .kept .0 ∙ l .inv .1, r .0, r .1)
 
--- src/refine.rt:91:1
 same-length : tie.Need-same-length Inv-loop μ-loop
 same-length c = c .before .before .loop .inv .1
 
--- src/refine.rt:91:1
 returns : tie.Need-returns Inv-loop μ-loop
 returns c = let l = c .before .before .loop in
     let e : l .v ≡ c .before .before .before .before .before .before .before .args .s .nodes = omega (arith, c .if1 .left, l .inv .0) in

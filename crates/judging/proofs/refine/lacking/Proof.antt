@@ -18,47 +18,36 @@ Inv-loop s work label row₀ x₀ row x = (x ≤ s .nodes2) × (length row ≡ 3
 abbrev μ-loop : tie.MeasureT-loop
 μ-loop s work label row₀ x₀ row x = s .nodes2 - x
 
--- src/refine.rt:42:5
 loop-holds : tie.Need-loop-holds Inv-loop μ-loop
 loop-holds c = (omega arith, refl, lacking-none (c .before .args .work .now) (c .before .args .label))
 
--- src/refine.rt:43:54
 mul-any-at : tie.Need-mul-any-at Inv-loop μ-loop
 mul-any-at c = search needs
 
--- src/refine.rt:43:54
 add-any-at : tie.Need-add-any-at Inv-loop μ-loop
 add-any-at c = search needs
 
--- src/refine.rt:43:46
 mul-any-at-2 : tie.Need-mul-any-at-2 Inv-loop μ-loop
 mul-any-at-2 c = search needs
 
--- src/refine.rt:43:26
 add-any-at-2 : tie.Need-add-any-at-2 Inv-loop μ-loop
 add-any-at-2 c = search needs
 
--- src/refine.rt:43:13
 any-at-requires : tie.Need-any-at-requires Inv-loop μ-loop
 any-at-requires c κs = search needs
 
--- src/refine.rt:44:21
 slice-aggregate-put-bit : tie.Need-slice-aggregate-put-bit Inv-loop μ-loop
 slice-aggregate-put-bit c = search needs
 
--- src/refine.rt:44:13
 put-bit-requires : tie.Need-put-bit-requires Inv-loop μ-loop
 put-bit-requires c κs = search needs
 
--- src/refine.rt:46:9
 add-x : tie.Need-add-x Inv-loop μ-loop
 add-x c = search needs
 
--- src/refine.rt:42:5
 loop-less : tie.Need-loop-less Inv-loop μ-loop
 loop-less c = search needs
 
--- src/refine.rt:42:5
 loop-again : tie.Need-loop-again Inv-loop μ-loop
 loop-again c = let a = c .before .before .before .before .before .before .args in
     let l = c .before .before .before .before .loop in
@@ -69,7 +58,6 @@ loop-again c = let a = c .before .before .before .before .before .before .args i
       ⊎-elim (λ u. subst (Lacking (a .work .now) (a .label) (l .x + 1)) (sym (u .4)) (lacking-put (a .work .now) (a .label) (l .row) (u .2 .last .0) (l .x) (omega (arith, l .inv .1)) (omega (arith, c .before .before .if1 .taken, few)) (u .2 .ensures) (y .ensures .1 (subst T (sym (u .0 .taken)) tt)) (l .inv .2))) (λ u. subst (Lacking (a .work .now) (a .label) (l .x + 1)) (sym (u .1)) (lacking-over (a .work .now) (a .label) (l .row) (l .x) (y .ensures .0 (not-off (y .result) (u .0 .left))) (l .inv .2))) (c .if2 .came),
     )
 
--- src/refine.rt:36:1
 returns : tie.Need-returns Inv-loop μ-loop
 returns c = let l = c .before .before .loop in let e : l .x ≡ c .before .before .before .before .args .s .nodes2 = omega (arith, c .if1 .left, l .inv .0) in (l .inv .1, subst (λ (n : ℕ). Lacking (c .before .before .before .before .args .work .now) (c .before .before .before .before .args .label) n (l .row)) e (l .inv .2))
 

@@ -16,31 +16,24 @@ Inv-loop first second s work v₀ v = (v ≤ s .nodes) × ((u h : ℕ) → u < v
 abbrev μ-loop : tie.MeasureT-loop
 μ-loop first second s work v₀ v = s .nodes - v
 
--- src/refine.rt:143:5
 loop-holds : tie.Need-loop-holds Inv-loop μ-loop
 loop-holds c = (omega arith, λ u h a. absurd (omega (arith, a)))
 
--- src/refine.rt:144:12
 has-lost-requires : tie.Need-has-lost-requires Inv-loop μ-loop
 has-lost-requires c κs = (c .before .before .before .before .before .before .pre .0, (c .if1 .taken, c .before .before .before .before .before .before .pre .1))
 
--- src/refine.rt:145:13
 returns : tie.Need-returns Inv-loop μ-loop
 returns c = (λ l. c .before .has-lost .ensures .0 (subst T (sym (c .if2 .taken)) tt), λ l. absurd (omega (arith, l, c .before .before .if1 .taken)))
 
--- src/refine.rt:147:9
 add-v : tie.Need-add-v Inv-loop μ-loop
 add-v c = omega (arith, c .before .before .if1 .taken, c .before .before .before .before .before .before .before .before .pre .0 .few-first-nodes)
 
--- src/refine.rt:143:5
 loop-less : tie.Need-loop-less Inv-loop μ-loop
 loop-less c = omega (arith, c .before .before .if1 .taken)
 
--- src/refine.rt:143:5
 loop-again : tie.Need-loop-again Inv-loop μ-loop
 loop-again c = let l = c .before .before .before .before .loop in (omega (arith, c .before .before .if1 .taken), λ u h a. below-more (λ u. (h : ℕ) → h < 256 → T (held (c .before .before .before .before .before .before .before .before .args .work .now) u h) → T (rel (c .before .before .before .before .before .before .before .before .args .work .now) u h)) (l .v) (λ j i h b t. l .inv .1 j h i b t) (c .before .has-lost .ensures .1 (subst (λ b. T (not b)) (sym (c .if2 .left)) tt)) u a h)
 
--- src/refine.rt:138:1
 returns-2 : tie.Need-returns-2 Inv-loop μ-loop
 returns-2 c = (λ l. absurd (omega (arith, l, c .if1 .left)), λ l u h a b t. c .before .before .loop .inv .1 u h (omega (arith, a, l)) b t)
 

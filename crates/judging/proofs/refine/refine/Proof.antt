@@ -9,36 +9,29 @@ use Rattle.judging.proofs.refine.hold_everything.Reads as hold-everythi
 use Rattle.judging.proofs.refine.settle.Reads as settle-reads
 use Rattle.judging.proofs.relation.prepare.Reads as prepare-reads
 
--- src/refine.rt:171:5
 prepare-requires : tie.Need-prepare-requires
 prepare-requires c κs = search needs
 
--- src/refine.rt:172:5
 put-in-order-requires : tie.Need-put-in-order-requires
 put-in-order-requires c κs = search needs
 
--- src/refine.rt:173:5
 hold-everything-requires : tie.Need-hold-everything-requires
 hold-everything-requires c κs = search needs
 
--- src/refine.rt:174:5
 drop-lacking-requires : tie.Need-drop-lacking-requires
 drop-lacking-requires c κs = let h = c .before .before .before .hold-everything in
     let o = c .before .before .before .before .before .before .before .put-in-order in
     let p = c .before .before .before .before .before .before .before .before .before .before .before .prepare in
     (c .before .before .before .before .before .before .before .before .before .before .before .before .before .before .before .before .pre .0, held-beside (c .before .before .before .before .before .before .before .before .before .before .before .before .before .before .before .before .args .s) (c .before .before .before .before .before .before .before .before .before .before .before .before .before .before .before .before .args .first .now) (c .before .before .before .before .before .before .before .before .before .before .before .before .before .before .before .before .args .second .now) (c .before .before .before .before .before .before .before .before .before .before .before .before .before .before .before .before .pre .0) (o .last .1 .1 .1 .0) (h .last .1 .1 .1 .0) (h .ensures .1) (h .kept .1 .1 .1 .0) (ordered (c .before .before .before .before .before .before .before .before .before .before .before .before .before .before .before .before .args .s) (c .before .before .before .before .before .before .before .before .before .before .before .before .before .before .before .before .args .first .now) (c .before .before .before .before .before .before .before .before .before .before .before .before .before .before .before .before .args .second .now) (c .before .before .before .before .before .before .before .before .before .before .before .before .before .before .before .before .pre .0) (p .last .1 .1 .1 .0) (o .last .1 .1 .1 .0) (o .ensures) (o .kept .1 .1 .1 .0) (p .ensures)))
 
--- src/refine.rt:175:5
 settle-requires : tie.Need-settle-requires
 settle-requires c κs = let d = c .before .before .before .drop-lacking in
     let h = c .before .before .before .before .before .before .before .hold-everything in
     (c .before .before .before .before .before .before .before .before .before .before .before .before .before .before .before .before .before .before .before .before .pre .0, matched-first (c .before .before .before .before .before .before .before .before .before .before .before .before .before .before .before .before .before .before .before .before .args .s) (c .before .before .before .before .before .before .before .before .before .before .before .before .before .before .before .before .before .before .before .before .args .first .now) (c .before .before .before .before .before .before .before .before .before .before .before .before .before .before .before .before .before .before .before .before .args .second .now) (c .before .before .before .before .before .before .before .before .before .before .before .before .before .before .before .before .before .before .before .before .pre .0) (h .last .1 .1 .1 .0) (d .last .1 .1 .1 .0) (h .ensures .0) (d .ensures .0) (d .ensures .1))
 
--- src/refine.rt:167:1
 same-length : tie.Need-same-length
 same-length c = search needs
 
--- src/refine.rt:167:1
 returns : tie.Need-returns
 returns c = search needs
 

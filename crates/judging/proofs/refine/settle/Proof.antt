@@ -18,43 +18,33 @@ Inv-loop first second s work₀ v₀ work v = (length work ≡ length work₀) �
 abbrev μ-loop : tie.MeasureT-loop
 μ-loop first second s work₀ v₀ work v = load (s .nodes) work
 
--- src/refine.rt:157:5
 sweep-requires : tie.Need-sweep-requires Inv-loop μ-loop
 sweep-requires c κs = c .before .before .before .before .pre
 
--- src/refine.rt:158:9
 lowest-unsettled-requires : tie.Need-lowest-unsettled-requires Inv-loop μ-loop
 lowest-unsettled-requires c κs = (c .before .before .before .before .before .before .before .before .pre .0, c .before .before .before .sweep .ensures .0 .refining .room)
 
--- src/refine.rt:159:5
 loop-holds : tie.Need-loop-holds Inv-loop μ-loop
 loop-holds c = (refl, c .before .before .before .before .sweep .ensures .0, c .lowest-unsettled .ensures .0, c .lowest-unsettled .ensures .1)
 
--- src/refine.rt:160:9
 take-requires : tie.Need-take-requires Inv-loop μ-loop
 take-requires c κs = let k = c .before .before .before .before .before .before .before .before .before .before .before .before .before in let l = c .before .before .before .loop in (k .pre .0, (c .before .if1 .taken, (l .inv .1 .refining, l .inv .1 .node-matched (l .v) (c .before .if1 .taken))))
 
--- src/refine.rt:161:9
 sweep-requires-2 : tie.Need-sweep-requires-2 Inv-loop μ-loop
 sweep-requires-2 c κs = let k = c .before .before .before .before .before .before .before .before .before .before .before .before .before .before .before .before .before in let l = c .before .before .before .before .before .before .before .loop in (k .pre .0, matching-still (c .before .before .before .before .before .before .before .before .before .before .before .before .before .before .before .before .before .args .s) (c .before .before .before .before .before .before .before .before .before .before .before .before .before .before .before .before .before .args .first .now) (c .before .before .before .before .before .before .before .before .before .before .before .before .before .before .before .before .before .args .second .now) (c .before .before .before .before .before .before .before .before .before .before .before .before .before .before .before .before .before .pre .0) (l .v) (l .work) (c .before .before .before .take .last .1 .1 .1 .0) (c .before .before .before .before .before .if1 .taken) (l .inv .1) (c .before .before .before .take .ensures))
 
--- src/refine.rt:162:9
 lowest-unsettled-requires-2 : tie.Need-lowest-unsettled-requires-2 Inv-loop μ-loop
 lowest-unsettled-requires-2 c κs = (c .before .before .before .before .before .before .before .before .before .before .before .before .before .before .before .before .before .before .before .before .before .pre .0, c .before .before .before .sweep2 .ensures .0 .refining .room)
 
--- src/refine.rt:159:5
 loop-less : tie.Need-loop-less Inv-loop μ-loop
 loop-less c = let k = c .before .before .before .before .before .before .before .before .before .before .before .before .before .before .before .before .before .before .before .before .before .before in let l = c .before .before .before .before .before .before .before .before .before .before .before .before .loop in omega (arith, c .before .before .before .before .sweep2 .ensures .1, load-less (c .before .before .before .before .before .before .before .before .before .before .before .before .before .before .before .before .before .before .before .before .before .before .args .s) (c .before .before .before .before .before .before .before .before .before .before .before .before .before .before .before .before .before .before .before .before .before .before .args .first .now) (c .before .before .before .before .before .before .before .before .before .before .before .before .before .before .before .before .before .before .before .before .before .before .args .second .now) (c .before .before .before .before .before .before .before .before .before .before .before .before .before .before .before .before .before .before .before .before .before .before .pre .0) (l .v) (l .work) (c .before .before .before .before .before .before .before .before .take .last .1 .1 .1 .0) (c .before .before .before .before .before .before .before .before .before .before .if1 .taken) (l .inv .1) (c .before .before .before .before .before .before .before .before .take .ensures) (l .inv .2 (c .before .before .before .before .before .before .before .before .before .before .if1 .taken)))
 
--- src/refine.rt:159:5
 loop-again : tie.Need-loop-again Inv-loop μ-loop
 loop-again c = let l = c .before .before .before .before .before .before .before .before .before .before .before .before .loop in (c .before .before .before .before .sweep2 .kept .1 .1 .1 .0 ∙ c .before .before .before .before .before .before .before .before .take .kept .1 .1 .1 .0 ∙ l .inv .0, c .before .before .before .before .sweep2 .ensures .0, c .lowest-unsettled2 .ensures .0, c .lowest-unsettled2 .ensures .1)
 
--- src/refine.rt:153:1
 same-length : tie.Need-same-length Inv-loop μ-loop
 same-length c = c .before .before .loop .inv .0 ∙ c .before .before .before .before .before .before .before .sweep .kept .1 .1 .1 .0
 
--- src/refine.rt:153:1
 returns : tie.Need-returns Inv-loop μ-loop
 returns c = settled-all (c .before .before .before .before .before .before .before .before .before .before .before .before .args .s) (c .before .before .before .before .before .before .before .before .before .before .before .before .args .first .now) (c .before .before .before .before .before .before .before .before .before .before .before .before .args .second .now) (c .before .before .before .before .before .before .before .before .before .before .before .before .pre .0) (c .before .before .loop .work) (c .before .before .loop .inv .1) (c .before .before .loop .inv .3 (c .if1 .left))
 

@@ -17,31 +17,24 @@ Inv-loop first second s work₀ v work = (length work ≡ length work₀) × Mat
 abbrev μ-loop : tie.MeasureT-loop
 μ-loop first second s work₀ v work = load (s .nodes) work
 
--- src/refine.rt:116:5
 loop-holds : tie.Need-loop-holds Inv-loop μ-loop
 loop-holds c = (refl, c .before .before .before .pre .1 .1, le-refl (load (c .before .before .before .args .s .nodes) (c .before .before .before .args .work .now)))
 
--- src/refine.rt:116:11
 has-lost-requires : tie.Need-has-lost-requires Inv-loop μ-loop
 has-lost-requires c κs = (c .before .before .before .before .before .pre .0, (c .before .before .before .before .before .pre .1 .0, c .before .loop .inv .1 .refining .room))
 
--- src/refine.rt:117:9
 take-requires : tie.Need-take-requires Inv-loop μ-loop
 take-requires c κs = let k = c .before .before .before .before .before .before .before .before in let l = c .before .before .before .before .loop in (k .pre .0, (k .pre .1 .0, (l .inv .1 .refining, l .inv .1 .node-matched (k .args .v) (k .pre .1 .0))))
 
--- src/refine.rt:116:5
 loop-less : tie.Need-loop-less Inv-loop μ-loop
 loop-less c = let k = c .before .before .before .before .before .before .before .before .before .before .before in let l = c .before .before .before .before .before .before .before .loop in load-less (c .before .before .before .before .before .before .before .before .before .before .before .args .s) (c .before .before .before .before .before .before .before .before .before .before .before .args .first .now) (c .before .before .before .before .before .before .before .before .before .before .before .args .second .now) (c .before .before .before .before .before .before .before .before .before .before .before .pre .0) (k .args .v) (l .work) (c .before .before .take .last .1 .1 .1 .0) (k .pre .1 .0) (l .inv .1) (c .before .before .take .ensures) (c .before .before .before .before .before .has-lost .ensures .0 (subst T (sym (c .before .before .before .before .if1 .taken)) tt))
 
--- src/refine.rt:116:5
 loop-again : tie.Need-loop-again Inv-loop μ-loop
 loop-again c = let k = c .before .before .before .before .before .before .before .before .before .before .before in let l = c .before .before .before .before .before .before .before .loop in let p = c .before .before .take in (p .kept .1 .1 .1 .0 ∙ l .inv .0, matching-still (c .before .before .before .before .before .before .before .before .before .before .before .args .s) (c .before .before .before .before .before .before .before .before .before .before .before .args .first .now) (c .before .before .before .before .before .before .before .before .before .before .before .args .second .now) (c .before .before .before .before .before .before .before .before .before .before .before .pre .0) (k .args .v) (l .work) (p .last .1 .1 .1 .0) (k .pre .1 .0) (l .inv .1) (p .ensures), le-trans (load-down (c .before .before .before .before .before .before .before .before .before .before .before .args .s) (c .before .before .before .before .before .before .before .before .before .before .before .args .first .now) (c .before .before .before .before .before .before .before .before .before .before .before .args .second .now) (c .before .before .before .before .before .before .before .before .before .before .before .pre .0) (k .args .v) (l .work) (p .last .1 .1 .1 .0) (k .pre .1 .0) (l .inv .1) (p .ensures)) (l .inv .2))
 
--- src/refine.rt:112:1
 same-length : tie.Need-same-length Inv-loop μ-loop
 same-length c = c .before .before .before .loop .inv .0
 
--- src/refine.rt:112:1
 returns : tie.Need-returns Inv-loop μ-loop
 returns c = (c .before .before .before .loop .inv .1, c .before .before .before .loop .inv .2)
 

@@ -18,47 +18,36 @@ Inv-loop first second s work₀ i₀ work i = (length work ≡ length work₀) �
 abbrev μ-loop : tie.MeasureT-loop
 μ-loop first second s work₀ i₀ work i = s .nodes - i
 
--- src/refine.rt:127:5
 loop-holds : tie.Need-loop-holds Inv-loop μ-loop
 loop-holds c = (refl, c .before .before .before .pre .1, le-refl (load (c .before .before .before .args .s .nodes) (c .before .before .before .args .work .now)))
 
--- src/refine.rt:128:17
 get8-requires : tie.Need-get8-requires Inv-loop μ-loop
 get8-requires c κs = omega (arith, c .before .if1 .taken, c .before .before .before .before .before .before .before .pre .0 .few-first-nodes, c .before .before .before .loop .inv .1 .refining .room)
 
--- src/refine.rt:128:17
 cast-v : tie.Need-cast-v Inv-loop μ-loop
 cast-v c = search needs
 
--- src/refine.rt:129:9
 add-i : tie.Need-add-i Inv-loop μ-loop
 add-i c = omega (arith, c .before .before .if1 .taken, c .before .before .before .before .before .before .before .before .pre .0 .few-first-nodes)
 
--- src/refine.rt:127:5
 loop-less : tie.Need-loop-less Inv-loop μ-loop
 loop-less c = omega (arith, c .before .before .before .before .if1 .taken)
 
--- src/refine.rt:127:5
 loop-again : tie.Need-loop-again Inv-loop μ-loop
 loop-again c = c .before .before .before .before .before .before .loop .inv
 
--- src/refine.rt:133:9
 settle-node-requires : tie.Need-settle-node-requires Inv-loop μ-loop
 settle-node-requires c κs = (c .before .before .before .before .before .before .before .before .before .before .before .pre .0, (c .before .if2 .left, c .before .before .before .before .before .before .before .loop .inv .1))
 
--- src/refine.rt:127:5
 loop-less-2 : tie.Need-loop-less-2 Inv-loop μ-loop
 loop-less-2 c = omega (arith, c .before .before .before .before .before .before .before .before .if1 .taken)
 
--- src/refine.rt:127:5
 loop-again-2 : tie.Need-loop-again-2 Inv-loop μ-loop
 loop-again-2 c = let l = c .before .before .before .before .before .before .before .before .before .before .loop in let p = c .before .before .settle-node in (p .kept .1 .1 .1 .0 ∙ l .inv .0, p .ensures .0, le-trans (p .ensures .1) (l .inv .2))
 
--- src/refine.rt:122:1
 same-length : tie.Need-same-length Inv-loop μ-loop
 same-length c = c .before .before .loop .inv .0
 
--- src/refine.rt:122:1
 returns : tie.Need-returns Inv-loop μ-loop
 returns c = (c .before .before .loop .inv .1, c .before .before .loop .inv .2)
 

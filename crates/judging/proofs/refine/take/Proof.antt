@@ -8,43 +8,33 @@ use Rattle.judging.proofs.matches.hand_on.Reads as hand-on-reads
 use Rattle.judging.proofs.rows.put_row.Reads as put-row-reads
 use Rattle.judging.proofs.rows.row_at.Reads as row-at-reads
 
--- src/refine.rt:30:28
 mul-row-at : tie.Need-mul-row-at
 mul-row-at c = search needs
 
--- src/refine.rt:30:15
 row-at-requires : tie.Need-row-at-requires
 row-at-requires c κs = search needs
 
--- src/refine.rt:31:40
 slice-aggregate-hand-on : tie.Need-slice-aggregate-hand-on
 slice-aggregate-hand-on c = search needs
 
--- src/refine.rt:31:5
 hand-on-requires : tie.Need-hand-on-requires
 hand-on-requires c κs = let k = c .before .before .before .before .before .before .before in (omega (arith, c .before .before .row-at .ensures .0), (k .pre .0, (k .pre .1 .0, (k .pre .1 .1 .0, (k .pre .1 .1 .1, contained (c .before .before .before .before .before .before .before .args .s) (c .before .before .before .before .before .before .before .args .first .now) (c .before .before .before .before .before .before .before .args .second .now) (c .before .before .before .before .before .before .before .pre .0) (k .args .work .now) (c .before .before .row-at .result) (k .args .v) (k .pre .1 .1 .0) (c .before .before .row-at .ensures .1))))))
 
--- src/refine.rt:32:33
 mul-put-row : tie.Need-mul-put-row
 mul-put-row c = search needs
 
--- src/refine.rt:32:19
 add-put-row : tie.Need-add-put-row
 add-put-row c = search needs
 
--- src/refine.rt:32:43
 slice-aggregate-put-row : tie.Need-slice-aggregate-put-row
 slice-aggregate-put-row c = search needs
 
--- src/refine.rt:32:5
 put-row-requires : tie.Need-put-row-requires
 put-row-requires c κs = let k = c .before .before .before .before .before .before .before .before .before .before .before .before in (omega (arith, k .pre .1 .0, k .pre .0 .few-first-nodes, c .before .before .before .before .hand-on .kept .1 .1 .1 .0, k .pre .1 .1 .0 .room), omega (arith, c .before .before .before .before .before .before .before .row-at .ensures .0))
 
--- src/refine.rt:26:1
 same-length : tie.Need-same-length
 same-length c = search needs
 
--- src/refine.rt:26:1
 returns : tie.Need-returns
 returns c = let k = c .before .before .before .before .before .before .before .before .before .before .before .before .before .before .before in taken (c .before .before .before .before .before .before .before .before .before .before .before .before .before .before .before .args .s) (c .before .before .before .before .before .before .before .before .before .before .before .before .before .before .before .args .first .now) (c .before .before .before .before .before .before .before .before .before .before .before .before .before .before .before .args .second .now) (c .before .before .before .before .before .before .before .before .before .before .before .before .before .before .before .pre .0) (k .args .v) (k .pre .1 .0) (k .args .work .now) (c .before .before .before .before .before .before .before .hand-on .last .1 .1 .1 .0) (c .before .before .put-row .last .0) (c .before .before .before .before .before .before .before .before .before .before .row-at .result) (c .before .before .before .before .before .before .before .before .before .before .row-at .ensures .1) (c .before .before .before .before .before .before .before .hand-on .ensures .0) (c .before .before .before .before .before .before .before .hand-on .ensures .1) (c .before .before .put-row .ensures .0) (c .before .before .put-row .ensures .1) (c .before .before .put-row .kept .0)
 

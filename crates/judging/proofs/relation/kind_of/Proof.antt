@@ -8,47 +8,36 @@ use Rattle.judging.proofs.relation.kind_of.Statement.{statement}
 use Rattle.judging.proofs.relation.kind_of.Tie as tie
 use Rattle.files.proofs.graph.node_at.Reads as node-at-reads
 
--- src/relation.rt:33:25
 node-at-requires : tie.Need-node-at-requires
 node-at-requires c κs = search needs
 
--- src/relation.rt:33:20
 enum-known-v : tie.Need-enum-known-v
 enum-known-v c = search needs
 
--- src/relation.rt:34:9
 enum-told : tie.Need-enum-told
 enum-told c = search needs
 
--- src/relation.rt:34:9
 returns : tie.Need-returns
 returns c = search needs
 
--- src/relation.rt:37:21
 cast-result : tie.Need-cast-result
 cast-result c = search needs
 
--- src/relation.rt:37:16
 mul-result : tie.Need-mul-result
 mul-result c = search needs
 
--- src/relation.rt:37:16
 add-result : tie.Need-add-result
 add-result c = search needs
 
--- src/relation.rt:37:9
 returns-2 : tie.Need-returns-2
 returns-2 c = kind-returns (c .before .before .before .before .before .before .before .args .graph .now) (c .before .before .before .before .before .before .before .pre .0) (c .before .before .before .before .before .before .before .args .g) (c .before .before .before .before .before .before .before .pre .1) (c .before .before .before .v .given .0 .0) (held-node (c .before .before .before .before .before .node-at .result) _ (node (decode-graph (c .before .before .before .before .before .before .before .args .graph .now)) (c .before .before .before .before .before .before .before .args .g)) (c .before .before .before .v .given .1) (c .before .before .before .before .before .node-at .ensures)) (c .before .if1 .taken)
 
--- src/relation.rt:39:10
 cast-result-2 : tie.Need-cast-result-2
 cast-result-2 c = search needs
 
--- src/relation.rt:39:5
 mul-result-2 : tie.Need-mul-result-2
 mul-result-2 c = search needs
 
--- src/relation.rt:29:1
 returns-3 : tie.Need-returns-3
 returns-3 c = kind-goes-on (c .before .before .before .before .before .before .before .args .graph .now) (c .before .before .before .before .before .before .before .pre .0) (c .before .before .before .before .before .before .before .args .g) (c .before .before .before .before .before .before .before .pre .1) (c .before .before .before .v .given .0 .0) (held-node (c .before .before .before .before .before .node-at .result) _ (node (decode-graph (c .before .before .before .before .before .before .before .args .graph .now)) (c .before .before .before .before .before .before .before .args .g)) (c .before .before .before .v .given .1) (c .before .before .before .before .before .node-at .ensures)) (c .before .if1 .left)
 

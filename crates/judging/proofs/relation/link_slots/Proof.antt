@@ -17,27 +17,21 @@ Inv-loop first second s work₀ e₀ work e = (e ≤ s .edges) × (length work �
 abbrev μ-loop : tie.MeasureT-loop
 μ-loop first second s work₀ e₀ work e = s .edges - e
 
--- src/relation.rt:86:5
 loop-holds : tie.Need-loop-holds Inv-loop μ-loop
 loop-holds c = (omega arith, refl, slots-start (c .before .before .before .args .s) (c .before .before .before .args .first .now) (c .before .before .before .args .second .now) (c .before .before .before .pre .0) (c .before .before .before .args .work .now) (c .before .before .before .pre .1 .1), λ q d. refl)
 
--- src/relation.rt:87:13
 slot-of-requires : tie.Need-slot-of-requires Inv-loop μ-loop
 slot-of-requires c κs = (c .before .before .before .before .before .before .pre .0, c .if1 .taken)
 
--- src/relation.rt:88:9
 link-requires : tie.Need-link-requires Inv-loop μ-loop
 link-requires c κs = may-slot (c .before .before .before .before .before .before .before .before .args .s) (c .before .before .before .before .before .before .before .before .args .first .now) (c .before .before .before .before .before .before .before .before .args .second .now) (c .before .before .before .before .before .before .before .before .pre .0) (c .before .before .before .before .loop .work) (c .before .before .before .before .loop .e) (c .before .slot-of .result) (c .before .before .if1 .taken) (omega (arith, c .before .before .before .before .loop .inv .1, c .before .before .before .before .before .before .before .before .pre .1 .0)) (c .before .slot-of .ensures)
 
--- src/relation.rt:89:9
 add-e : tie.Need-add-e Inv-loop μ-loop
 add-e c = omega (arith, c .before .before .before .before .before .if1 .taken, c .before .before .before .before .before .before .before .before .before .before .before .pre .0 .few-first-edges)
 
--- src/relation.rt:86:5
 loop-less : tie.Need-loop-less Inv-loop μ-loop
 loop-less c = omega (arith, c .before .before .before .before .before .if1 .taken)
 
--- src/relation.rt:86:5
 loop-again : tie.Need-loop-again Inv-loop μ-loop
 loop-again c = let k = c .before .before .before .before .before .before .before .before .before .before .before in
     let l = c .before .before .before .before .before .before .before .loop in
@@ -45,11 +39,9 @@ loop-again c = let k = c .before .before .before .before .before .before .before
     let r = slots-turn (c .before .before .before .before .before .before .before .before .before .before .before .args .s) (c .before .before .before .before .before .before .before .before .before .before .before .args .first .now) (c .before .before .before .before .before .before .before .before .before .before .before .args .second .now) (c .before .before .before .before .before .before .before .before .before .before .before .pre .0) (k .args .work .now) (l .work) (p .last .0) (l .e) (c .before .before .before .before .slot-of .result) (c .before .before .before .before .before .if1 .taken) (omega (arith, l .inv .1, k .pre .1 .0)) (c .before .before .before .before .slot-of .ensures) (l .inv .2) (l .inv .3) (p .ensures) in
     (omega (arith, c .before .before .before .before .before .if1 .taken), p .kept .0 ∙ l .inv .1, r .0, r .1)
 
--- src/relation.rt:81:1
 same-length : tie.Need-same-length Inv-loop μ-loop
 same-length c = c .before .before .loop .inv .1
 
--- src/relation.rt:81:1
 returns : tie.Need-returns Inv-loop μ-loop
 returns c = let l = c .before .before .loop in
     let e : l .e ≡ c .before .before .before .before .before .before .args .s .edges = omega (arith, c .if1 .left, l .inv .0) in

@@ -16,23 +16,18 @@ Inv-loop first second s work₀ j₀ work j = (j ≤ s .edges2) × (length work 
 abbrev μ-loop : tie.MeasureT-loop
 μ-loop first second s work₀ j₀ work j = s .edges2 - j
 
--- src/relation.rt:120:5
 loop-holds : tie.Need-loop-holds Inv-loop μ-loop
 loop-holds c = (omega arith, refl, putting-start (c .before .before .before .args .s) (c .before .before .before .args .first .now) (c .before .before .before .args .second .now) (c .before .before .before .pre .0) (c .before .before .before .args .work .now) (c .before .before .before .pre .1 .1), λ q d. refl)
 
--- src/relation.rt:121:9
 put-edge-requires : tie.Need-put-edge-requires Inv-loop μ-loop
 put-edge-requires c κs = (c .before .before .before .before .before .before .before .pre .0, (c .before .if1 .taken, omega (arith, c .before .before .before .loop .inv .1, c .before .before .before .before .before .before .before .pre .1 .0)))
 
--- src/relation.rt:122:9
 add-j : tie.Need-add-j Inv-loop μ-loop
 add-j c = omega (arith, c .before .before .before .before .if1 .taken, c .before .before .before .before .before .before .before .before .before .before .pre .0 .few-second-edges)
 
--- src/relation.rt:120:5
 loop-less : tie.Need-loop-less Inv-loop μ-loop
 loop-less c = omega (arith, c .before .before .before .before .if1 .taken)
 
--- src/relation.rt:120:5
 loop-again : tie.Need-loop-again Inv-loop μ-loop
 loop-again c = let k = c .before .before .before .before .before .before .before .before .before .before in
     let l = c .before .before .before .before .before .before .loop in
@@ -40,11 +35,9 @@ loop-again c = let k = c .before .before .before .before .before .before .before
     let r = putting-turn (c .before .before .before .before .before .before .before .before .before .before .args .s) (c .before .before .before .before .before .before .before .before .before .before .args .first .now) (c .before .before .before .before .before .before .before .before .before .before .args .second .now) (c .before .before .before .before .before .before .before .before .before .before .pre .0) (k .args .work .now) (l .work) (p .last .1 .1 .1 .0) (l .j) (c .before .before .before .before .if1 .taken) (omega (arith, l .inv .1, k .pre .1 .0)) (l .inv .2) (l .inv .3) (p .ensures) in
     (omega (arith, c .before .before .before .before .if1 .taken), p .kept .1 .1 .1 .0 ∙ l .inv .1, r .0, r .1)
 
--- src/relation.rt:115:1
 same-length : tie.Need-same-length Inv-loop μ-loop
 same-length c = c .before .before .loop .inv .1
 
--- src/relation.rt:115:1
 returns : tie.Need-returns Inv-loop μ-loop
 returns c = (putting-all (c .before .before .before .before .before .before .args .s) (c .before .before .before .before .before .before .args .first .now) (c .before .before .before .before .before .before .args .second .now) (c .before .before .before .before .before .before .pre .0) (c .before .before .loop .work) (c .before .before .loop .j) (omega (arith, c .if1 .left)) (c .before .before .loop .inv .2), c .before .before .loop .inv .3)
 

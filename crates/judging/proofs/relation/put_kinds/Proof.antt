@@ -17,35 +17,27 @@ Inv-loop first second s work₀ h₀ work h = (h ≤ s .nodes2) × (length work 
 abbrev μ-loop : tie.MeasureT-loop
 μ-loop first second s work₀ h₀ work h = s .nodes2 - h
 
--- src/relation.rt:48:5
 loop-holds : tie.Need-loop-holds Inv-loop μ-loop
 loop-holds c = (omega arith, refl, kinds-start (c .before .before .before .args .s) (c .before .before .before .args .first .now) (c .before .before .before .args .second .now) (c .before .before .before .pre .0) (c .before .before .before .args .work .now) (c .before .before .before .pre .1 .1), λ q d. refl)
 
--- src/relation.rt:49:13
 kind-of-requires : tie.Need-kind-of-requires Inv-loop μ-loop
 kind-of-requires c κs = (c .before .before .before .before .before .before .pre .0 .second-file, omega (arith, c .if1 .taken, c .before .before .before .before .before .before .pre .0 .second-nodes-are))
 
--- src/relation.rt:50:38
 mul-put-bit : tie.Need-mul-put-bit Inv-loop μ-loop
 mul-put-bit c = omega (arith, c .before .kind-of .ensures .1)
 
--- src/relation.rt:50:23
 add-put-bit : tie.Need-add-put-bit Inv-loop μ-loop
 add-put-bit c = omega (arith, c .before .kind-of .ensures .1)
 
--- src/relation.rt:50:9
 put-bit-requires : tie.Need-put-bit-requires Inv-loop μ-loop
 put-bit-requires c κs = omega (arith, c .before .kind-of .ensures .1, c .before .before .if1 .taken, c .before .before .before .before .before .before .before .before .pre .0 .few-second-nodes, c .before .before .before .before .loop .inv .1, c .before .before .before .before .before .before .before .before .pre .1 .0)
 
--- src/relation.rt:51:9
 add-h : tie.Need-add-h Inv-loop μ-loop
 add-h c = omega (arith, c .before .before .before .before .before .if1 .taken, c .before .before .before .before .before .before .before .before .before .before .before .pre .0 .few-second-nodes)
 
--- src/relation.rt:48:5
 loop-less : tie.Need-loop-less Inv-loop μ-loop
 loop-less c = omega (arith, c .before .before .before .before .before .if1 .taken)
 
--- src/relation.rt:48:5
 loop-again : tie.Need-loop-again Inv-loop μ-loop
 loop-again c = let k = c .before .before .before .before .before .before .before .before .before .before .before in
     let l = c .before .before .before .before .before .before .before .loop in
@@ -53,11 +45,9 @@ loop-again c = let k = c .before .before .before .before .before .before .before
     let r = kinds-turn (c .before .before .before .before .before .before .before .before .before .before .before .args .s) (c .before .before .before .before .before .before .before .before .before .before .before .args .first .now) (c .before .before .before .before .before .before .before .before .before .before .before .args .second .now) (c .before .before .before .before .before .before .before .before .before .before .before .pre .0) (k .args .work .now) (l .work) (p .last .0) (l .h) (c .before .before .before .before .kind-of .result) (c .before .before .before .before .before .if1 .taken) (omega (arith, l .inv .1, k .pre .1 .0)) (c .before .before .before .before .kind-of .ensures) (p .ensures) (l .inv .2) (l .inv .3) in
     (omega (arith, c .before .before .before .before .before .if1 .taken), p .kept .0 ∙ l .inv .1, r .0, r .1)
 
--- src/relation.rt:43:1
 same-length : tie.Need-same-length Inv-loop μ-loop
 same-length c = c .before .before .loop .inv .1
 
--- src/relation.rt:43:1
 returns : tie.Need-returns Inv-loop μ-loop
 returns c = let l = c .before .before .loop in
     let e : l .h ≡ c .before .before .before .before .before .before .args .s .nodes2 = omega (arith, c .if1 .left, l .inv .0) in

@@ -22,47 +22,36 @@ Inv-loop first second s work₀ g₀ work g = (g ≤ s .nodes) × (length work �
 abbrev μ-loop : tie.MeasureT-loop
 μ-loop first second s work₀ g₀ work g = s .nodes - g
 
--- src/relation.rt:61:5
 loop-holds : tie.Need-loop-holds Inv-loop μ-loop
 loop-holds c = (omega arith, refl, λ u h a b. absurd (omega (arith, a)), λ q d. refl)
 
--- src/relation.rt:62:13
 kind-of-requires : tie.Need-kind-of-requires Inv-loop μ-loop
 kind-of-requires c κs = (c .before .before .before .before .before .before .pre .0 .first-file, omega (arith, c .if1 .taken, c .before .before .before .before .before .before .pre .0 .first-nodes-are))
 
--- src/relation.rt:63:47
 mul-row-at : tie.Need-mul-row-at Inv-loop μ-loop
 mul-row-at c = omega (arith, c .before .kind-of .ensures .1)
 
--- src/relation.rt:63:32
 add-row-at : tie.Need-add-row-at Inv-loop μ-loop
 add-row-at c = omega (arith, c .before .kind-of .ensures .1)
 
--- src/relation.rt:63:19
 row-at-requires : tie.Need-row-at-requires Inv-loop μ-loop
 row-at-requires c κs = omega (arith, c .before .kind-of .ensures .1, c .before .before .before .before .loop .inv .1, c .before .before .before .before .before .before .before .before .pre .1 .0)
 
--- src/relation.rt:64:23
 mul-put-row : tie.Need-mul-put-row Inv-loop μ-loop
 mul-put-row c = omega (arith, c .before .before .before .before .if1 .taken, c .before .before .before .before .before .before .before .before .before .before .pre .0 .few-first-nodes)
 
--- src/relation.rt:64:33
 slice-aggregate-put-row : tie.Need-slice-aggregate-put-row Inv-loop μ-loop
 slice-aggregate-put-row c = omega (arith, c .before .before .row-at .ensures .0)
 
--- src/relation.rt:64:9
 put-row-requires : tie.Need-put-row-requires Inv-loop μ-loop
 put-row-requires c κs = (omega (arith, c .before .before .before .before .before .if1 .taken, c .before .before .before .before .before .before .before .before .before .before .before .pre .0 .few-first-nodes, c .before .before .before .before .before .before .before .loop .inv .1, c .before .before .before .before .before .before .before .before .before .before .before .pre .1 .0), omega (arith, c .before .before .row-at .ensures .0))
 
--- src/relation.rt:65:9
 add-g : tie.Need-add-g Inv-loop μ-loop
 add-g c = omega (arith, c .before .before .before .before .before .before .before .before .if1 .taken, c .before .before .before .before .before .before .before .before .before .before .before .before .before .before .pre .0 .few-first-nodes)
 
--- src/relation.rt:61:5
 loop-less : tie.Need-loop-less Inv-loop μ-loop
 loop-less c = omega (arith, c .before .before .before .before .before .before .before .before .if1 .taken)
 
--- src/relation.rt:61:5
 loop-again : tie.Need-loop-again Inv-loop μ-loop
 loop-again c = let k = c .before .before .before .before .before .before .before .before .before .before .before .before .before .before in
     let l = c .before .before .before .before .before .before .before .before .before .before .loop in
@@ -70,11 +59,9 @@ loop-again c = let k = c .before .before .before .before .before .before .before
     let r = related-turn (c .before .before .before .before .before .before .before .before .before .before .before .before .before .before .args .s) (c .before .before .before .before .before .before .before .before .before .before .before .before .before .before .args .first .now) (c .before .before .before .before .before .before .before .before .before .before .before .before .before .before .args .second .now) (c .before .before .before .before .before .before .before .before .before .before .before .before .before .before .pre .0) (k .args .work .now) (l .work) (p .last .0) (c .before .before .before .before .before .row-at .result) (l .g) (c .before .before .before .before .before .before .before .kind-of .result) (c .before .before .before .before .before .before .before .before .if1 .taken) (k .pre .1 .1) (l .inv .3) (l .inv .2) (c .before .before .before .before .before .before .before .kind-of .ensures) (c .before .before .before .before .before .row-at .ensures .1) (p .ensures .0) (p .ensures .1) in
     (omega (arith, c .before .before .before .before .before .before .before .before .if1 .taken), p .kept .0 ∙ l .inv .1, r .0, r .1)
 
--- src/relation.rt:56:1
 same-length : tie.Need-same-length Inv-loop μ-loop
 same-length c = c .before .before .loop .inv .1
 
--- src/relation.rt:56:1
 returns : tie.Need-returns Inv-loop μ-loop
 returns c = let l = c .before .before .loop in
     let e : l .g ≡ c .before .before .before .before .before .before .args .s .nodes = omega (arith, c .if1 .left, l .inv .0) in

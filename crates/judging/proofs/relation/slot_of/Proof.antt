@@ -9,35 +9,27 @@ use Rattle.judging.proofs.relation.slot_of.Statement.{statement}
 use Rattle.judging.proofs.relation.slot_of.Tie as tie
 use Rattle.files.proofs.graph.edge_at.Reads as edge-at-reads
 
--- src/relation.rt:74:25
 edge-at-requires : tie.Need-edge-at-requires
 edge-at-requires c κs = (c .before .before .pre .0 .first-file, c .before .before .pre .0 .first-nodes-are, omega (arith, c .before .before .pre .1, c .before .before .pre .0 .first-edges-are, c .before .before .pre .0 .first-nodes-are))
 
--- src/relation.rt:74:20
 enum-known-x : tie.Need-enum-known-x
 enum-known-x c = search needs
 
--- src/relation.rt:75:9
 enum-told : tie.Need-enum-told
 enum-told c = search needs
 
--- src/relation.rt:75:9
 returns : tie.Need-returns
 returns c = search needs
 
--- src/relation.rt:77:5
 mul-result : tie.Need-mul-result
 mul-result c = omega (arith, (slot-is (c .before .before .before .before .before .before .before .args .s) (c .before .before .before .before .before .before .before .args .first .now) (c .before .before .before .before .before .before .before .args .second .now) (c .before .before .before .before .before .before .before .pre .0) (c .before .before .before .before .before .before .before .args .e) (c .before .before .x .given .0 .0) (c .before .before .before .before .before .before .before .pre .1) (held-edge (c .before .before .before .before .edge-at .result) _ (edge (decode-graph (c .before .before .before .before .before .before .before .args .first .now)) (c .before .before .before .before .before .before .before .args .e)) (c .before .before .x .given .1) (c .before .before .before .before .edge-at .ensures))) .1)
 
--- src/relation.rt:77:17
 cast-result : tie.Need-cast-result
 cast-result c = search needs
 
--- src/relation.rt:77:5
 add-result : tie.Need-add-result
 add-result c = omega (arith, (slot-is (c .before .before .before .before .before .before .before .before .args .s) (c .before .before .before .before .before .before .before .before .args .first .now) (c .before .before .before .before .before .before .before .before .args .second .now) (c .before .before .before .before .before .before .before .before .pre .0) (c .before .before .before .before .before .before .before .before .args .e) (c .before .before .before .x .given .0 .0) (c .before .before .before .before .before .before .before .before .pre .1) (held-edge (c .before .before .before .before .before .edge-at .result) _ (edge (decode-graph (c .before .before .before .before .before .before .before .before .args .first .now)) (c .before .before .before .before .before .before .before .before .args .e)) (c .before .before .before .x .given .1) (c .before .before .before .before .before .edge-at .ensures))) .1, (slot-is (c .before .before .before .before .before .before .before .before .args .s) (c .before .before .before .before .before .before .before .before .args .first .now) (c .before .before .before .before .before .before .before .before .args .second .now) (c .before .before .before .before .before .before .before .before .pre .0) (c .before .before .before .before .before .before .before .before .args .e) (c .before .before .before .x .given .0 .0) (c .before .before .before .before .before .before .before .before .pre .1) (held-edge (c .before .before .before .before .before .edge-at .result) _ (edge (decode-graph (c .before .before .before .before .before .before .before .before .args .first .now)) (c .before .before .before .before .before .before .before .before .args .e)) (c .before .before .before .x .given .1) (c .before .before .before .before .before .edge-at .ensures))) .2)
 
--- src/relation.rt:70:1
 returns-2 : tie.Need-returns-2
 returns-2 c = (slot-is (c .before .before .before .before .before .before .before .before .args .s) (c .before .before .before .before .before .before .before .before .args .first .now) (c .before .before .before .before .before .before .before .before .args .second .now) (c .before .before .before .before .before .before .before .before .pre .0) (c .before .before .before .before .before .before .before .before .args .e) (c .before .before .before .x .given .0 .0) (c .before .before .before .before .before .before .before .before .pre .1) (held-edge (c .before .before .before .before .before .edge-at .result) _ (edge (decode-graph (c .before .before .before .before .before .before .before .before .args .first .now)) (c .before .before .before .before .before .before .before .before .args .e)) (c .before .before .before .x .given .1) (c .before .before .before .before .before .edge-at .ensures))) .0
 

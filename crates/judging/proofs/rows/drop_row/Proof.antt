@@ -5,23 +5,18 @@ use Rattle.judging.proofs.rows.drop_row.Tie as tie
 use Rattle.judging.proofs.rows.put_row.Reads as put-row-reads
 use Rattle.judging.proofs.rows.row_without.Reads as row-without-reads
 
--- src/rows.rt:77:16
 row-without-requires : tie.Need-row-without-requires
 row-without-requires c κs = search needs
 
--- src/rows.rt:78:23
 slice-aggregate-put-row : tie.Need-slice-aggregate-put-row
 slice-aggregate-put-row c = search needs
 
--- src/rows.rt:78:5
 put-row-requires : tie.Need-put-row-requires
 put-row-requires c κs = search needs
 
--- src/rows.rt:73:1
 same-length : tie.Need-same-length
 same-length c = search needs
 
--- src/rows.rt:73:1
 returns : tie.Need-returns
 returns c = let p = c .before .before .put-row in (λ h b. p .ensures .0 h b ∙ c .before .before .before .before .before .row-without .ensures .1 h b, p .ensures .1)
 

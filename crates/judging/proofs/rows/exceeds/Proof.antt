@@ -18,50 +18,39 @@ Inv-loop work at less any₀ k₀ any k = (k ≤ 32) × (any ≡ joined (λ j. b
 abbrev μ-loop : tie.MeasureT-loop
 μ-loop work at less any₀ k₀ any k = 32 - k
 
--- src/rows.rt:116:5
 loop-holds : tie.Need-loop-holds Inv-loop μ-loop
 loop-holds c = (omega arith, refl, λ j h. absurd (omega arith))
 
--- src/rows.rt:117:34
 add-without : tie.Need-add-without Inv-loop μ-loop
 add-without c = search needs
 
--- src/rows.rt:117:29
 shared-slice-read-without : tie.Need-shared-slice-read-without Inv-loop μ-loop
 shared-slice-read-without c = search needs
 
--- src/rows.rt:117:48
 add-without-2 : tie.Need-add-without-2 Inv-loop μ-loop
 add-without-2 c = search needs
 
--- src/rows.rt:117:43
 shared-slice-read-without-2 : tie.Need-shared-slice-read-without-2 Inv-loop μ-loop
 shared-slice-read-without-2 c = search needs
 
--- src/rows.rt:117:21
 without-requires : tie.Need-without-requires Inv-loop μ-loop
 without-requires c κs = search needs
 
--- src/rows.rt:118:9
 add-k : tie.Need-add-k Inv-loop μ-loop
 add-k c = search needs
 
--- src/rows.rt:116:5
 loop-less : tie.Need-loop-less Inv-loop μ-loop
 loop-less c = search needs
 
--- src/rows.rt:116:5
 loop-again : tie.Need-loop-again Inv-loop μ-loop
 loop-again c = let a = c .before .before .before .before .before .before .args in
     let l = c .before .before .before .before .loop in
     let w = a .work .now in
     (omega (arith, c .before .before .before .loop-test .taken), ap (bitOr (l .any)) (c .without .ensures .0) ∙ joined-more (λ j. bitAnd (getD w (a .at + j) 0) (255 - getD w (a .less + j) 0)) (l .any) (l .k) (l .inv .1), below-more (λ j. getD w (a .less + j) 0 < 256) (l .k) (l .inv .2) (c .without .ensures .1))
 
--- src/rows.rt:120:5
 wide-requires : tie.Need-wide-requires Inv-loop μ-loop
 wide-requires c κs = search needs
 
--- src/rows.rt:110:1
 returns : tie.Need-returns Inv-loop μ-loop
 returns c = let a = c .before .before .before .before .args in
     let l = c .before .before .loop in

@@ -16,41 +16,32 @@ Inv-loop row work at any₀ k₀ any k = (k ≤ 32) × (any ≡ joined (λ j. bi
 abbrev μ-loop : tie.MeasureT-loop
 μ-loop row work at any₀ k₀ any k = 32 - k
 
--- src/rows.rt:88:5
 loop-holds : tie.Need-loop-holds Inv-loop μ-loop
 loop-holds c = (omega arith, refl)
 
--- src/rows.rt:89:22
 shared-slice-read-any : tie.Need-shared-slice-read-any Inv-loop μ-loop
 shared-slice-read-any c = search needs
 
--- src/rows.rt:89:36
 add-any : tie.Need-add-any Inv-loop μ-loop
 add-any c = search needs
 
--- src/rows.rt:89:31
 shared-slice-read-any-2 : tie.Need-shared-slice-read-any-2 Inv-loop μ-loop
 shared-slice-read-any-2 c = search needs
 
--- src/rows.rt:90:9
 add-k : tie.Need-add-k Inv-loop μ-loop
 add-k c = search needs
 
--- src/rows.rt:88:5
 loop-less : tie.Need-loop-less Inv-loop μ-loop
 loop-less c = search needs
 
--- src/rows.rt:88:5
 loop-again : tie.Need-loop-again Inv-loop μ-loop
 loop-again c = let a = c .before .before .before .before .before .before .args in
     let l = c .before .before .before .loop in
     (omega (arith, c .before .before .loop-test .taken), joined-more (λ j. bitAnd (getD (a .row .now) j 0) (getD (a .work .now) (a .at + j) 0)) (l .any) (l .k) (l .inv .1))
 
--- src/rows.rt:92:5
 wide-requires : tie.Need-wide-requires Inv-loop μ-loop
 wide-requires c κs = search needs
 
--- src/rows.rt:82:1
 returns : tie.Need-returns Inv-loop μ-loop
 returns c = let a = c .before .before .before .before .before .args in
     let l = c .before .before .loop in

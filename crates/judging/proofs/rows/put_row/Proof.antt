@@ -14,42 +14,33 @@ Inv-loop work₀ at row k₀ work k = (k ≤ 32) × (length work ≡ length work
 abbrev μ-loop : tie.MeasureT-loop
 μ-loop work₀ at row k₀ work k = 32 - k
 
--- src/rows.rt:54:5
 loop-holds : tie.Need-loop-holds Inv-loop μ-loop
 loop-holds c = (omega arith, refl, bytes-none _ (c .args .work .now) (c .args .at))
 
--- src/rows.rt:55:24
 shared-slice-read-work : tie.Need-shared-slice-read-work Inv-loop μ-loop
 shared-slice-read-work c = search needs
 
--- src/rows.rt:55:14
 add-work : tie.Need-add-work Inv-loop μ-loop
 add-work c = search needs
 
--- src/rows.rt:55:9
 slice-write-work : tie.Need-slice-write-work Inv-loop μ-loop
 slice-write-work c = omega (arith, c .before .loop-test .taken, c .before .before .loop .inv .1, c .before .before .before .pre .0)
 
--- src/rows.rt:56:9
 add-k : tie.Need-add-k Inv-loop μ-loop
 add-k c = search needs
 
--- src/rows.rt:54:5
 loop-less : tie.Need-loop-less Inv-loop μ-loop
 loop-less c = search needs
 
--- src/rows.rt:54:5
 loop-again : tie.Need-loop-again Inv-loop μ-loop
 loop-again c = let a = c .before .before .before .args in
     let l = c .before .before .loop in
     let x = getD (a .row .now) (l .k) 0 in
     (omega (arith, c .before .loop-test .taken), length-set (l .work) (a .at + l .k) x ∙ l .inv .1, bytes-on (λ j. getD (a .row .now) j 0) (a .work .now) (l .work) _ (a .at) (l .k) x (omega (arith, l .inv .1, c .before .loop-test .taken, c .before .before .before .pre .0)) refl refl (l .inv .2))
 
--- src/rows.rt:49:1
 same-length : tie.Need-same-length Inv-loop μ-loop
 same-length c = c .before .loop .inv .1
 
--- src/rows.rt:49:1
 returns : tie.Need-returns Inv-loop μ-loop
 returns c = let a = c .before .before .args in
     let l = c .before .loop in

@@ -15,38 +15,30 @@ Inv-loop work at row₀ k₀ row k = (k ≤ 32) × (length row ≡ 32) × ((j : 
 abbrev μ-loop : tie.MeasureT-loop
 μ-loop work at row₀ k₀ row k = 32 - k
 
--- src/rows.rt:27:5
 loop-holds : tie.Need-loop-holds Inv-loop μ-loop
 loop-holds c = (omega arith, refl, λ j h. absurd (omega (arith, h)))
 
--- src/rows.rt:28:23
 add-row : tie.Need-add-row Inv-loop μ-loop
 add-row c = search needs
 
--- src/rows.rt:28:18
 shared-slice-read-row : tie.Need-shared-slice-read-row Inv-loop μ-loop
 shared-slice-read-row c = search needs
 
--- src/rows.rt:28:9
 array-write-row : tie.Need-array-write-row Inv-loop μ-loop
 array-write-row c = search needs
 
--- src/rows.rt:29:9
 add-k : tie.Need-add-k Inv-loop μ-loop
 add-k c = search needs
 
--- src/rows.rt:27:5
 loop-less : tie.Need-loop-less Inv-loop μ-loop
 loop-less c = search needs
 
--- src/rows.rt:27:5
 loop-again : tie.Need-loop-again Inv-loop μ-loop
 loop-again c = let a = c .before .before .before .args in
     let l = c .before .before .loop in
     let x = getD (a .work .now) (a .at + l .k) 0 in
     (omega (arith, c .before .loop-test .taken), length-set (l .row) (l .k) x ∙ l .inv .1, (bytes-on (λ j. getD (a .work .now) (a .at + j) 0) (l .row) (l .row) _ 0 (l .k) x (omega (arith, l .inv .1, c .before .loop-test .taken)) refl (ap (λ (n : ℕ). set (l .row) n x) (sym (zero-add (l .k)))) (l .inv .2, λ q d. refl)) .0)
 
--- src/rows.rt:21:1
 returns : tie.Need-returns Inv-loop μ-loop
 returns c = (c .before .loop .inv .1, copied-bits (c .before .before .args .work .now) (c .before .before .args .at) (c .before .loop .row) (c .before .loop .row) (c .before .loop .k) (omega (arith, c .loop-test .left)) (c .before .loop .inv .2, λ q d. refl))
 

@@ -19,46 +19,36 @@ Inv-loop work at row rest₀ k₀ rest k = (k ≤ 32) × (length rest ≡ 32) ×
 abbrev μ-loop : tie.MeasureT-loop
 μ-loop work at row rest₀ k₀ rest k = 32 - k
 
--- src/rows.rt:41:5
 loop-holds : tie.Need-loop-holds Inv-loop μ-loop
 loop-holds c = (omega arith, refl, λ j h. absurd (omega (arith, h)), λ j h. absurd (omega (arith, h)))
 
--- src/rows.rt:42:32
 add-without : tie.Need-add-without Inv-loop μ-loop
 add-without c = search needs
 
--- src/rows.rt:42:27
 shared-slice-read-without : tie.Need-shared-slice-read-without Inv-loop μ-loop
 shared-slice-read-without c = search needs
 
--- src/rows.rt:42:41
 shared-slice-read-without-2 : tie.Need-shared-slice-read-without-2 Inv-loop μ-loop
 shared-slice-read-without-2 c = search needs
 
--- src/rows.rt:42:19
 without-requires : tie.Need-without-requires Inv-loop μ-loop
 without-requires c κs = search needs
 
--- src/rows.rt:42:9
 array-write-rest : tie.Need-array-write-rest Inv-loop μ-loop
 array-write-rest c = search needs
 
--- src/rows.rt:43:9
 add-k : tie.Need-add-k Inv-loop μ-loop
 add-k c = search needs
 
--- src/rows.rt:41:5
 loop-less : tie.Need-loop-less Inv-loop μ-loop
 loop-less c = search needs
 
--- src/rows.rt:41:5
 loop-again : tie.Need-loop-again Inv-loop μ-loop
 loop-again c = let a = c .before .before .before .before .before .before .before .args in
     let l = c .before .before .before .before .loop in
     let x = c .without .result in
     (omega (arith, c .before .before .before .loop-test .taken), length-set (l .rest) (l .k) x ∙ l .inv .1, (bytes-on (λ j. bitAnd (getD (a .work .now) (a .at + j) 0) (255 - getD (a .row .now) j 0)) (l .rest) (l .rest) _ 0 (l .k) x (omega (arith, l .inv .1, c .before .before .before .loop-test .taken)) (c .without .ensures .0) (ap (λ (n : ℕ). set (l .rest) n x) (sym (zero-add (l .k)))) (l .inv .2, λ q d. refl)) .0, below-more (λ (j : ℕ). getD (a .row .now) j 0 < 256) (l .k) (l .inv .3) (c .without .ensures .1))
 
--- src/rows.rt:35:1
 returns : tie.Need-returns Inv-loop μ-loop
 returns c = let a = c .before .before .before .before .args in let l = c .before .loop in (l .inv .1, rest-bits (a .row .now) (a .work .now) (a .at) (l .rest) (l .rest) (l .k) (omega (arith, c .loop-test .left)) (l .inv .2, λ q d. refl) (l .inv .3))
 

@@ -8,55 +8,42 @@ use borrow.Author.Needs.{needs}
 use Rattle.judging.proofs.sheet.put_fault.Statement.{statement}
 use Rattle.judging.proofs.sheet.put_fault.Tie as tie
 
--- src/sheet.rt:85:13
 get16-requires : tie.Need-get16-requires
 get16-requires c κs = omega (arith, c .before .before .before .before .pre .1 .1 .0, listed-few (c .before .before .before .before .args .s) (c .before .before .before .before .args .graph .now) (c .before .before .before .before .args .property .now) (c .before .before .before .before .pre .0) (c .before .before .before .before .args .n) (c .before .before .before .before .args .work .now) (c .before .before .before .before .pre .1 .0), c .before .before .before .before .pre .1 .0 .settled .room)
 
--- src/sheet.rt:85:13
 cast-p : tie.Need-cast-p
 cast-p c = search needs
 
--- src/sheet.rt:88:9
 first-cause-requires : tie.Need-first-cause-requires
 first-cause-requires c κs = (c .before .before .before .before .before .pre .0, ((place-in (c .before .before .before .before .before .args .s) (c .before .before .before .before .before .args .graph .now) (c .before .before .before .before .before .args .property .now) (c .before .before .before .before .before .pre .0) (c .before .before .before .before .before .args .n) (c .before .before .before .before .before .args .work .now) (c .before .before .before .before .before .pre .1 .0) (c .before .before .before .before .before .args .i) (c .get16 .result) (c .before .before .before .before .before .pre .1 .1 .0) (c .get16 .ensures)) .0, ((place-in (c .before .before .before .before .before .args .s) (c .before .before .before .before .before .args .graph .now) (c .before .before .before .before .before .args .property .now) (c .before .before .before .before .before .pre .0) (c .before .before .before .before .before .args .n) (c .before .before .before .before .before .args .work .now) (c .before .before .before .before .before .pre .1 .0) (c .before .before .before .before .before .args .i) (c .get16 .result) (c .before .before .before .before .before .pre .1 .1 .0) (c .get16 .ensures)) .1, c .before .before .before .before .before .pre .1 .0 .settled)))
 
--- src/sheet.rt:89:9
 second-cause-requires : tie.Need-second-cause-requires
 second-cause-requires c κs = (c .before .before .before .before .before .before .pre .0, ((place-in (c .before .before .before .before .before .before .args .s) (c .before .before .before .before .before .before .args .graph .now) (c .before .before .before .before .before .before .args .property .now) (c .before .before .before .before .before .before .pre .0) (c .before .before .before .before .before .before .args .n) (c .before .before .before .before .before .before .args .work .now) (c .before .before .before .before .before .before .pre .1 .0) (c .before .before .before .before .before .before .args .i) (c .before .get16 .result) (c .before .before .before .before .before .before .pre .1 .1 .0) (c .before .get16 .ensures)) .0, (place-in (c .before .before .before .before .before .before .args .s) (c .before .before .before .before .before .before .args .graph .now) (c .before .before .before .before .before .before .args .property .now) (c .before .before .before .before .before .before .pre .0) (c .before .before .before .before .before .before .args .n) (c .before .before .before .before .before .before .args .work .now) (c .before .before .before .before .before .before .pre .1 .0) (c .before .before .before .before .before .before .args .i) (c .before .get16 .result) (c .before .before .before .before .before .before .pre .1 .1 .0) (c .before .get16 .ensures)) .1))
 
--- src/sheet.rt:93:9
 cast-put-six : tie.Need-cast-put-six
 cast-put-six c = omega (arith, (place-in (c .before .before .before .before .before .before .before .before .args .s) (c .before .before .before .before .before .before .before .before .args .graph .now) (c .before .before .before .before .before .before .before .before .args .property .now) (c .before .before .before .before .before .before .before .before .pre .0) (c .before .before .before .before .before .before .before .before .args .n) (c .before .before .before .before .before .before .before .before .args .work .now) (c .before .before .before .before .before .before .before .before .pre .1 .0) (c .before .before .before .before .before .before .before .before .args .i) (c .before .before .before .get16 .result) (c .before .before .before .before .before .before .before .before .pre .1 .1 .0) (c .before .before .before .get16 .ensures)) .0, c .before .before .before .before .before .before .before .before .pre .0 .few-nodes)
 
--- src/sheet.rt:94:9
 cast-put-six-2 : tie.Need-cast-put-six-2
 cast-put-six-2 c = search needs
 
--- src/sheet.rt:95:9
 cast-put-six-3 : tie.Need-cast-put-six-3
 cast-put-six-3 c = omega (arith, (cause-bytes (c .before .before .before .before .before .before .before .before .before .args .s) (c .before .before .before .before .before .before .before .before .before .args .graph .now) (c .before .before .before .before .before .before .before .before .before .args .property .now) (c .before .before .before .before .before .before .before .before .before .pre .0) (c .before .before .before .before .get16 .result / 32) (c .before .before .before .before .get16 .result % 32) ((place-in (c .before .before .before .before .before .before .before .before .before .args .s) (c .before .before .before .before .before .before .before .before .before .args .graph .now) (c .before .before .before .before .before .before .before .before .before .args .property .now) (c .before .before .before .before .before .before .before .before .before .pre .0) (c .before .before .before .before .before .before .before .before .before .args .n) (c .before .before .before .before .before .before .before .before .before .args .work .now) (c .before .before .before .before .before .before .before .before .before .pre .1 .0) (c .before .before .before .before .before .before .before .before .before .args .i) (c .before .before .before .before .get16 .result) (c .before .before .before .before .before .before .before .before .before .pre .1 .1 .0) (c .before .before .before .before .get16 .ensures)) .0) ((place-in (c .before .before .before .before .before .before .before .before .before .args .s) (c .before .before .before .before .before .before .before .before .before .args .graph .now) (c .before .before .before .before .before .before .before .before .before .args .property .now) (c .before .before .before .before .before .before .before .before .before .pre .0) (c .before .before .before .before .before .before .before .before .before .args .n) (c .before .before .before .before .before .before .before .before .before .args .work .now) (c .before .before .before .before .before .before .before .before .before .pre .1 .0) (c .before .before .before .before .before .before .before .before .before .args .i) (c .before .before .before .before .get16 .result) (c .before .before .before .before .before .before .before .before .before .pre .1 .1 .0) (c .before .before .before .before .get16 .ensures)) .1) 0 (c .before .before .before .first-cause .result) (c .before .before .before .first-cause .ensures)) .0)
 
--- src/sheet.rt:96:9
 cast-put-six-4 : tie.Need-cast-put-six-4
 cast-put-six-4 c = omega (arith, (cause-bytes (c .before .before .before .before .before .before .before .before .before .before .args .s) (c .before .before .before .before .before .before .before .before .before .before .args .graph .now) (c .before .before .before .before .before .before .before .before .before .before .args .property .now) (c .before .before .before .before .before .before .before .before .before .before .pre .0) (c .before .before .before .before .before .get16 .result / 32) (c .before .before .before .before .before .get16 .result % 32) ((place-in (c .before .before .before .before .before .before .before .before .before .before .args .s) (c .before .before .before .before .before .before .before .before .before .before .args .graph .now) (c .before .before .before .before .before .before .before .before .before .before .args .property .now) (c .before .before .before .before .before .before .before .before .before .before .pre .0) (c .before .before .before .before .before .before .before .before .before .before .args .n) (c .before .before .before .before .before .before .before .before .before .before .args .work .now) (c .before .before .before .before .before .before .before .before .before .before .pre .1 .0) (c .before .before .before .before .before .before .before .before .before .before .args .i) (c .before .before .before .before .before .get16 .result) (c .before .before .before .before .before .before .before .before .before .before .pre .1 .1 .0) (c .before .before .before .before .before .get16 .ensures)) .0) ((place-in (c .before .before .before .before .before .before .before .before .before .before .args .s) (c .before .before .before .before .before .before .before .before .before .before .args .graph .now) (c .before .before .before .before .before .before .before .before .before .before .args .property .now) (c .before .before .before .before .before .before .before .before .before .before .pre .0) (c .before .before .before .before .before .before .before .before .before .before .args .n) (c .before .before .before .before .before .before .before .before .before .before .args .work .now) (c .before .before .before .before .before .before .before .before .before .before .pre .1 .0) (c .before .before .before .before .before .before .before .before .before .before .args .i) (c .before .before .before .before .before .get16 .result) (c .before .before .before .before .before .before .before .before .before .before .pre .1 .1 .0) (c .before .before .before .before .before .get16 .ensures)) .1) 0 (c .before .before .before .before .first-cause .result) (c .before .before .before .before .first-cause .ensures)) .1)
 
--- src/sheet.rt:97:9
 cast-put-six-5 : tie.Need-cast-put-six-5
 cast-put-six-5 c = omega (arith, (cause-bytes (c .before .before .before .before .before .before .before .before .before .before .before .args .s) (c .before .before .before .before .before .before .before .before .before .before .before .args .graph .now) (c .before .before .before .before .before .before .before .before .before .before .before .args .property .now) (c .before .before .before .before .before .before .before .before .before .before .before .pre .0) (c .before .before .before .before .before .before .get16 .result / 32) (c .before .before .before .before .before .before .get16 .result % 32) ((place-in (c .before .before .before .before .before .before .before .before .before .before .before .args .s) (c .before .before .before .before .before .before .before .before .before .before .before .args .graph .now) (c .before .before .before .before .before .before .before .before .before .before .before .args .property .now) (c .before .before .before .before .before .before .before .before .before .before .before .pre .0) (c .before .before .before .before .before .before .before .before .before .before .before .args .n) (c .before .before .before .before .before .before .before .before .before .before .before .args .work .now) (c .before .before .before .before .before .before .before .before .before .before .before .pre .1 .0) (c .before .before .before .before .before .before .before .before .before .before .before .args .i) (c .before .before .before .before .before .before .get16 .result) (c .before .before .before .before .before .before .before .before .before .before .before .pre .1 .1 .0) (c .before .before .before .before .before .before .get16 .ensures)) .0) ((place-in (c .before .before .before .before .before .before .before .before .before .before .before .args .s) (c .before .before .before .before .before .before .before .before .before .before .before .args .graph .now) (c .before .before .before .before .before .before .before .before .before .before .before .args .property .now) (c .before .before .before .before .before .before .before .before .before .before .before .pre .0) (c .before .before .before .before .before .before .before .before .before .before .before .args .n) (c .before .before .before .before .before .before .before .before .before .before .before .args .work .now) (c .before .before .before .before .before .before .before .before .before .before .before .pre .1 .0) (c .before .before .before .before .before .before .before .before .before .before .before .args .i) (c .before .before .before .before .before .before .get16 .result) (c .before .before .before .before .before .before .before .before .before .before .before .pre .1 .1 .0) (c .before .before .before .before .before .before .get16 .ensures)) .1) 1 (c .before .before .before .before .second-cause .result) (c .before .before .before .before .second-cause .ensures)) .0)
 
--- src/sheet.rt:98:9
 cast-put-six-6 : tie.Need-cast-put-six-6
 cast-put-six-6 c = omega (arith, (cause-bytes (c .before .before .before .before .before .before .before .before .before .before .before .before .args .s) (c .before .before .before .before .before .before .before .before .before .before .before .before .args .graph .now) (c .before .before .before .before .before .before .before .before .before .before .before .before .args .property .now) (c .before .before .before .before .before .before .before .before .before .before .before .before .pre .0) (c .before .before .before .before .before .before .before .get16 .result / 32) (c .before .before .before .before .before .before .before .get16 .result % 32) ((place-in (c .before .before .before .before .before .before .before .before .before .before .before .before .args .s) (c .before .before .before .before .before .before .before .before .before .before .before .before .args .graph .now) (c .before .before .before .before .before .before .before .before .before .before .before .before .args .property .now) (c .before .before .before .before .before .before .before .before .before .before .before .before .pre .0) (c .before .before .before .before .before .before .before .before .before .before .before .before .args .n) (c .before .before .before .before .before .before .before .before .before .before .before .before .args .work .now) (c .before .before .before .before .before .before .before .before .before .before .before .before .pre .1 .0) (c .before .before .before .before .before .before .before .before .before .before .before .before .args .i) (c .before .before .before .before .before .before .before .get16 .result) (c .before .before .before .before .before .before .before .before .before .before .before .before .pre .1 .1 .0) (c .before .before .before .before .before .before .before .get16 .ensures)) .0) ((place-in (c .before .before .before .before .before .before .before .before .before .before .before .before .args .s) (c .before .before .before .before .before .before .before .before .before .before .before .before .args .graph .now) (c .before .before .before .before .before .before .before .before .before .before .before .before .args .property .now) (c .before .before .before .before .before .before .before .before .before .before .before .before .pre .0) (c .before .before .before .before .before .before .before .before .before .before .before .before .args .n) (c .before .before .before .before .before .before .before .before .before .before .before .before .args .work .now) (c .before .before .before .before .before .before .before .before .before .before .before .before .pre .1 .0) (c .before .before .before .before .before .before .before .before .before .before .before .before .args .i) (c .before .before .before .before .before .before .before .get16 .result) (c .before .before .before .before .before .before .before .before .before .before .before .before .pre .1 .1 .0) (c .before .before .before .before .before .before .before .get16 .ensures)) .1) 1 (c .before .before .before .before .before .second-cause .result) (c .before .before .before .before .before .second-cause .ensures)) .1)
 
--- src/sheet.rt:90:5
 put-six-requires : tie.Need-put-six-requires
 put-six-requires c κs = search needs
 
--- src/sheet.rt:81:1
 same-length : tie.Need-same-length
 same-length c = search needs
 
--- src/sheet.rt:81:1
 returns : tie.Need-returns
 returns c = let a = c .before .before .before .before .before .before .before .before .before .before .before .before .before .before .before .args in c .before .before .put-six .ensures ∙ ap (put-at (a .out .now) (6 * a .i)) (fault-of (decode-graph (a .graph .now)) (decode-property (a .property .now)) (a .work .now) (a .i) (c .before .before .before .before .before .before .before .before .before .before .get16 .result) (c .before .before .before .before .before .before .before .before .before .first-cause .result) (c .before .before .before .before .before .before .before .before .second-cause .result) (c .before .before .before .before .before .before .before .before .before .before .get16 .ensures) (c .before .before .before .before .before .before .before .before .before .first-cause .ensures) (c .before .before .before .before .before .before .before .before .second-cause .ensures))
 

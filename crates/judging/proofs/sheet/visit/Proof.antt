@@ -5,51 +5,39 @@ use borrow.Author.Needs.{needs}
 use Rattle.judging.proofs.sheet.visit.Statement.{statement}
 use Rattle.judging.proofs.sheet.visit.Tie as tie
 
--- src/sheet.rt:40:9
 returns : tie.Need-returns
 returns c = (c .before .before .before .before .before .pre .1 .0, visit-none (c .before .before .before .before .before .args .work .now) (c .before .before .before .before .before .args .tail) (c .before .before .before .before .before .args .c .node) (c .before .before .before .before .before .args .c .row) (c .if1 .taken))
 
--- src/sheet.rt:42:13
 mul-p : tie.Need-mul-p
 mul-p c = omega (arith, (cause-fits (c .before .before .before .before .before .before .args .s) (c .before .before .before .before .before .before .args .graph .now) (c .before .before .before .before .before .before .args .property .now) (c .before .before .before .before .before .before .pre .0) (c .before .before .before .before .before .before .args .c .node) (c .before .before .before .before .before .before .args .c .row) (c .before .before .before .before .before .before .pre .1 .1) (c .before .if1 .left)) .0, (cause-fits (c .before .before .before .before .before .before .args .s) (c .before .before .before .before .before .before .args .graph .now) (c .before .before .before .before .before .before .args .property .now) (c .before .before .before .before .before .before .pre .0) (c .before .before .before .before .before .before .args .c .node) (c .before .before .before .before .before .before .args .c .row) (c .before .before .before .before .before .before .pre .1 .1) (c .before .if1 .left)) .1)
 
--- src/sheet.rt:42:13
 add-p : tie.Need-add-p
 add-p c = omega (arith, (cause-fits (c .before .before .before .before .before .before .before .args .s) (c .before .before .before .before .before .before .before .args .graph .now) (c .before .before .before .before .before .before .before .args .property .now) (c .before .before .before .before .before .before .before .pre .0) (c .before .before .before .before .before .before .before .args .c .node) (c .before .before .before .before .before .before .before .args .c .row) (c .before .before .before .before .before .before .before .pre .1 .1) (c .before .before .if1 .left)) .0, (cause-fits (c .before .before .before .before .before .before .before .args .s) (c .before .before .before .before .before .before .before .args .graph .now) (c .before .before .before .before .before .before .before .args .property .now) (c .before .before .before .before .before .before .before .pre .0) (c .before .before .before .before .before .before .before .args .c .node) (c .before .before .before .before .before .before .before .args .c .row) (c .before .before .before .before .before .before .before .pre .1 .1) (c .before .before .if1 .left)) .1)
 
--- src/sheet.rt:43:8
 has-bit-requires : tie.Need-has-bit-requires
 has-bit-requires c κs = omega (arith, (cause-fits (c .before .before .before .before .before .before .before .before .args .s) (c .before .before .before .before .before .before .before .before .args .graph .now) (c .before .before .before .before .before .before .before .before .args .property .now) (c .before .before .before .before .before .before .before .before .pre .0) (c .before .before .before .before .before .before .before .before .args .c .node) (c .before .before .before .before .before .before .before .before .args .c .row) (c .before .before .before .before .before .before .before .before .pre .1 .1) (c .before .before .before .if1 .left)) .0, (cause-fits (c .before .before .before .before .before .before .before .before .args .s) (c .before .before .before .before .before .before .before .before .args .graph .now) (c .before .before .before .before .before .before .before .before .args .property .now) (c .before .before .before .before .before .before .before .before .pre .0) (c .before .before .before .before .before .before .before .before .args .c .node) (c .before .before .before .before .before .before .before .before .args .c .row) (c .before .before .before .before .before .before .before .before .pre .1 .1) (c .before .before .before .if1 .left)) .1, c .before .before .before .before .before .before .before .before .pre .1 .0 .settled .room)
 
--- src/sheet.rt:44:9
 same-length : tie.Need-same-length
 same-length c = search needs
 
--- src/sheet.rt:44:9
 returns-2 : tie.Need-returns-2
 returns-2 c = (c .before .before .before .before .before .before .before .before .before .before .pre .1 .0, visit-seen (c .before .before .before .before .before .before .before .before .before .before .args .s) (c .before .before .before .before .before .before .before .before .before .before .args .graph .now) (c .before .before .before .before .before .before .before .before .before .before .args .property .now) (c .before .before .before .before .before .before .before .before .before .before .pre .0) (c .before .before .before .before .before .before .before .before .before .before .args .c .node) (c .before .before .before .before .before .before .before .before .before .before .args .c .row) (c .before .before .before .before .before .before .before .before .before .before .pre .1 .1) (c .before .before .before .before .before .if1 .left) (c .before .before .before .before .before .before .before .before .before .before .args .work .now) (c .before .before .before .before .before .before .before .before .before .before .args .tail) (c .before .before .before .before .before .before .before .before .before .before .pre .1 .0) (sym (c .before .has-bit .ensures) ∙ c .if2 .taken))
 
--- src/sheet.rt:46:5
 put-bit-requires : tie.Need-put-bit-requires
 put-bit-requires c κs = omega (arith, (cause-fits (c .before .before .before .before .before .before .before .before .before .before .before .args .s) (c .before .before .before .before .before .before .before .before .before .before .before .args .graph .now) (c .before .before .before .before .before .before .before .before .before .before .before .args .property .now) (c .before .before .before .before .before .before .before .before .before .before .before .pre .0) (c .before .before .before .before .before .before .before .before .before .before .before .args .c .node) (c .before .before .before .before .before .before .before .before .before .before .before .args .c .row) (c .before .before .before .before .before .before .before .before .before .before .before .pre .1 .1) (c .before .before .before .before .before .before .if1 .left)) .0, (cause-fits (c .before .before .before .before .before .before .before .before .before .before .before .args .s) (c .before .before .before .before .before .before .before .before .before .before .before .args .graph .now) (c .before .before .before .before .before .before .before .before .before .before .before .args .property .now) (c .before .before .before .before .before .before .before .before .before .before .before .pre .0) (c .before .before .before .before .before .before .before .before .before .before .before .args .c .node) (c .before .before .before .before .before .before .before .before .before .before .before .args .c .row) (c .before .before .before .before .before .before .before .before .before .before .before .pre .1 .1) (c .before .before .before .before .before .before .if1 .left)) .1, c .before .before .before .before .before .before .before .before .before .before .before .pre .1 .0 .settled .room)
 
--- src/sheet.rt:47:37
 cast-put16 : tie.Need-cast-put16
 cast-put16 c = omega (arith, (cause-fits (c .before .before .before .before .before .before .before .before .before .before .before .before .before .before .before .args .s) (c .before .before .before .before .before .before .before .before .before .before .before .before .before .before .before .args .graph .now) (c .before .before .before .before .before .before .before .before .before .before .before .before .before .before .before .args .property .now) (c .before .before .before .before .before .before .before .before .before .before .before .before .before .before .before .pre .0) (c .before .before .before .before .before .before .before .before .before .before .before .before .before .before .before .args .c .node) (c .before .before .before .before .before .before .before .before .before .before .before .before .before .before .before .args .c .row) (c .before .before .before .before .before .before .before .before .before .before .before .before .before .before .before .pre .1 .1) (c .before .before .before .before .before .before .before .before .before .before .if1 .left)) .0, (cause-fits (c .before .before .before .before .before .before .before .before .before .before .before .before .before .before .before .args .s) (c .before .before .before .before .before .before .before .before .before .before .before .before .before .before .before .args .graph .now) (c .before .before .before .before .before .before .before .before .before .before .before .before .before .before .before .args .property .now) (c .before .before .before .before .before .before .before .before .before .before .before .before .before .before .before .pre .0) (c .before .before .before .before .before .before .before .before .before .before .before .before .before .before .before .args .c .node) (c .before .before .before .before .before .before .before .before .before .before .before .before .before .before .before .args .c .row) (c .before .before .before .before .before .before .before .before .before .before .before .before .before .before .before .pre .1 .1) (c .before .before .before .before .before .before .before .before .before .before .if1 .left)) .1)
 
--- src/sheet.rt:47:5
 put16-requires : tie.Need-put16-requires
 put16-requires c κs = omega (arith, visit-room (c .before .before .before .before .before .before .before .before .before .before .before .before .before .before .before .args .s) (c .before .before .before .before .before .before .before .before .before .before .before .before .before .before .before .args .graph .now) (c .before .before .before .before .before .before .before .before .before .before .before .before .before .before .before .args .property .now) (c .before .before .before .before .before .before .before .before .before .before .before .before .before .before .before .pre .0) (c .before .before .before .before .before .before .before .before .before .before .before .before .before .before .before .args .c .node) (c .before .before .before .before .before .before .before .before .before .before .before .before .before .before .before .args .c .row) (c .before .before .before .before .before .before .before .before .before .before .before .before .before .before .before .pre .1 .1) (c .before .before .before .before .before .before .before .before .before .before .if1 .left) (c .before .before .before .before .before .before .before .before .before .before .before .before .before .before .before .args .work .now) (c .before .before .before .before .before .before .before .before .before .before .before .before .before .before .before .args .tail) (c .before .before .before .before .before .before .before .before .before .before .before .before .before .before .before .pre .1 .0) (sym (c .before .before .before .before .before .before .has-bit .ensures) ∙ c .before .before .before .before .before .if2 .left), c .before .before .before .before .before .before .before .before .before .before .before .before .before .before .before .pre .1 .0 .settled .room, c .before .before .before .put-bit .kept .0)
 
--- src/sheet.rt:48:5
 add-result : tie.Need-add-result
 add-result c = omega (arith, visit-room (c .before .before .before .before .before .before .before .before .before .before .before .before .before .before .before .before .before .before .args .s) (c .before .before .before .before .before .before .before .before .before .before .before .before .before .before .before .before .before .before .args .graph .now) (c .before .before .before .before .before .before .before .before .before .before .before .before .before .before .before .before .before .before .args .property .now) (c .before .before .before .before .before .before .before .before .before .before .before .before .before .before .before .before .before .before .pre .0) (c .before .before .before .before .before .before .before .before .before .before .before .before .before .before .before .before .before .before .args .c .node) (c .before .before .before .before .before .before .before .before .before .before .before .before .before .before .before .before .before .before .args .c .row) (c .before .before .before .before .before .before .before .before .before .before .before .before .before .before .before .before .before .before .pre .1 .1) (c .before .before .before .before .before .before .before .before .before .before .before .before .before .if1 .left) (c .before .before .before .before .before .before .before .before .before .before .before .before .before .before .before .before .before .before .args .work .now) (c .before .before .before .before .before .before .before .before .before .before .before .before .before .before .before .before .before .before .args .tail) (c .before .before .before .before .before .before .before .before .before .before .before .before .before .before .before .before .before .before .pre .1 .0) (sym (c .before .before .before .before .before .before .before .before .before .has-bit .ensures) ∙ c .before .before .before .before .before .before .before .before .if2 .left))
 
--- src/sheet.rt:28:1
 same-length-2 : tie.Need-same-length-2
 same-length-2 c = search needs
 
--- src/sheet.rt:28:1
 returns-3 : tie.Need-returns-3
 returns-3 c = visit-added (c .before .before .before .before .before .before .before .before .before .before .before .before .before .before .before .before .before .before .args .s) (c .before .before .before .before .before .before .before .before .before .before .before .before .before .before .before .before .before .before .args .graph .now) (c .before .before .before .before .before .before .before .before .before .before .before .before .before .before .before .before .before .before .args .property .now) (c .before .before .before .before .before .before .before .before .before .before .before .before .before .before .before .before .before .before .pre .0) (c .before .before .before .before .before .before .before .before .before .before .before .before .before .before .before .before .before .before .args .c .node) (c .before .before .before .before .before .before .before .before .before .before .before .before .before .before .before .before .before .before .args .c .row) (c .before .before .before .before .before .before .before .before .before .before .before .before .before .before .before .before .before .before .pre .1 .1) (c .before .before .before .before .before .before .before .before .before .before .before .before .before .if1 .left) (c .before .before .before .before .before .before .before .before .before .before .before .before .before .before .before .before .before .before .args .work .now) (c .before .before .before .before .before .before .before .before .before .before .before .before .before .before .before .before .before .before .args .tail) (c .before .before .before .before .before .before .before .before .before .before .before .before .before .before .before .before .before .before .pre .1 .0) (sym (c .before .before .before .before .before .before .before .before .before .has-bit .ensures) ∙ c .before .before .before .before .before .before .before .before .if2 .left) (c .before .before .before .before .before .before .put-bit .last .0) (c .before .before .put16 .last .0) (c .before .before .before .before .before .before .put-bit .ensures) (c .before .before .put16 .ensures)
 

@@ -5,27 +5,21 @@ use borrow.Author.Needs.{needs}
 use Rattle.judging.proofs.sheet.visit_causes.Statement.{statement}
 use Rattle.judging.proofs.sheet.visit_causes.Tie as tie
 
--- src/sheet.rt:57:9
 first-cause-requires : tie.Need-first-cause-requires
 first-cause-requires c κs = search needs
 
--- src/sheet.rt:58:9
 second-cause-requires : tie.Need-second-cause-requires
 second-cause-requires c κs = search needs
 
--- src/sheet.rt:59:9
 visit-requires : tie.Need-visit-requires
 visit-requires c κs = (c .before .before .before .before .before .before .before .pre .0, (c .before .before .before .before .before .before .before .pre .1 .1 .1, held-cause (c .before .before .before .before .before .before .before .args .s) (c .before .before .before .before .before .before .before .args .graph .now) (c .before .before .before .before .before .before .before .args .property .now) (c .before .before .before .before .before .before .before .pre .0) (c .before .before .before .before .before .before .before .args .g) (c .before .before .before .before .before .before .before .args .r) (c .before .before .before .before .before .before .before .pre .1 .0) (c .before .before .before .before .before .before .before .pre .1 .1 .0) 0 (c .before .before .first-cause .result) (omega arith) (c .before .before .first-cause .ensures)))
 
--- src/sheet.rt:60:5
 visit-requires-2 : tie.Need-visit-requires-2
 visit-requires-2 c κs = (c .before .before .before .before .before .before .before .before .before .before .before .pre .0, (c .before .before .before .visit .ensures .0, held-cause (c .before .before .before .before .before .before .before .before .before .before .before .args .s) (c .before .before .before .before .before .before .before .before .before .before .before .args .graph .now) (c .before .before .before .before .before .before .before .before .before .before .before .args .property .now) (c .before .before .before .before .before .before .before .before .before .before .before .pre .0) (c .before .before .before .before .before .before .before .before .before .before .before .args .g) (c .before .before .before .before .before .before .before .before .before .before .before .args .r) (c .before .before .before .before .before .before .before .before .before .before .before .pre .1 .0) (c .before .before .before .before .before .before .before .before .before .before .before .pre .1 .1 .0) 1 (c .before .before .before .before .before .second-cause .result) (omega arith) (c .before .before .before .before .before .second-cause .ensures)))
 
--- src/sheet.rt:45:1
 same-length : tie.Need-same-length
 same-length c = search needs
 
--- src/sheet.rt:45:1
 returns : tie.Need-returns
 returns c = (c .before .before .visit2 .ensures .0, both-visits (c .before .before .before .before .before .before .before .before .before .before .before .before .before .before .args .s) (c .before .before .before .before .before .before .before .before .before .before .before .before .before .before .args .graph .now) (c .before .before .before .before .before .before .before .before .before .before .before .before .before .before .args .property .now) (c .before .before .before .before .before .before .before .before .before .before .before .before .before .before .pre .0) (c .before .before .before .before .before .before .before .before .before .before .before .before .before .before .args .g) (c .before .before .before .before .before .before .before .before .before .before .before .before .before .before .args .r) (c .before .before .before .before .before .before .before .before .before .before .before .before .before .before .pre .1 .0) (c .before .before .before .before .before .before .before .before .before .before .before .before .before .before .pre .1 .1 .0) (listed (c .before .before .before .before .before .before .before .before .before .before .before .before .before .before .args .work .now) (c .before .before .before .before .before .before .before .before .before .before .before .before .before .before .args .tail)) (listed (c .before .before .before .before .before .before .visit .last .1 .1 .1 .0) (c .before .before .before .before .before .before .visit .result)) (listed (c .before .before .visit2 .last .1 .1 .1 .0) (c .before .before .visit2 .result)) (c .before .before .before .before .before .before .before .before .before .first-cause .result) (c .before .before .before .before .before .before .before .before .second-cause .result) (c .before .before .before .before .before .before .before .before .before .first-cause .ensures) (c .before .before .before .before .before .before .before .before .second-cause .ensures) (c .before .before .before .before .before .before .visit .ensures .1) (c .before .before .visit2 .ensures .1))
 

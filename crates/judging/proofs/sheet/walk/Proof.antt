@@ -17,43 +17,33 @@ Inv-loop graph property s work₀ g tail₀ head₀ work tail head = (Listed (de
 abbrev μ-loop : tie.MeasureT-loop
 μ-loop graph property s work₀ g tail₀ head₀ work tail head = 8192 - head
 
--- src/sheet.rt:68:9
 visit-requires : tie.Need-visit-requires Inv-loop μ-loop
 visit-requires c κs = let k = c .before .before .before .before in (k .pre .0, (nothing-listed (c .before .before .before .before .args .s) (c .before .before .before .before .args .graph .now) (c .before .before .before .before .args .property .now) (c .before .before .before .before .pre .0) (k .args .work .now) (k .pre .1 .0) (k .pre .1 .1 .0), inr (start-in (c .before .before .before .before .args .s) (c .before .before .before .before .args .graph .now) (c .before .before .before .before .args .property .now) (c .before .before .before .before .pre .0) (k .args .g) (k .pre .1 .1 .1 .0) (k .pre .1 .1 .1 .1))))
 
--- src/sheet.rt:70:5
 loop-holds : tie.Need-loop-holds Inv-loop μ-loop
 loop-holds c = let k = c .before .before .before .before .before .before .before in (c .before .before .visit .ensures .0, omega arith, first-turn (c .before .before .before .before .before .before .before .args .s) (c .before .before .before .before .before .before .before .args .graph .now) (c .before .before .before .before .before .before .before .args .property .now) (c .before .before .before .before .before .before .before .pre .0) (k .args .work .now) (c .before .before .visit .last .1 .1 .1 .0) (k .args .g) (c .before .before .visit .result) (k .pre .1 .1 .1 .0) (k .pre .1 .1 .1 .1) (c .before .before .visit .ensures .1), refl)
 
--- src/sheet.rt:71:17
 get16-requires : tie.Need-get16-requires Inv-loop μ-loop
 get16-requires c κs = let l = c .before .before .loop in omega (arith, c .before .loop-test .taken, listed-few (c .before .before .before .before .before .before .before .before .before .before .args .s) (c .before .before .before .before .before .before .before .before .before .before .args .graph .now) (c .before .before .before .before .before .before .before .before .before .before .args .property .now) (c .before .before .before .before .before .before .before .before .before .before .pre .0) (l .tail) (l .work) (l .inv .0), l .inv .0 .settled .room)
 
--- src/sheet.rt:71:17
 cast-p : tie.Need-cast-p Inv-loop μ-loop
 cast-p c = search needs
 
--- src/sheet.rt:74:9
 visit-causes-requires : tie.Need-visit-causes-requires Inv-loop μ-loop
 visit-causes-requires c κs = let l = c .before .before .before .before .loop in let x = place-in (c .before .before .before .before .before .before .before .before .before .before .before .before .args .s) (c .before .before .before .before .before .before .before .before .before .before .before .before .args .graph .now) (c .before .before .before .before .before .before .before .before .before .before .before .before .args .property .now) (c .before .before .before .before .before .before .before .before .before .before .before .before .pre .0) (l .tail) (l .work) (l .inv .0) (l .head) (c .before .get16 .result) (c .before .before .before .loop-test .taken) (c .before .get16 .ensures) in (c .before .before .before .before .before .before .before .before .before .before .before .before .pre .0, (x .0, (x .1, l .inv .0)))
 
--- src/sheet.rt:75:9
 add-head : tie.Need-add-head Inv-loop μ-loop
 add-head c = let l = c .before .before .before .before .before .before .before .loop in omega (arith, c .before .before .before .before .before .before .loop-test .taken, listed-few (c .before .before .before .before .before .before .before .before .before .before .before .before .before .before .before .args .s) (c .before .before .before .before .before .before .before .before .before .before .before .before .before .before .before .args .graph .now) (c .before .before .before .before .before .before .before .before .before .before .before .before .before .before .before .args .property .now) (c .before .before .before .before .before .before .before .before .before .before .before .before .before .before .before .pre .0) (l .tail) (l .work) (l .inv .0))
 
--- src/sheet.rt:70:5
 loop-less : tie.Need-loop-less Inv-loop μ-loop
 loop-less c = let l = c .before .before .before .before .before .before .before .loop in omega (arith, c .before .before .before .before .before .before .loop-test .taken, listed-few (c .before .before .before .before .before .before .before .before .before .before .before .before .before .before .before .args .s) (c .before .before .before .before .before .before .before .before .before .before .before .before .before .before .before .args .graph .now) (c .before .before .before .before .before .before .before .before .before .before .before .before .before .before .before .args .property .now) (c .before .before .before .before .before .before .before .before .before .before .before .before .before .before .before .pre .0) (l .tail) (l .work) (l .inv .0))
 
--- src/sheet.rt:70:5
 loop-again : tie.Need-loop-again Inv-loop μ-loop
 loop-again c = let l = c .before .before .before .before .before .before .before .loop in let x = c .before .before .visit-causes in let t = next-turn (c .before .before .before .before .before .before .before .before .before .before .before .before .before .before .before .args .s) (c .before .before .before .before .before .before .before .before .before .before .before .before .before .before .before .args .graph .now) (c .before .before .before .before .before .before .before .before .before .before .before .before .before .before .before .args .property .now) (c .before .before .before .before .before .before .before .before .before .before .before .before .before .before .before .pre .0) (l .head) (l .tail) (x .result) (l .work) (x .last .1 .1 .1 .0) (c .before .before .before .before .get16 .result) (l .inv .0) (c .before .before .before .before .before .before .loop-test .taken) (c .before .before .before .before .get16 .ensures) (l .inv .2) (x .ensures .1) in (x .ensures .0, t .0, t .1, x .kept .1 .1 .1 .0 ∙ l .inv .3)
 
--- src/sheet.rt:64:1
 same-length : tie.Need-same-length Inv-loop μ-loop
 same-length c = c .before .loop .inv .3 ∙ c .before .before .before .before .visit .kept .1 .1 .1 .0
 
--- src/sheet.rt:64:1
 returns : tie.Need-returns Inv-loop μ-loop
 returns c = let l = c .before .loop in let a = c .before .before .before .before .before .before .before .before .before .args in let e : l .head ≡ l .tail = omega (arith, c .loop-test .left, l .inv .1) in (l .inv .0, walk-all (decode-graph (a .graph .now)) (decode-property (a .property .now)) (l .head) (l .tail) (l .work) e (l .inv .2))
 

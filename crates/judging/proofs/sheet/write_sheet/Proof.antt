@@ -19,23 +19,18 @@ Inv-loop graph property s work out₀ n i₀ out i = (i ≤ n) × (out ≡ put-a
 abbrev μ-loop : tie.MeasureT-loop
 μ-loop graph property s work out₀ n i₀ out i = n - i
 
--- src/sheet.rt:123:5
 loop-holds : tie.Need-loop-holds Inv-loop μ-loop
 loop-holds c = let a = c .before .before .before .before .args in (omega arith, bytes-none (decode-graph (a .graph .now)) (decode-property (a .property .now)) (a .work .now) (a .out .now), refl)
 
--- src/sheet.rt:124:9
 put-fault-requires : tie.Need-put-fault-requires Inv-loop μ-loop
 put-fault-requires c κs = (c .before .before .before .before .before .before .before .pre .0, (c .before .before .before .before .before .before .before .pre .1 .0, (c .before .loop-test .taken, omega (arith, c .before .loop-test .taken, c .before .before .before .before .before .before .before .pre .1 .1 .1, c .before .before .loop .inv .2))))
 
--- src/sheet.rt:125:9
 add-i : tie.Need-add-i Inv-loop μ-loop
 add-i c = omega (arith, c .before .before .before .before .loop-test .taken)
 
--- src/sheet.rt:123:5
 loop-less : tie.Need-loop-less Inv-loop μ-loop
 loop-less c = omega (arith, c .before .before .before .before .loop-test .taken)
 
--- src/sheet.rt:123:5
 loop-again : tie.Need-loop-again Inv-loop μ-loop
 loop-again c = let a = c .before .before .before .before .before .before .before .before .before .before .args in
     let l = c .before .before .before .before .before .loop in
@@ -45,11 +40,9 @@ loop-again c = let a = c .before .before .before .before .before .before .before
       x .kept .1 .1 .1 .1 .0 ∙ l .inv .2,
     )
 
--- src/sheet.rt:111:1
 same-length : tie.Need-same-length Inv-loop μ-loop
 same-length c = c .before .loop .inv .2
 
--- src/sheet.rt:111:1
 returns : tie.Need-returns Inv-loop μ-loop
 returns c = let a = c .before .before .before .before .before .before .args in
     let l = c .before .loop in

@@ -7,45 +7,35 @@ use Rattle.judging.proofs.simulate.compare_files.Tie as tie
 use Rattle.judging.proofs.checks.check_both.Reads as check-both-reads
 use Rattle.judging.proofs.simulate.contrast.Reads as contrast-reads
 
--- src/simulate.rt:49:11
 check-both-requires : tie.Need-check-both-requires
 check-both-requires c κs = search needs
 
--- src/simulate.rt:50:30
 enum-known-refusal : tie.Need-enum-known-refusal
 enum-known-refusal c = search needs
 
--- src/simulate.rt:52:13
 enum-known-nodes : tie.Need-enum-known-nodes
 enum-known-nodes c = search needs
 
--- src/simulate.rt:59:24
 sub-t15 : tie.Need-sub-t15
 sub-t15 c = let n = files-counts _ _ _ _ (c .before .before .before .check-both .ensures) (c .before .nodes .given .1) in nodes-first _ _ (n .first-within) (n .nodes-are) (n .records-are)
 
--- src/simulate.rt:61:25
 sub-t16 : tie.Need-sub-t16
 sub-t16 c = let n = files-counts _ _ _ _ (c .before .before .before .check-both .ensures) (c .before .nodes .given .1) in nodes-first _ _ (n .second-within) (n .nodes2-are) (n .records2-are)
 
--- src/simulate.rt:63:13
 contrast-requires : tie.Need-contrast-requires
 contrast-requires c κs = let k = c .before .before .before .before .before .before .before .before .before .before in
     let n = files-counts _ _ _ _ (c .before .before .before .before .before .check-both .ensures) (c .before .before .before .nodes .given .1) in
     (both-sizes _ (k .pre .0) _ _ (n .first-within) (n .second-within) _ _ _ _ (n .nodes-are) (n .records-are) (n .nodes2-are) (n .records2-are), k .pre .1)
 
--- src/simulate.rt:39:1
 returns : tie.Need-returns
 returns c = files-refused _ _ _ _ (c .before .before .before .check-both .ensures) _ _ (c .before .refusal .given .1)
 
--- src/simulate.rt:39:1
 same-length : tie.Need-same-length
 same-length c = search needs
 
--- src/simulate.rt:39:1
 same-length-2 : tie.Need-same-length-2
 same-length-2 c = search needs
 
--- src/simulate.rt:39:1
 returns-2 : tie.Need-returns-2
 returns-2 c = files-passed _ _ _ _ (c .before .before .before .before .before .before .before .before .before .before .check-both .ensures) _ _ (c .before .before .before .before .before .before .before .before .nodes .given .1) (c .before .before .before .before .contrast .ensures)
 

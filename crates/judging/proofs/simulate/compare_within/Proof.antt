@@ -8,31 +8,24 @@ use borrow.Author.Needs.{needs}
 use Rattle.judging.proofs.simulate.compare_within.Statement.{statement}
 use Rattle.judging.proofs.simulate.compare_within.Tie as tie
 
--- src/simulate.rt:81:34
 whole-requires : tie.Need-whole-requires
 whole-requires c κs = search needs
 
--- src/simulate.rt:81:9
 returns : tie.Need-returns
 returns c = let a = c .before .before .before .before .before .before .args in does-short (a .limits) graph (a .first .now) (a .second .now) compare-room (compare-said (decode-graph (a .first .now)) (decode-graph (a .second .now))) (a .out .now) (a .work .now) (compared-is (a .limits) (a .first .now) (a .second .now) (length (a .out .now)) (length (a .work .now))) (c .before .if1 .taken) (c .whole .ensures)
 
--- src/simulate.rt:83:9
 compare-files-requires : tie.Need-compare-files-requires
 compare-files-requires c κs = (c .before .before .before .before .before .before .before .pre, c .before .before .if1 .left)
 
--- src/simulate.rt:84:5
 clear-requires : tie.Need-clear-requires
 clear-requires c κs = search needs
 
--- src/simulate.rt:70:1
 same-length : tie.Need-same-length
 same-length c = search needs
 
--- src/simulate.rt:70:1
 same-length-2 : tie.Need-same-length-2
 same-length-2 c = search needs
 
--- src/simulate.rt:70:1
 returns-2 : tie.Need-returns-2
 returns-2 c = let a = c .before .before .before .before .before .before .before .before .before .before .before .before .before .before .before .before .args in
     let j = c .before .before .before .before .before .before .before .before .compare-files in

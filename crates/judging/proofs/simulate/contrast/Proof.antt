@@ -4,51 +4,39 @@ use borrow.Author.Needs.{needs}
 use Rattle.judging.proofs.simulate.contrast.Statement.{statement}
 use Rattle.judging.proofs.simulate.contrast.Tie as tie
 
--- src/simulate.rt:26:20
 mul-if1 : tie.Need-mul-if1
 mul-if1 c = omega (arith, c .before .before .before .before .before .pre .0 .few-first-nodes)
 
--- src/simulate.rt:27:34
 whole-requires : tie.Need-whole-requires
 whole-requires c κs = search needs
 
--- src/simulate.rt:27:9
 returns : tie.Need-returns
 returns c = answers-full (c .before .before .before .before .before .before .before .args .s) (c .before .before .before .before .before .before .before .args .first .now) (c .before .before .before .before .before .before .before .args .second .now) (c .before .before .before .before .before .before .before .pre .0) (c .before .before .before .before .before .before .before .args .out .now) (c .whole .result) (c .before .if1 .taken) (c .whole .ensures)
 
--- src/simulate.rt:29:5
 refine-requires : tie.Need-refine-requires
 refine-requires c κs = search needs
 
--- src/simulate.rt:30:5
 write-relation-requires : tie.Need-write-relation-requires
 write-relation-requires c κs = let k = c .before .before .before .before .before .before .before .before .before .before .before .before in let x = c .before .before .before .before .refine in (k .pre .0, (omega (arith, x .kept .1 .1 .1 .0, k .pre .1), (x .ensures, c .before .before .before .before .before .before .if1 .left)))
 
--- src/simulate.rt:31:9
 first-uncovered-requires : tie.Need-first-uncovered-requires
 first-uncovered-requires c κs = let k = c .before .before .before .before .before .before .before .before .before .before .before .before .before .before .before .before in let x = c .before .before .before .before .before .before .before .before .refine in (k .pre .0, (omega (arith, x .kept .1 .1 .1 .0, k .pre .1), x .ensures))
 
--- src/simulate.rt:33:9
 same-length : tie.Need-same-length
 same-length c = search needs
 
--- src/simulate.rt:33:9
 same-length-2 : tie.Need-same-length-2
 same-length-2 c = search needs
 
--- src/simulate.rt:33:9
 returns-2 : tie.Need-returns-2
 returns-2 c = answers-uncovered (c .before .before .before .before .before .before .before .before .before .before .before .before .before .before .before .before .before .before .before .args .s) (c .before .before .before .before .before .before .before .before .before .before .before .before .before .before .before .before .before .before .before .args .first .now) (c .before .before .before .before .before .before .before .before .before .before .before .before .before .before .before .before .before .before .before .args .second .now) (c .before .before .before .before .before .before .before .before .before .before .before .before .before .before .before .before .before .before .before .pre .0) (c .before .before .before .before .before .before .before .before .before .before .before .before .before .before .before .before .before .before .before .args .out .now) (c .before .before .before .before .before .before .write-relation .last .1 .1 .1 .1 .0) (c .before .before .before .before .before .before .before .before .before .before .before .before .before .if1 .left) (c .before .before .before .before .before .before .write-relation .ensures) (c .before .before .first-uncovered .result) (c .before .before .first-uncovered .ensures) (c .if2 .taken)
 
--- src/simulate.rt:22:1
 same-length-3 : tie.Need-same-length-3
 same-length-3 c = search needs
 
--- src/simulate.rt:22:1
 same-length-4 : tie.Need-same-length-4
 same-length-4 c = search needs
 
--- src/simulate.rt:22:1
 returns-3 : tie.Need-returns-3
 returns-3 c = answers-covered (c .before .before .before .before .before .before .before .before .before .before .before .before .before .before .before .before .before .before .before .args .s) (c .before .before .before .before .before .before .before .before .before .before .before .before .before .before .before .before .before .before .before .args .first .now) (c .before .before .before .before .before .before .before .before .before .before .before .before .before .before .before .before .before .before .before .args .second .now) (c .before .before .before .before .before .before .before .before .before .before .before .before .before .before .before .before .before .before .before .pre .0) (c .before .before .before .before .before .before .before .before .before .before .before .before .before .before .before .before .before .before .before .args .out .now) (c .before .before .before .before .before .before .write-relation .last .1 .1 .1 .1 .0) (c .before .before .before .before .before .before .before .before .before .before .before .before .before .if1 .left) (c .before .before .before .before .before .before .write-relation .ensures) (c .before .before .first-uncovered .result) (c .before .before .first-uncovered .ensures) (c .if2 .left)
 

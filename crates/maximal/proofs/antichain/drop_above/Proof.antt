@@ -19,35 +19,27 @@ Inv-loop work₀ count s i₀ left₀ work i left = (i ≤ count) × (length wor
 abbrev μ-loop : tie.MeasureT-loop
 μ-loop work₀ count s i₀ left₀ work i left = count - i
 
--- src/antichain.rt:45:5
 loop-holds : tie.Need-loop-holds Inv-loop μ-loop
 loop-holds c = (omega arith, refl, kept-none (λ u. not (within (c .before .args .s) u)) (c .before .args .work .now))
 
--- src/antichain.rt:46:13
 get32-requires : tie.Need-get32-requires Inv-loop μ-loop
 get32-requires c κs = omega (arith, c .before .before .loop .inv .1)
 
--- src/antichain.rt:47:13
 is-within-requires : tie.Need-is-within-requires Inv-loop μ-loop
 is-within-requires c κs = tt
 
--- src/antichain.rt:48:13
 put32-requires : tie.Need-put32-requires Inv-loop μ-loop
 put32-requires c κs = omega (arith, c .before .before .before .before .before .before .loop .inv .1, c .before .before .before .before .before .before .loop .inv .2 .few)
 
--- src/antichain.rt:49:13
 add-left : tie.Need-add-left Inv-loop μ-loop
 add-left c = omega (arith, c .before .before .before .before .before .before .before .before .before .loop .inv .2 .few)
 
--- src/antichain.rt:51:9
 add-i : tie.Need-add-i Inv-loop μ-loop
 add-i c = omega arith
 
--- src/antichain.rt:45:5
 loop-less : tie.Need-loop-less Inv-loop μ-loop
 loop-less c = omega arith
 
--- src/antichain.rt:45:5
 loop-again : tie.Need-loop-again Inv-loop μ-loop
 loop-again c =
     let a = c .before .before .before .before .before .before .before .args in
@@ -68,11 +60,9 @@ loop-again c =
     ))
     (c .if1 .came)
 
--- src/antichain.rt:39:1
 same-length : tie.Need-same-length Inv-loop μ-loop
 same-length c = c .before .loop .inv .1
 
--- src/antichain.rt:39:1
 returns : tie.Need-returns Inv-loop μ-loop
 returns c =
     let a = c .before .before .before .args in

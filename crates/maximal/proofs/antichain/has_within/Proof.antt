@@ -17,19 +17,15 @@ Inv-loop work count s i₀ i = (i ≤ count) × ((j : ℕ) → j < i → T (not 
 abbrev μ-loop : tie.MeasureT-loop
 μ-loop work count s i₀ i = count - i
 
--- src/antichain.rt:29:5
 loop-holds : tie.Need-loop-holds Inv-loop μ-loop
 loop-holds c = (omega arith, λ j h. absurd (omega arith))
 
--- src/antichain.rt:30:22
 get32-requires : tie.Need-get32-requires Inv-loop μ-loop
 get32-requires c κs = omega arith
 
--- src/antichain.rt:30:12
 is-within-requires : tie.Need-is-within-requires Inv-loop μ-loop
 is-within-requires c κs = tt
 
--- src/antichain.rt:31:13
 returns : tie.Need-returns Inv-loop μ-loop
 returns c =
     let a = c .before .before .before .before .before .before .args in
@@ -37,15 +33,12 @@ returns c =
     let t = sym (c .before .is-within .ensures ∙ ap (λ (u : ℕ). within u (a .s)) (c .before .before .get32 .ensures)) ∙ c .if1 .taken in
     sym (some-listed (λ u. within u (a .s)) (a .work .now) (a .count) (l .i) (c .before .before .before .loop-test .taken) (subst T (sym t) tt))
 
--- src/antichain.rt:33:9
 add-i : tie.Need-add-i Inv-loop μ-loop
 add-i c = omega arith
 
--- src/antichain.rt:29:5
 loop-less : tie.Need-loop-less Inv-loop μ-loop
 loop-less c = omega arith
 
--- src/antichain.rt:29:5
 loop-again : tie.Need-loop-again Inv-loop μ-loop
 loop-again c =
     let a = c .before .before .before .before .before .before .args in
@@ -53,7 +46,6 @@ loop-again c =
     let t = sym (c .before .is-within .ensures ∙ ap (λ (u : ℕ). within u (a .s)) (c .before .before .get32 .ensures)) ∙ c .if1 .left in
     (omega arith, none-on (λ j. within (cell (a .work .now) 87072 4 j) (a .s)) (l .i) (l .inv .1) t)
 
--- src/antichain.rt:24:1
 returns-2 : tie.Need-returns-2 Inv-loop μ-loop
 returns-2 c =
     let a = c .before .before .before .args in

@@ -10,37 +10,29 @@ use borrow.Author.Needs.{needs}
 use Rattle.maximal.proofs.antichain.insert.Statement.{statement}
 use Rattle.maximal.proofs.antichain.insert.Tie as tie
 
--- src/antichain.rt:61:8
 has-within-requires : tie.Need-has-within-requires
 has-within-requires c κs = search needs
 
--- src/antichain.rt:62:9
 same-length : tie.Need-same-length
 same-length c = search needs
 
--- src/antichain.rt:62:9
 returns : tie.Need-returns
 returns c =
     let a = c .before .before .before .before .args in
     (sym (inserted-past (listed (a .work .now) (a .count)) (a .s) (sym (c .before .has-within .ensures) ∙ c .if1 .taken)), (omega arith, λ q d. refl))
 
--- src/antichain.rt:64:9
 drop-above-requires : tie.Need-drop-above-requires
 drop-above-requires c κs = search needs
 
--- src/antichain.rt:65:5
 put32-requires : tie.Need-put32-requires
 put32-requires c κs = search needs
 
--- src/antichain.rt:66:5
 add-result : tie.Need-add-result
 add-result c = search needs
 
--- src/antichain.rt:57:1
 same-length-2 : tie.Need-same-length-2
 same-length-2 c = search needs
 
--- src/antichain.rt:57:1
 returns-2 : tie.Need-returns-2
 returns-2 c =
     let a = c .before .before .before .before .before .before .before .before .before .before .before .before .args in

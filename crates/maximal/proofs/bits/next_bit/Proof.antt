@@ -15,31 +15,24 @@ Inv-loop bits base t n u₀ u = (t ≤ u) × ((v : ℕ) → t ≤ v → v < u �
 abbrev μ-loop : tie.MeasureT-loop
 μ-loop bits base t n u₀ u = n - u
 
--- src/bits.rt:13:5
 loop-holds : tie.Need-loop-holds Inv-loop μ-loop
 loop-holds c = (omega arith, λ v h l m. absurd (omega arith))
 
--- src/bits.rt:14:20
 get32-requires : tie.Need-get32-requires Inv-loop μ-loop
 get32-requires c κs = search needs
 
--- src/bits.rt:14:50
 cast-rest : tie.Need-cast-rest Inv-loop μ-loop
 cast-rest c = search needs
 
--- src/bits.rt:14:20
 shr-rest : tie.Need-shr-rest Inv-loop μ-loop
 shr-rest c = search needs
 
--- src/bits.rt:16:25
 cast-result : tie.Need-cast-result Inv-loop μ-loop
 cast-result c = omega (arith, trailing-le 32 (c .before .get32 .result / 2 ^ (c .before .before .before .loop .u % 32)))
 
--- src/bits.rt:16:20
 add-result : tie.Need-add-result Inv-loop μ-loop
 add-result c = omega (arith, trailing-le 32 (c .before .get32 .result / 2 ^ (c .before .before .before .loop .u % 32)), c .before .before .loop-test .taken, c .before .before .before .before .before .pre .0)
 
--- src/bits.rt:16:13
 returns : tie.Need-returns Inv-loop μ-loop
 returns c =
     let a = c .before .before .before .before .before .args in
@@ -47,19 +40,15 @@ returns c =
     let x = c .before .get32 in
     next-in-word (a .bits .now) (a .base) (λ b. omega (arith, c .before .before .before .before .shared-slice-known .given b)) (l .u) (x .result / 2 ^ (l .u % 32)) (ap (λ (m : ℕ). m / 2 ^ (l .u % 32)) (x .ensures)) (a .t) (a .n) (l .inv .0) (l .inv .1) (c .if1 .taken) _ refl
 
--- src/bits.rt:18:13
 mul-u : tie.Need-mul-u Inv-loop μ-loop
 mul-u c = search needs
 
--- src/bits.rt:18:13
 add-u : tie.Need-add-u Inv-loop μ-loop
 add-u c = search needs
 
--- src/bits.rt:13:5
 loop-less : tie.Need-loop-less Inv-loop μ-loop
 loop-less c = search needs
 
--- src/bits.rt:13:5
 loop-again : tie.Need-loop-again Inv-loop μ-loop
 loop-again c =
     let a = c .before .before .before .before .before .args in
@@ -67,7 +56,6 @@ loop-again c =
     let x = c .before .get32 in
     (omega (arith, l .inv .0), none-in-word (a .bits .now) (a .base) (λ b. omega (arith, c .before .before .before .before .shared-slice-known .given b)) (l .u) (x .result / 2 ^ (l .u % 32)) (ap (λ (m : ℕ). m / 2 ^ (l .u % 32)) (x .ensures)) (a .t) (a .n) (l .inv .0) (l .inv .1) (c .if1 .left))
 
--- src/bits.rt:8:1
 returns-2 : tie.Need-returns-2 Inv-loop μ-loop
 returns-2 c =
     let l = c .before .loop in

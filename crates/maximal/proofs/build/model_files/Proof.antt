@@ -6,19 +6,15 @@ use borrow.Author.Needs.{needs}
 use Rattle.maximal.proofs.build.model_files.Statement.{statement}
 use Rattle.maximal.proofs.build.model_files.Tie as tie
 
--- src/build.rt:104:11
 check-interface-requires : tie.Need-check-interface-requires
 check-interface-requires c κs = search needs
 
--- src/build.rt:105:26
 enum-known-refusal : tie.Need-enum-known-refusal
 enum-known-refusal c = search needs
 
--- src/build.rt:106:73
 enum-told : tie.Need-enum-told
 enum-told c = search needs
 
--- src/build.rt:106:37
 model-property-requires : tie.Need-model-property-requires
 model-property-requires c κs =
     let k = c .before .before .before .before .before .before .before .before .before in
@@ -26,19 +22,15 @@ model-property-requires c κs =
     let h = c .before .before .before .before .check-interface in
     (accepted-as (k .args .limits) interface (k .args .interface .now) 1 (h .result) (x .0 .0) (x .0 .1 .0) (h .ensures) (x .1), k .pre)
 
--- src/build.rt:94:1
 returns : tie.Need-returns
 returns c = let k = c .before .before .before .before .before .before .before .before in interface-refused (k .args .limits) (k .args .interface .now) (k .args .property .now) (k .args .out .now) (c .before .before .before .check-interface .result) (c .before .refusal .given .0 .0) (c .before .before .before .check-interface .ensures) (c .before .refusal .given .1)
 
--- src/build.rt:94:1
 same-length : tie.Need-same-length
 same-length c = search needs
 
--- src/build.rt:94:1
 same-length-2 : tie.Need-same-length-2
 same-length-2 c = search needs
 
--- src/build.rt:94:1
 returns-2 : tie.Need-returns-2
 returns-2 c = let k = c .before .before .before .before .before .before .before .before .before .before .before .before .before .before in let x = c .before .before .before .before .before .before .before .enum-told .given in interface-passed (k .args .limits) (k .args .interface .now) (k .args .property .now) (k .args .out .now) (c .before .before .before .before .before .before .before .before .before .check-interface .result) (x .0 .0) (x .0 .1 .0) (c .before .before .before .before .model-property .last .1 .1 .0) (modelled-answer (c .before .before .before .before .model-property .result)) (c .before .before .before .before .before .before .before .before .before .check-interface .ensures) (x .1) (c .before .before .before .before .model-property .ensures)
 

@@ -6,35 +6,27 @@ use borrow.Author.Needs.{needs}
 use Rattle.maximal.proofs.build.model_property.Statement.{statement}
 use Rattle.maximal.proofs.build.model_property.Tie as tie
 
--- src/build.rt:80:11
 check-property-requires : tie.Need-check-property-requires
 check-property-requires c κs = search needs
 
--- src/build.rt:81:26
 enum-known-refusal : tie.Need-enum-known-refusal
 enum-known-refusal c = search needs
 
--- src/build.rt:82:38
 enum-known-rows : tie.Need-enum-known-rows
 enum-known-rows c = search needs
 
--- src/build.rt:88:13
 build-requires : tie.Need-build-requires
 build-requires c κs = let k = c .before .before .before .before .before .before .before .before .before .before in let x = c .before .before .before .rows .given in (k .pre .0, (scope-of (k .args .limits) (k .args .property .now) (k .pre .1 .0) (c .before .before .before .before .before .check-property .result) (x .0 .0) (x .0 .1 .0) (c .before .before .before .before .before .check-property .ensures) (x .1), (refl, k .pre .1 .1)))
 
--- src/build.rt:70:1
 returns : tie.Need-returns
 returns c = let k = c .before .before .before .before .before .before .before .before in property-refused (k .args .limits) (k .args .interface .now) (k .args .property .now) (k .args .out .now) (c .before .before .before .check-property .result) (c .before .refusal .given .0 .0) (c .before .before .before .check-property .ensures) (c .before .refusal .given .1)
 
--- src/build.rt:70:1
 same-length : tie.Need-same-length
 same-length c = search needs
 
--- src/build.rt:70:1
 same-length-2 : tie.Need-same-length-2
 same-length-2 c = search needs
 
--- src/build.rt:70:1
 returns-2 : tie.Need-returns-2
 returns-2 c = let k = c .before .before .before .before .before .before .before .before .before .before .before .before .before .before .before in let x = c .before .before .before .before .before .before .before .before .rows .given in property-passed (k .args .limits) (k .args .interface .now) (k .args .property .now) (k .args .out .now) (c .before .before .before .before .before .before .before .before .before .before .check-property .result) (x .0 .0) (x .0 .1 .0) (c .before .before .before .before .build .last .1 .1 .1 .0) (modelled-answer (c .before .before .before .before .build .result)) (c .before .before .before .before .before .before .before .before .before .before .check-property .ensures) (x .1) (c .before .before .before .before .build .ensures)
 

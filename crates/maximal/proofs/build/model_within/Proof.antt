@@ -7,31 +7,24 @@ use borrow.Author.Needs.{needs}
 use Rattle.maximal.proofs.build.model_within.Statement.{statement}
 use Rattle.maximal.proofs.build.model_within.Tie as tie
 
--- src/build.rt:122:34
 whole-requires : tie.Need-whole-requires
 whole-requires c κs = search needs
 
--- src/build.rt:122:9
 returns : tie.Need-returns
 returns c = let k = c .before .before .before .before .before .before in does-nothing (k .args .limits) (k .args .interface .now) (k .args .property .now) (k .args .out .now) (k .args .work .now) (c .whole .result) (c .before .if1 .taken) (c .whole .ensures)
 
--- src/build.rt:124:9
 model-files-requires : tie.Need-model-files-requires
 model-files-requires c κs = search needs
 
--- src/build.rt:125:5
 clear-requires : tie.Need-clear-requires
 clear-requires c κs = search needs
 
--- src/build.rt:111:1
 same-length : tie.Need-same-length
 same-length c = search needs
 
--- src/build.rt:111:1
 same-length-2 : tie.Need-same-length-2
 same-length-2 c = search needs
 
--- src/build.rt:111:1
 returns-2 : tie.Need-returns-2
 returns-2 c = let k = c .before .before .before .before .before .before .before .before .before .before .before .before .before .before .before .before in let j = c .before .before .before .before .before .before .before .before .model-files in does-model (k .args .limits) (k .args .interface .now) (k .args .property .now) (k .args .out .now) (k .args .work .now) (j .last .1 .1 .0) (c .before .before .clear .last .0) (modelled-answer (j .result)) (c .before .before .before .before .before .before .before .before .before .before .before .if1 .left) (j .ensures) (c .before .before .clear .ensures ∙ ap (λ (n : ℕ). replicate n 0) (j .kept .1 .1 .1 .0))
 

@@ -12,31 +12,24 @@ Inv-loop work₀ q k₀ work k = (k ≤ 32) × (length work ≡ length work₀) 
 abbrev μ-loop : tie.MeasureT-loop
 μ-loop work₀ q k₀ work k = 32 - k
 
--- src/explore.rt:43:5
 loop-holds : tie.Need-loop-holds Inv-loop μ-loop
 loop-holds c = (omega arith, refl, (λ i l. absurd (omega arith), λ b d. refl))
 
--- src/explore.rt:44:38
 mul-put8 : tie.Need-mul-put8 Inv-loop μ-loop
 mul-put8 c = omega (arith, c .before .before .before .before .pre .0)
 
--- src/explore.rt:44:20
 add-put8 : tie.Need-add-put8 Inv-loop μ-loop
 add-put8 c = omega (arith, c .before .before .before .before .pre .0)
 
--- src/explore.rt:44:9
 put8-requires : tie.Need-put8-requires Inv-loop μ-loop
 put8-requires c κs = omega (arith, c .before .before .before .before .pre .0, c .before .before .before .before .pre .1, c .before .before .loop .inv .1, c .before .loop-test .taken)
 
--- src/explore.rt:45:9
 add-k : tie.Need-add-k Inv-loop μ-loop
 add-k c = omega (arith, c .before .before .before .before .loop-test .taken)
 
--- src/explore.rt:43:5
 loop-less : tie.Need-loop-less Inv-loop μ-loop
 loop-less c = omega (arith, c .before .before .before .before .loop-test .taken)
 
--- src/explore.rt:43:5
 loop-again : tie.Need-loop-again Inv-loop μ-loop
 loop-again c =
     let k = c .before .before .before .before .before .before .before in
@@ -45,11 +38,9 @@ loop-again c =
     let y = c .before .before .put8 in
     (omega (arith, c .before .before .before .before .loop-test .taken), y .kept .0 ∙ l .inv .1, filled-on (a .work .now) (l .work) (a .q) (l .k) (λ (i : ℕ). 0) (l .inv .2) (k .pre .0) (omega (arith, l .inv .1, k .pre .1)) (c .before .before .before .before .loop-test .taken) 0 (y .last .0) (omega arith) refl (y .ensures))
 
--- src/explore.rt:38:1
 same-length : tie.Need-same-length Inv-loop μ-loop
 same-length c = c .before .loop .inv .1
 
--- src/explore.rt:38:1
 returns : tie.Need-returns Inv-loop μ-loop
 returns c =
     let a = c .before .before .before .args in

@@ -12,19 +12,15 @@ Inv-loop work₀ p q k₀ work k = (k ≤ 32) × (length work ≡ length work₀
 abbrev μ-loop : tie.MeasureT-loop
 μ-loop work₀ p q k₀ work k = 32 - k
 
--- src/explore.rt:75:5
 loop-holds : tie.Need-loop-holds Inv-loop μ-loop
 loop-holds c = (omega arith, refl, (λ i l. absurd (omega arith), λ b d. refl))
 
--- src/explore.rt:76:49
 mul-get8 : tie.Need-mul-get8 Inv-loop μ-loop
 mul-get8 c = let k = c .before .before .before .before in omega (arith, k .pre .0, k .pre .1 .0)
 
--- src/explore.rt:76:31
 add-get8 : tie.Need-add-get8 Inv-loop μ-loop
 add-get8 c = let k = c .before .before .before .before in omega (arith, k .pre .0, k .pre .1 .0)
 
--- src/explore.rt:76:13
 get8-requires : tie.Need-get8-requires Inv-loop μ-loop
 get8-requires c κs =
     let k = c .before .before .before .before in
@@ -32,15 +28,12 @@ get8-requires c κs =
     let l = c .before .before .loop in
     omega (arith, k .pre .0, k .pre .1 .0, k .pre .1 .1, l .inv .1, c .before .loop-test .taken)
 
--- src/explore.rt:77:38
 mul-put8 : tie.Need-mul-put8 Inv-loop μ-loop
 mul-put8 c = omega (arith, c .before .before .before .before .before .before .pre .1 .0)
 
--- src/explore.rt:77:20
 add-put8 : tie.Need-add-put8 Inv-loop μ-loop
 add-put8 c = omega (arith, c .before .before .before .before .before .before .pre .1 .0)
 
--- src/explore.rt:77:9
 put8-requires : tie.Need-put8-requires Inv-loop μ-loop
 put8-requires c κs =
     let k = c .before .before .before .before .before .before in
@@ -48,15 +41,12 @@ put8-requires c κs =
     let l = c .before .before .before .before .loop in
     omega (arith, k .pre .1 .0, k .pre .1 .1, l .inv .1, c .before .before .before .loop-test .taken)
 
--- src/explore.rt:78:9
 add-k : tie.Need-add-k Inv-loop μ-loop
 add-k c = omega (arith, c .before .before .before .before .before .before .loop-test .taken)
 
--- src/explore.rt:75:5
 loop-less : tie.Need-loop-less Inv-loop μ-loop
 loop-less c = omega (arith, c .before .before .before .before .before .before .loop-test .taken)
 
--- src/explore.rt:75:5
 loop-again : tie.Need-loop-again Inv-loop μ-loop
 loop-again c =
     let k = c .before .before .before .before .before .before .before .before .before in
@@ -66,11 +56,9 @@ loop-again c =
     let y = c .before .before .put8 in
     (omega (arith, c .before .before .before .before .before .before .loop-test .taken), y .kept .0 ∙ l .inv .1, filled-on (a .work .now) (l .work) (a .q) (l .k) (row-bytes (a .work .now) (a .p)) (l .inv .2) (omega (arith, k .pre .1 .0)) (omega (arith, l .inv .1, k .pre .1 .1)) (c .before .before .before .before .before .before .loop-test .taken) (x .result) (y .last .0) (omega arith) (copied-byte (a .work .now) (l .work) (a .p) (a .q) (l .k) (x .result) (k .pre .0) (c .before .before .before .before .before .before .loop-test .taken) (l .inv .2 .1) (x .ensures)) (y .ensures))
 
--- src/explore.rt:70:1
 same-length : tie.Need-same-length Inv-loop μ-loop
 same-length c = c .before .loop .inv .1
 
--- src/explore.rt:70:1
 returns : tie.Need-returns Inv-loop μ-loop
 returns c =
     let k = c .before .before .before in

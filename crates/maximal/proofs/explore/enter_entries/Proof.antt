@@ -15,11 +15,9 @@ Inv-loop interface property s work₀ kind₀ c₀ work kind c = (kind ≤ 18) �
 abbrev μ-loop : tie.MeasureT-loop
 μ-loop interface property s work₀ kind₀ c₀ work kind c = 18 - kind
 
--- src/explore.rt:54:5
 clear-row-requires : tie.Need-clear-row-requires Inv-loop μ-loop
 clear-row-requires c κs = (omega arith, c .before .before .before .before .pre .1 .1 .0)
 
--- src/explore.rt:57:5
 loop-holds : tie.Need-loop-holds Inv-loop μ-loop
 loop-holds c =
     let k = c .before .before .before .before .before .before .before in
@@ -27,11 +25,9 @@ loop-holds c =
     let x = c .before .before .clear-row in
     (omega arith, kinds-none (a .s) (decode-interface (a .interface .now)) (a .property .now) (k .pre .1 .0) (a .work .now) (x .last .0) (k .pre .1 .1 .1) (x .ensures .0) (x .ensures .1))
 
--- src/explore.rt:58:12
 provides-requires : tie.Need-provides-requires Inv-loop μ-loop
 provides-requires c κs = c .before .before .before .before .before .before .before .before .before .pre .0
 
--- src/explore.rt:59:13
 admit-requires : tie.Need-admit-requires Inv-loop μ-loop
 admit-requires c κs =
     let k = c .before .before .before .before .before .before .before .before .before .before .before .before in
@@ -60,23 +56,18 @@ admit-requires c κs =
       ),
     )
 
--- src/explore.rt:61:17
 same-length : tie.Need-same-length Inv-loop μ-loop
 same-length c = c .before .before .before .before .admit .kept .1 .1 .1 .0 ∙ c .before .before .before .before .before .before .before .before .before .loop .inv .1 .long ∙ c .before .before .before .before .before .before .before .before .before .before .before .before .clear-row .kept .0
 
--- src/explore.rt:61:17
 returns : tie.Need-returns Inv-loop μ-loop
 returns c = (λ h. absurd (omega (arith, h, c .if2 .taken)), c .before .before .before .before .admit .ensures .1)
 
--- src/explore.rt:64:9
 add-kind : tie.Need-add-kind Inv-loop μ-loop
 add-kind c = omega (arith, c .before .before .loop-test .taken)
 
--- src/explore.rt:57:5
 loop-less : tie.Need-loop-less Inv-loop μ-loop
 loop-less c = omega (arith, c .before .before .loop-test .taken)
 
--- src/explore.rt:57:5
 loop-again : tie.Need-loop-again Inv-loop μ-loop
 loop-again c =
     let k = c .before .before .before .before .before .before .before .before .before .before .before in
@@ -92,11 +83,9 @@ loop-again c =
           (c .if1 .came),
     )
 
--- src/explore.rt:50:1
 same-length-2 : tie.Need-same-length-2 Inv-loop μ-loop
 same-length-2 c = c .before .loop .inv .1 .long ∙ c .before .before .before .before .clear-row .kept .0
 
--- src/explore.rt:50:1
 returns-2 : tie.Need-returns-2 Inv-loop μ-loop
 returns-2 c =
     let a = c .before .before .before .before .before .before .before .before .before .args in

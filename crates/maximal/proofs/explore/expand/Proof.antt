@@ -13,7 +13,6 @@ Inv-loop interface property s work₀ i c label₀ total₀ work label total = (
 abbrev μ-loop : tie.MeasureT-loop
 μ-loop interface property s work₀ i c label₀ total₀ work label total = 9 - label
 
--- src/explore.rt:139:5
 loop-holds : tie.Need-loop-holds Inv-loop μ-loop
 loop-holds c =
     let k = c .before .before .before in
@@ -23,7 +22,6 @@ loop-holds c =
           (worked-all (a .s) (decode-interface (a .interface .now)) (decode-property (a .property .now)) (a .c) (9 * a .i) (a .work .now) (k .pre .1 .1 .1 .0) (k .pre .1 .1 .1 .1 .1 .1) (k .pre .1 .1 .1 .1 .1 .0)),
     )
 
--- src/explore.rt:140:9
 follow-requires : tie.Need-follow-requires Inv-loop μ-loop
 follow-requires c κs =
     let k = c .before .before .before .before .before .before in
@@ -32,23 +30,18 @@ follow-requires c κs =
     let x = l .inv .1 in
     (k .pre .0, (k .pre .1 .0, (omega (arith, k .pre .1 .1 .0, x .more), (c .before .loop-test .taken, (x .fits, (omega (arith, k .pre .1 .1 .1 .1 .0, x .long), (x .tables, x .charting)))))))
 
--- src/explore.rt:142:13
 same-length : tie.Need-same-length Inv-loop μ-loop
 same-length c = c .before .before .before .before .follow .kept .1 .1 .1 .0 ∙ c .before .before .before .before .before .before .before .loop .inv .1 .long
 
--- src/explore.rt:142:13
 returns : tie.Need-returns Inv-loop μ-loop
 returns c = (λ h. absurd (omega (arith, h, c .if1 .taken)), c .before .before .before .before .follow .ensures .1)
 
--- src/explore.rt:144:9
 add-label : tie.Need-add-label Inv-loop μ-loop
 add-label c = omega (arith, c .before .before .before .before .before .before .loop-test .taken)
 
--- src/explore.rt:139:5
 loop-less : tie.Need-loop-less Inv-loop μ-loop
 loop-less c = omega (arith, c .before .before .before .before .before .before .loop-test .taken)
 
--- src/explore.rt:139:5
 loop-again : tie.Need-loop-again Inv-loop μ-loop
 loop-again c =
     let k = c .before .before .before .before .before .before .before .before .before .before .before in
@@ -57,11 +50,9 @@ loop-again c =
     let y = c .before .before .before .before .follow in
     (omega (arith, c .before .before .before .before .before .before .loop-test .taken), working-on (a .s) (decode-interface (a .interface .now)) (decode-property (a .property .now)) (a .c) (length (a .work .now)) (l .total) (y .result) (9 * a .i + l .label + 1) (9 * a .i + (l .label + 1)) (y .last .1 .1 .1 .0) (omega (arith, c .if1 .left)) (l .inv .1 .more) (y .kept .1 .1 .1 .0 ∙ l .inv .1 .long) (omega arith) (y .ensures))
 
--- src/explore.rt:133:1
 same-length-2 : tie.Need-same-length-2 Inv-loop μ-loop
 same-length-2 c = c .before .loop .inv .1 .long
 
--- src/explore.rt:133:1
 returns-2 : tie.Need-returns-2 Inv-loop μ-loop
 returns-2 c =
     let k = c .before .before .before .before .before in

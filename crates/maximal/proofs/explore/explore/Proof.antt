@@ -15,26 +15,21 @@ Inv-loop interface property s work₀ c₀ i₀ work c i = Working s (decode-int
 abbrev μ-loop : tie.MeasureT-loop
 μ-loop interface property s work₀ c₀ i₀ work c i = s .states - i
 
--- src/explore.rt:154:5
 tabulate-requires : tie.Need-tabulate-requires Inv-loop μ-loop
 tabulate-requires c κs = let k = c .before .before .before .before in (k .pre .1 .0 .file, (k .pre .1 .0 .rows-are, (k .pre .1 .0 .few-rows, k .pre .1 .1)))
 
--- src/explore.rt:155:9
 enter-entries-requires : tie.Need-enter-entries-requires Inv-loop μ-loop
 enter-entries-requires c κs =
     let k = c .before .before .before .before .before .before .before .before in
     let x = c .before .before .before .tabulate in
     (k .pre .0, (k .pre .1 .0, (omega (arith, k .pre .1 .1, x .kept .1 .1 .0), x .ensures .0)))
 
--- src/explore.rt:157:9
 same-length : tie.Need-same-length Inv-loop μ-loop
 same-length c = c .before .before .before .before .enter-entries .kept .1 .1 .1 .0 ∙ c .before .before .before .before .before .before .before .before .tabulate .kept .1 .1 .0
 
--- src/explore.rt:157:9
 returns : tie.Need-returns Inv-loop μ-loop
 returns c = (λ h. absurd (omega (arith, h, c .if1 .taken)), c .before .before .before .before .enter-entries .ensures .1)
 
--- src/explore.rt:160:5
 loop-holds : tie.Need-loop-holds Inv-loop μ-loop
 loop-holds c =
     let k = c .before .before .before .before .before .before .before .before .before .before .before .before .before in
@@ -44,7 +39,6 @@ loop-holds c =
     working-on (a .s) (decode-interface (a .interface .now)) (decode-property (a .property .now)) 0 (length (y .last .1 .1 .1 .0)) (y .result) (y .result) 0 (9 * 0) (y .last .1 .1 .1 .0) h (omega arith) refl refl
     (worked-all (a .s) (decode-interface (a .interface .now)) (decode-property (a .property .now)) (y .result) 0 (y .last .1 .1 .1 .0) h (y .ensures .0 h .0) (y .ensures .0 h .1))
 
--- src/explore.rt:161:9
 expand-requires : tie.Need-expand-requires Inv-loop μ-loop
 expand-requires c κs =
     let k = c .before .before .before .before .before .before .before .before .before .before .before .before .before .before .before .before in
@@ -53,23 +47,18 @@ expand-requires c κs =
     let x = l .inv in
     (k .pre .0, (k .pre .1 .0, (c .before .loop-test .taken, (x .fits, (omega (arith, k .pre .1 .1, x .long, c .before .before .before .before .before .before .before .enter-entries .kept .1 .1 .1 .0, c .before .before .before .before .before .before .before .before .before .before .before .tabulate .kept .1 .1 .0), (x .tables, x .charting))))))
 
--- src/explore.rt:163:13
 same-length-2 : tie.Need-same-length-2 Inv-loop μ-loop
 same-length-2 c = c .before .before .before .before .expand .kept .1 .1 .1 .0 ∙ c .before .before .before .before .before .before .before .loop .inv .long ∙ c .before .before .before .before .before .before .before .before .before .before .before .before .enter-entries .kept .1 .1 .1 .0 ∙ c .before .before .before .before .before .before .before .before .before .before .before .before .before .before .before .before .tabulate .kept .1 .1 .0
 
--- src/explore.rt:163:13
 returns-2 : tie.Need-returns-2 Inv-loop μ-loop
 returns-2 c = (λ h. absurd (omega (arith, h, c .if2 .taken)), c .before .before .before .before .expand .ensures .1)
 
--- src/explore.rt:165:9
 add-i : tie.Need-add-i Inv-loop μ-loop
 add-i c = omega (arith, c .before .before .before .before .before .before .loop-test .taken, c .before .before .before .before .before .before .before .loop .inv .fits, c .before .before .before .before .before .before .before .before .before .before .before .before .before .before .before .before .before .before .before .before .before .pre .1 .0 .few-states)
 
--- src/explore.rt:160:5
 loop-less : tie.Need-loop-less Inv-loop μ-loop
 loop-less c = omega (arith, c .before .before .before .before .before .before .loop-test .taken, c .before .before .before .before .before .before .before .loop .inv .fits)
 
--- src/explore.rt:160:5
 loop-again : tie.Need-loop-again Inv-loop μ-loop
 loop-again c =
     let k = c .before .before .before .before .before .before .before .before .before .before .before .before .before .before .before .before .before .before .before .before .before in
@@ -78,11 +67,9 @@ loop-again c =
     let y = c .before .before .before .before .expand in
     working-on (a .s) (decode-interface (a .interface .now)) (decode-property (a .property .now)) (l .i + 1) (length (c .before .before .before .before .before .before .before .before .before .before .before .before .enter-entries .last .1 .1 .1 .0)) (l .c) (y .result) (9 * l .i + 9) (9 * (l .i + 1)) (y .last .1 .1 .1 .0) (omega (arith, c .if2 .left)) (omega (arith, c .before .before .before .before .before .before .loop-test .taken)) (y .kept .1 .1 .1 .0 ∙ l .inv .long) (omega arith) (y .ensures)
 
--- src/explore.rt:150:1
 same-length-3 : tie.Need-same-length-3 Inv-loop μ-loop
 same-length-3 c = c .before .loop .inv .long ∙ c .before .before .before .before .before .before .enter-entries .kept .1 .1 .1 .0 ∙ c .before .before .before .before .before .before .before .before .before .before .tabulate .kept .1 .1 .0
 
--- src/explore.rt:150:1
 returns-3 : tie.Need-returns-3 Inv-loop μ-loop
 returns-3 c =
     let k = c .before .before .before .before .before .before .before .before .before .before .before .before .before .before .before in

@@ -5,31 +5,24 @@ use borrow.Author.Needs.{needs}
 use Rattle.maximal.proofs.explore.follow.Statement.{statement}
 use Rattle.maximal.proofs.explore.follow.Tie as tie
 
--- src/explore.rt:116:13
 mul-q : tie.Need-mul-q
 mul-q c = search needs
 
--- src/explore.rt:116:13
 add-q : tie.Need-add-q
 add-q c = search needs
 
--- src/explore.rt:117:5
 clear-row-requires : tie.Need-clear-row-requires
 clear-row-requires c κs = search needs
 
--- src/explore.rt:118:9
 is-label-requires : tie.Need-is-label-requires
 is-label-requires c κs = search needs
 
--- src/explore.rt:119:9
 put8-requires : tie.Need-put8-requires
 put8-requires c κs = search needs
 
--- src/explore.rt:120:9
 same-length : tie.Need-same-length
 same-length c = search needs
 
--- src/explore.rt:120:9
 returns : tie.Need-returns
 returns c =
     let k = c .before .before .before .before .before .before .before .before .before .before .before .before .before in
@@ -37,15 +30,12 @@ returns c =
     let r = c .before .before .before .before .before .before .before .before .clear-row in
     worked-none (a .s) (decode-interface (a .interface .now)) (a .property .now) (k .pre .1 .0) (a .i) (a .label) (a .c) (a .work .now) (r .last .0) (k .pre .1 .1 .0) (k .pre .1 .1 .1 .0) (k .pre .1 .1 .1 .1 .0) (omega (arith, r .kept .0, k .pre .1 .1 .1 .1 .1 .0)) (k .pre .1 .1 .1 .1 .1 .1 .0) (k .pre .1 .1 .1 .1 .1 .1 .1) (r .ensures .0) (r .ensures .1) (c .before .before .before .before .before .is-label .result) (c .before .before .before .before .before .is-label .ensures) (c .before .before .before .before .if1 .taken) (c .before .before .put8 .last .0) (c .before .before .put8 .ensures)
 
--- src/explore.rt:122:18
 get8-requires : tie.Need-get8-requires
 get8-requires c κs = search needs
 
--- src/explore.rt:123:39
 get32-requires : tie.Need-get32-requires
 get32-requires c κs = search needs
 
--- src/explore.rt:123:9
 asked-requires : tie.Need-asked-requires
 asked-requires c κs =
     let k = c .before .before .before .before .before .before .before .before .before .before .before .before .before in
@@ -53,15 +43,12 @@ asked-requires c κs =
     let r = c .before .before .before .before .before .before .before .before .clear-row in
     (k .pre .1 .0 .file, (k .pre .1 .0 .rows-are, (k .pre .1 .0 .few-rows, stored-fits (a .s) (decode-interface (a .interface .now)) (a .property .now) (k .pre .1 .0) (a .i) (a .label) (a .c) (a .work .now) (r .last .0) (k .pre .1 .1 .0) (k .pre .1 .1 .1 .0) (k .pre .1 .1 .1 .1 .0) (omega (arith, r .kept .0, k .pre .1 .1 .1 .1 .1 .0)) (k .pre .1 .1 .1 .1 .1 .1 .0) (k .pre .1 .1 .1 .1 .1 .1 .1) (r .ensures .0) (r .ensures .1) (c .before .before .before .before .before .is-label .result) (c .before .before .before .before .before .is-label .ensures) (c .get32 .result) (c .get32 .ensures))))
 
--- src/explore.rt:125:9
 find-pair-requires : tie.Need-find-pair-requires
 find-pair-requires c κs = search needs
 
--- src/explore.rt:126:5
 put8-requires-2 : tie.Need-put8-requires-2
 put8-requires-2 c κs = search needs
 
--- src/explore.rt:127:5
 put32-requires : tie.Need-put32-requires
 put32-requires c κs =
     let k = c .before .before .before .before .before .before .before .before .before .before .before .before .before .before .before .before .before .before .before .before .before in
@@ -69,7 +56,6 @@ put32-requires c κs =
     let r = c .before .before .before .before .before .before .before .before .before .before .before .before .before .before .before .before .clear-row in
     omega (arith, k .pre .1 .1 .0, k .pre .1 .1 .1 .0, k .pre .1 .1 .1 .1 .0, k .pre .1 .0 .few-states, k .pre .1 .1 .1 .1 .1 .0, r .kept .0, c .before .before .before .put82 .kept .0)
 
--- src/explore.rt:129:9
 copy-row-requires : tie.Need-copy-row-requires
 copy-row-requires c κs =
     let k = c .before .before .before .before .before .before .before .before .before .before .before .before .before .before .before .before .before .before .before .before .before .before .before .before .before .before in
@@ -77,11 +63,9 @@ copy-row-requires c κs =
     let r = c .before .before .before .before .before .before .before .before .before .before .before .before .before .before .before .before .before .before .before .before .before .clear-row in
     (c .before .if2 .taken, (omega (arith, k .pre .1 .1 .0, k .pre .1 .1 .1 .0, k .pre .1 .1 .1 .1 .0, k .pre .1 .0 .few-states), omega (arith, k .pre .1 .1 .1 .1 .1 .0, r .kept .0, c .before .before .before .before .put32 .kept .0, c .before .before .before .before .before .before .before .before .put82 .kept .0)))
 
--- src/explore.rt:130:9
 same-length-2 : tie.Need-same-length-2
 same-length-2 c = search needs
 
--- src/explore.rt:130:9
 returns-2 : tie.Need-returns-2
 returns-2 c =
     let k = c .before .before .before .before .before .before .before .before .before .before .before .before .before .before .before .before .before .before .before .before .before .before .before .before .before .before .before .before .before in
@@ -92,7 +76,6 @@ returns-2 c =
     (c .before .before .before .before .before .before .before .before .before .before .before .put82 .last .0) (c .before .before .before .before .before .before .before .put32 .last .0) (c .before .before .before .before .before .before .before .before .before .before .before .put82 .ensures) (c .before .before .before .before .before .before .before .put32 .ensures)
     (c .before .before .before .before .before .before .before .before .before .before .before .before .before .find-pair .result) (c .before .before .before .before .before .before .before .before .before .before .before .before .before .find-pair .ensures) (c .before .before .before .before .if2 .taken) (y .last .0) (y .ensures .0) (y .ensures .1)
 
--- src/explore.rt:132:5
 follow-anew-requires : tie.Need-follow-anew-requires
 follow-anew-requires c κs =
     let k = c .before .before .before .before .before .before .before .before .before .before .before .before .before .before .before .before .before .before .before .before .before .before .before .before .before .before in
@@ -112,11 +95,9 @@ follow-anew-requires c κs =
       ),
     )
 
--- src/explore.rt:104:1
 same-length-3 : tie.Need-same-length-3
 same-length-3 c = search needs
 
--- src/explore.rt:104:1
 returns-3 : tie.Need-returns-3
 returns-3 c = search needs
 

@@ -9,14 +9,12 @@ use borrow.Author.Needs.{needs}
 use Rattle.maximal.proofs.explore.follow_anew.Statement.{statement}
 use Rattle.maximal.proofs.explore.follow_anew.Tie as tie
 
--- src/explore.rt:96:59
 mul-admit : tie.Need-mul-admit
 mul-admit c =
     let k = c .before .before .before .before in
     let a = k .args in
     omega (arith, method-fits (a .s) (decode-interface (a .interface .now)) (a .property .now) (k .pre .0) (a .c) (a .q) (a .method) (a .set) (a .work .now) (k .pre .1 .0) (k .pre .1 .1 .1 .1 .1))
 
--- src/explore.rt:96:9
 admit-requires : tie.Need-admit-requires
 admit-requires c κs =
     let k = c .before .before .before .before in
@@ -43,29 +41,24 @@ admit-requires c κs =
       ),
     )
 
--- src/explore.rt:98:9
 same-length : tie.Need-same-length
 same-length c = search needs
 
--- src/explore.rt:98:9
 returns : tie.Need-returns
 returns c = (λ h. absurd (omega (arith, h, c .if1 .taken)), c .before .before .before .before .admit .ensures .1)
 
--- src/explore.rt:100:51
 mul-admit-2 : tie.Need-mul-admit-2
 mul-admit-2 c =
     let k = c .before .before .before .before .before .before .before .before .before .before in
     let a = k .args in
     omega (arith, method-fits (a .s) (decode-interface (a .interface .now)) (a .property .now) (k .pre .0) (a .c) (a .q) (a .method) (a .set) (a .work .now) (k .pre .1 .0) (k .pre .1 .1 .1 .1 .1))
 
--- src/explore.rt:100:51
 add-admit : tie.Need-add-admit
 add-admit c =
     let k = c .before .before .before .before .before .before .before .before .before .before in
     let a = k .args in
     omega (arith, method-fits (a .s) (decode-interface (a .interface .now)) (a .property .now) (k .pre .0) (a .c) (a .q) (a .method) (a .set) (a .work .now) (k .pre .1 .0) (k .pre .1 .1 .1 .1 .1))
 
--- src/explore.rt:100:5
 admit-requires-2 : tie.Need-admit-requires-2
 admit-requires-2 c κs =
     let k = c .before .before .before .before .before .before .before .before .before .before in
@@ -94,11 +87,9 @@ admit-requires-2 c κs =
       ),
     )
 
--- src/explore.rt:83:1
 same-length-2 : tie.Need-same-length-2
 same-length-2 c = search needs
 
--- src/explore.rt:83:1
 returns-2 : tie.Need-returns-2
 returns-2 c =
     let k = c .before .before .before .before .before .before .before .before .before .before .before .before .before in

@@ -5,11 +5,9 @@ use borrow.Author.Needs.{needs}
 use Rattle.maximal.proofs.explore.is_label.Statement.{statement}
 use Rattle.maximal.proofs.explore.is_label.Tie as tie
 
--- src/explore.rt:32:20
 requires-method-requires : tie.Need-requires-method-requires
 requires-method-requires c κs = search needs
 
--- src/explore.rt:28:1
 returns : tie.Need-returns
 returns c = let r = c .requires-method in ap (λ (b : Bool). eqb (c .before .before .args .label) 0 || b) (r .ensures)
 

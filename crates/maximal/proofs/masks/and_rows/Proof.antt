@@ -6,11 +6,9 @@ use borrow.Author.Needs.{needs}
 use Rattle.maximal.proofs.masks.and_rows.Statement.{statement}
 use Rattle.maximal.proofs.masks.and_rows.Tie as tie
 
--- src/masks.rt:66:5
 operands-or-requires : tie.Need-operands-or-requires
 operands-or-requires c κs = search needs
 
--- src/masks.rt:62:1
 returns : tie.Need-returns
 returns c = let k = c .before .before in c .operands-or .ensures ∙ and-rows-are (row (decode-property (k .args .property .now)) (k .args .r))
 

@@ -20,27 +20,21 @@ Inv-loop property n set label r₀ rows₀ r rows = (r ≤ n) × (rows < 2 ^ n) 
 abbrev μ-loop : tie.MeasureT-loop
 μ-loop property n set label r₀ rows₀ r rows = n - r
 
--- src/masks.rt:125:5
 loop-holds : tie.Need-loop-holds Inv-loop μ-loop
 loop-holds c = (omega arith, pow-pos (c .before .args .n), member-none)
 
--- src/masks.rt:126:12
 has-row-requires : tie.Need-has-row-requires Inv-loop μ-loop
 has-row-requires c κs = omega arith
 
--- src/masks.rt:127:27
 obliged-rows-requires : tie.Need-obliged-rows-requires Inv-loop μ-loop
 obliged-rows-requires c κs = let k = c .before .before .before .before .before in (k .pre .0, (k .pre .1 .0, (k .pre .1 .1 .0, c .before .before .loop-test .taken)))
 
--- src/masks.rt:129:9
 add-r : tie.Need-add-r Inv-loop μ-loop
 add-r c = omega arith
 
--- src/masks.rt:125:5
 loop-less : tie.Need-loop-less Inv-loop μ-loop
 loop-less c = omega arith
 
--- src/masks.rt:125:5
 loop-again : tie.Need-loop-again Inv-loop μ-loop
 loop-again c =
     let k = c .before .before .before .before .before in
@@ -62,7 +56,6 @@ loop-again c =
     ))
     (c .if1 .came)
 
--- src/masks.rt:119:1
 returns : tie.Need-returns Inv-loop μ-loop
 returns c =
     let k = c .before .before .before in

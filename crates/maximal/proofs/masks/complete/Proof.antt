@@ -18,13 +18,11 @@ Inv-loop property n set all₀ done₀ all done = Completing (decode-property pr
 abbrev μ-loop : tie.MeasureT-loop
 μ-loop property n set all₀ done₀ all done = 2 ^ length (decode-property property) - done
 
--- src/masks.rt:63:5
 loop-holds : tie.Need-loop-holds Inv-loop μ-loop
 loop-holds c =
     let k = c .before in
     completing-none (decode-property (k .args .property .now)) (k .args .set) (subst (λ (m : ℕ). k .args .set < 2 ^ m) (sym (rows-are (k .args .property .now) (k .pre .0) (k .args .n) (k .pre .1 .0))) (k .pre .1 .1 .1))
 
--- src/masks.rt:64:13
 highest-requires : tie.Need-highest-requires Inv-loop μ-loop
 highest-requires c κs =
     let k = c .before .before .before in
@@ -32,7 +30,6 @@ highest-requires c κs =
     let P = decode-property (k .args .property .now) in
     some-left P (k .args .set) (l .all) (l .done) (l .inv) (eqb-false (l .all) (l .done) (not-true (eqb (l .all) (l .done)) (c .loop-test .taken)))
 
--- src/masks.rt:65:23
 one-row-requires : tie.Need-one-row-requires Inv-loop μ-loop
 one-row-requires c κs =
     let k = c .before .before .before .before in
@@ -41,7 +38,6 @@ one-row-requires c κs =
     let h = c .highest in
     omega (arith, next-row P (k .args .set) (l .all) (l .done) (l .inv) (h .result) (h .ensures .0) (h .ensures .1), rows-are (k .args .property .now) (k .pre .0) (k .args .n) (k .pre .1 .0), k .pre .1 .1 .0)
 
--- src/masks.rt:66:21
 and-rows-requires : tie.Need-and-rows-requires Inv-loop μ-loop
 and-rows-requires c κs =
     let k = c .before .before .before .before .before in
@@ -50,7 +46,6 @@ and-rows-requires c κs =
     let h = c .before .highest in
     (k .pre .0, (k .pre .1 .0, (k .pre .1 .1 .0, omega (arith, next-row P (k .args .set) (l .all) (l .done) (l .inv) (h .result) (h .ensures .0) (h .ensures .1), rows-are (k .args .property .now) (k .pre .0) (k .args .n) (k .pre .1 .0)))))
 
--- src/masks.rt:63:5
 loop-less : tie.Need-loop-less Inv-loop μ-loop
 loop-less c =
     let k = c .before .before .before .before .before .before in
@@ -59,7 +54,6 @@ loop-less c =
     let h = c .before .before .highest in
     less-left P (k .args .set) (l .all) (l .done) (l .inv) (h .result) (h .ensures .0) (h .ensures .1) (c .before .one-row .result) (c .before .one-row .ensures)
 
--- src/masks.rt:63:5
 loop-again : tie.Need-loop-again Inv-loop μ-loop
 loop-again c =
     let k = c .before .before .before .before .before .before in
@@ -68,7 +62,6 @@ loop-again c =
     let h = c .before .before .highest in
     completing-on P (k .args .set) (l .all) (l .done) (l .inv) (h .result) (h .ensures .0) (h .ensures .1) (file-named (k .args .property .now) (k .pre .0) .names-rows (h .result) (next-row P (k .args .set) (l .all) (l .done) (l .inv) (h .result) (h .ensures .0) (h .ensures .1))) (c .and-rows .result) (c .before .one-row .result) (c .and-rows .ensures) (c .before .one-row .ensures)
 
--- src/masks.rt:57:1
 returns : tie.Need-returns Inv-loop μ-loop
 returns c =
     let k = c .before .before .before in

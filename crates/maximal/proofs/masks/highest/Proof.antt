@@ -11,15 +11,12 @@ Inv-loop set r₀ r = (r < 32) × (set < 2 ^ (r + 1))
 abbrev μ-loop : tie.MeasureT-loop
 μ-loop set r₀ r = r
 
--- src/masks.rt:36:5
 loop-holds : tie.Need-loop-holds Inv-loop μ-loop
 loop-holds c = (omega arith, omega arith)
 
--- src/masks.rt:36:12
 has-row-requires : tie.Need-has-row-requires Inv-loop μ-loop
 has-row-requires c κs = c .loop .inv .0
 
--- src/masks.rt:37:9
 sub-r : tie.Need-sub-r Inv-loop μ-loop
 sub-r c =
     let l = c .before .before .loop in
@@ -27,7 +24,6 @@ sub-r c =
     let d = one-down (c .before .before .before .args .set) (l .r) (h .result) (c .before .before .before .pre) (l .inv .1) (h .ensures) (c .if1 .taken) in
     d .0
 
--- src/masks.rt:36:5
 loop-less : tie.Need-loop-less Inv-loop μ-loop
 loop-less c =
     let l = c .before .before .loop in
@@ -35,7 +31,6 @@ loop-less c =
     let d = one-down (c .before .before .before .args .set) (l .r) (h .result) (c .before .before .before .pre) (l .inv .1) (h .ensures) (c .if1 .taken) in
     omega (arith, d .0)
 
--- src/masks.rt:36:5
 loop-again : tie.Need-loop-again Inv-loop μ-loop
 loop-again c =
     let l = c .before .before .loop in
@@ -43,7 +38,6 @@ loop-again c =
     let d = one-down (c .before .before .before .args .set) (l .r) (h .result) (c .before .before .before .pre) (l .inv .1) (h .ensures) (c .if1 .taken) in
     (omega arith, d .1)
 
--- src/masks.rt:31:1
 returns : tie.Need-returns Inv-loop μ-loop
 returns c =
     let l = c .before .before .loop in

@@ -5,23 +5,18 @@ use borrow.Author.Needs.{needs}
 use Rattle.maximal.proofs.masks.is_untrue.Statement.{statement}
 use Rattle.maximal.proofs.masks.is_untrue.Tie as tie
 
--- src/masks.rt:76:24
 row-at-requires : tie.Need-row-at-requires
 row-at-requires c κs = search needs
 
--- src/masks.rt:76:19
 enum-known-x : tie.Need-enum-known-x
 enum-known-x c = search needs
 
--- src/masks.rt:77:9
 enum-told : tie.Need-enum-told
 enum-told c = search needs
 
--- src/masks.rt:77:9
 returns : tie.Need-returns
 returns c = search needs
 
--- src/masks.rt:72:1
 returns-2 : tie.Need-returns-2
 returns-2 c =
     let y = c .before .before .before .before .before .before .before in

@@ -6,41 +6,33 @@ use borrow.Author.Needs.{needs}
 use Rattle.maximal.proofs.masks.obliged_rows.Statement.{statement}
 use Rattle.maximal.proofs.masks.obliged_rows.Tie as tie
 
--- src/masks.rt:109:24
 row-at-requires : tie.Need-row-at-requires
 row-at-requires c κs = search needs
 
--- src/masks.rt:109:19
 enum-known-x : tie.Need-enum-known-x
 enum-known-x c = search needs
 
--- src/masks.rt:110:9
 enum-told : tie.Need-enum-told
 enum-told c = search needs
 
--- src/masks.rt:110:9
 returns : tie.Need-returns
 returns c = search needs
 
--- src/masks.rt:113:24
 cast-one-row : tie.Need-cast-one-row
 cast-one-row c = search needs
 
--- src/masks.rt:113:9
 one-row-requires : tie.Need-one-row-requires
 one-row-requires c κs =
     let y = c .before .before .before .before .before in
     let k = y .before .before .before .before in
     omega (arith, box-below (k .args .property .now) (k .pre .0) (k .args .n) (k .pre .1 .0) (k .args .r) (k .pre .1 .1 .1) (y .before .before .row-at .result) _ (y .x .given .1) (y .before .before .row-at .ensures) (k .args .label) (c .before .if1 .taken))
 
--- src/masks.rt:113:9
 returns-2 : tie.Need-returns-2
 returns-2 c =
     let y = c .before .before .before .before .before .before in
     let k = y .before .before .before .before in
     rw (c .one-row .ensures) (rw (c .before .before .if1 .taken) at (obliged-rows-read (y .before .before .row-at .result) _ (row (decode-property (k .args .property .now)) (k .args .r)) (y .x .given .1) (y .before .before .row-at .ensures) (k .args .label)))
 
--- src/masks.rt:105:1
 returns-3 : tie.Need-returns-3
 returns-3 c =
     let y = c .before .before .before .before in

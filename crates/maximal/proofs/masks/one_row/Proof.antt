@@ -3,15 +3,12 @@ use borrow.Author.Needs.{needs}
 use Rattle.maximal.proofs.masks.one_row.Statement.{statement}
 use Rattle.maximal.proofs.masks.one_row.Tie as tie
 
--- src/masks.rt:27:10
 cast-result : tie.Need-cast-result
 cast-result c = search needs
 
--- src/masks.rt:27:5
 shl-result : tie.Need-shl-result
 shl-result c = search needs
 
--- src/masks.rt:23:1
 returns : tie.Need-returns
 returns c = one-shifted (c .args .r) (c .pre)
 

@@ -7,52 +7,42 @@ use borrow.Author.Needs.{needs}
 use Rattle.maximal.proofs.masks.operands_or.Statement.{statement}
 use Rattle.maximal.proofs.masks.operands_or.Tie as tie
 
--- src/masks.rt:47:24
 row-at-requires : tie.Need-row-at-requires
 row-at-requires c κs = search needs
 
--- src/masks.rt:47:19
 enum-known-x : tie.Need-enum-known-x
 enum-known-x c = search needs
 
--- src/masks.rt:48:9
 enum-told : tie.Need-enum-told
 enum-told c = search needs
 
--- src/masks.rt:48:9
 returns : tie.Need-returns
 returns c = search needs
 
--- src/masks.rt:51:24
 cast-one-row : tie.Need-cast-one-row
 cast-one-row c = search needs
 
--- src/masks.rt:51:16
 one-row-requires : tie.Need-one-row-requires
 one-row-requires c κs =
     let y = c .before .before .before .before in
     let k = y .before .before .before .before in
     omega (arith, pair-below (k .args .property .now) (k .pre .1 .1 .0) (k .args .n) (k .pre .1 .1 .1 .0) (k .args .r) (k .pre .1 .1 .1 .1 .1) (y .before .before .row-at .result) _ (y .x .given .1) (y .before .before .row-at .ensures) (omega (arith, c .before .if1 .taken, k .pre .0)) (omega (arith, c .before .if1 .taken, k .pre .1 .0)) .0)
 
--- src/masks.rt:51:48
 cast-one-row-2 : tie.Need-cast-one-row-2
 cast-one-row-2 c = search needs
 
--- src/masks.rt:51:40
 one-row-requires-2 : tie.Need-one-row-requires-2
 one-row-requires-2 c κs =
     let y = c .before .before .before .before .before .before in
     let k = y .before .before .before .before in
     omega (arith, pair-below (k .args .property .now) (k .pre .1 .1 .0) (k .args .n) (k .pre .1 .1 .1 .0) (k .args .r) (k .pre .1 .1 .1 .1 .1) (y .before .before .row-at .result) _ (y .x .given .1) (y .before .before .row-at .ensures) (omega (arith, c .before .before .before .if1 .taken, k .pre .0)) (omega (arith, c .before .before .before .if1 .taken, k .pre .1 .0)) .1)
 
--- src/masks.rt:51:9
 returns-2 : tie.Need-returns-2
 returns-2 c =
     let y = c .before .before .before .before .before .before .before in
     let k = y .before .before .before .before in
     rw (c .before .before .one-row .ensures, c .one-row2 .ensures) (rw (eq-eqb _ _ (c .before .before .before .before .if1 .taken)) at (operands-read (y .before .before .row-at .result) _ (row (decode-property (k .args .property .now)) (k .args .r)) (y .x .given .1) (y .before .before .row-at .ensures) (k .args .operator) (k .args .other)))
 
--- src/masks.rt:43:1
 returns-3 : tie.Need-returns-3
 returns-3 c =
     let y = c .before .before .before in

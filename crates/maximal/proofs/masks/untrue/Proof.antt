@@ -17,27 +17,21 @@ Inv-loop property n method flag r₀ set₀ r set = (r ≤ n) × (set ≡ mask (
 abbrev μ-loop : tie.MeasureT-loop
 μ-loop property n method flag r₀ set₀ r set = n - r
 
--- src/masks.rt:95:5
 loop-holds : tie.Need-loop-holds Inv-loop μ-loop
 loop-holds c = (omega arith, refl)
 
--- src/masks.rt:96:12
 is-untrue-requires : tie.Need-is-untrue-requires Inv-loop μ-loop
 is-untrue-requires c κs = let k = c .before .before .before in (k .pre .0, (k .pre .1 .0, (k .pre .1 .1, c .loop-test .taken)))
 
--- src/masks.rt:97:25
 one-row-requires : tie.Need-one-row-requires Inv-loop μ-loop
 one-row-requires c κs = omega arith
 
--- src/masks.rt:99:9
 add-r : tie.Need-add-r Inv-loop μ-loop
 add-r c = omega arith
 
--- src/masks.rt:95:5
 loop-less : tie.Need-loop-less Inv-loop μ-loop
 loop-less c = omega arith
 
--- src/masks.rt:95:5
 loop-again : tie.Need-loop-again Inv-loop μ-loop
 loop-again c =
     let a = c .before .before .before .before .before .args in
@@ -49,7 +43,6 @@ loop-again c =
           (λ u. u .1 ∙ mask-without v (l .r) (l .set) (l .inv .1) (sym (i .ensures) ∙ u .0 .left)) (c .if1 .came),
     )
 
--- src/masks.rt:89:1
 returns : tie.Need-returns Inv-loop μ-loop
 returns c =
     let k = c .before .before .before in

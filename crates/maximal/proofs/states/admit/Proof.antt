@@ -10,11 +10,9 @@ use borrow.Author.Needs.{needs}
 use Rattle.maximal.proofs.states.admit.Statement.{statement}
 use Rattle.maximal.proofs.states.admit.Tie as tie
 
--- src/states.rt:105:9
 supports-requires : tie.Need-supports-requires
 supports-requires c κs = search needs
 
--- src/states.rt:114:5
 enter-listed-requires : tie.Need-enter-listed-requires
 enter-listed-requires c κs =
     let k = c .before .before .before .before .before .before .before .before in
@@ -39,11 +37,9 @@ enter-listed-requires c κs =
       ),
     )
 
--- src/states.rt:92:1
 same-length : tie.Need-same-length
 same-length c = search needs
 
--- src/states.rt:92:1
 returns : tie.Need-returns
 returns c =
     let k = c .before .before .before .before .before .before .before .before .before .before .before in

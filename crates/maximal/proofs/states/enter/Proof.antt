@@ -5,27 +5,21 @@ use borrow.Author.Needs.{needs}
 use Rattle.maximal.proofs.states.enter.Statement.{statement}
 use Rattle.maximal.proofs.states.enter.Tie as tie
 
--- src/states.rt:50:9
 find-pair-requires : tie.Need-find-pair-requires
 find-pair-requires c κs = search needs
 
--- src/states.rt:52:40
 mul-put-bit : tie.Need-mul-put-bit
 mul-put-bit c = search needs
 
--- src/states.rt:52:40
 add-put-bit : tie.Need-add-put-bit
 add-put-bit c = search needs
 
--- src/states.rt:52:9
 put-bit-requires : tie.Need-put-bit-requires
 put-bit-requires c κs = search needs
 
--- src/states.rt:53:9
 same-length : tie.Need-same-length
 same-length c = search needs
 
--- src/states.rt:53:9
 returns : tie.Need-returns
 returns c =
     let k = c .before .before .before .before .before .before .before .before .before .before in
@@ -33,15 +27,12 @@ returns c =
     let f = c .before .before .before .before .before .find-pair in
     entered-again (a .s) (decode-interface (a .interface .now)) (a .property .now) (k .pre .0) (a .q) (a .c) (a .kind) (a .set) (a .work .now) (k .pre .1 .0) (k .pre .1 .1 .0) (k .pre .1 .1 .1 .0) (k .pre .1 .1 .1 .1 .0) (k .pre .1 .1 .1 .1 .1) (f .result) (f .ensures) (c .before .before .before .before .if1 .taken) (c .before .before .put-bit .last .0) (c .before .before .put-bit .ensures)
 
--- src/states.rt:56:16
 add-result : tie.Need-add-result
 add-result c = search needs
 
--- src/states.rt:56:9
 same-length-2 : tie.Need-same-length-2
 same-length-2 c = search needs
 
--- src/states.rt:56:9
 returns-2 : tie.Need-returns-2
 returns-2 c =
     let k = c .before .before .before .before .before .before .before .before in
@@ -49,35 +40,27 @@ returns-2 c =
     let f = c .before .before .before .find-pair in
     entered-past (a .s) (decode-interface (a .interface .now)) (a .property .now) (k .pre .0) (a .q) (a .c) (a .kind) (a .set) (a .work .now) (k .pre .1 .0) (k .pre .1 .1 .0) (k .pre .1 .1 .1 .0) (k .pre .1 .1 .1 .1 .0) (k .pre .1 .1 .1 .1 .1) (f .result) (f .ensures) (λ h. omega (arith, h, c .before .before .if1 .left)) (c .if2 .taken)
 
--- src/states.rt:58:5
 put8-requires : tie.Need-put8-requires
 put8-requires c κs = search needs
 
--- src/states.rt:59:5
 put32-requires : tie.Need-put32-requires
 put32-requires c κs = search needs
 
--- src/states.rt:60:36
 mul-put-bit-2 : tie.Need-mul-put-bit-2
 mul-put-bit-2 c = search needs
 
--- src/states.rt:60:36
 add-put-bit-2 : tie.Need-add-put-bit-2
 add-put-bit-2 c = search needs
 
--- src/states.rt:60:5
 put-bit-requires-2 : tie.Need-put-bit-requires-2
 put-bit-requires-2 c κs = search needs
 
--- src/states.rt:61:5
 add-result-2 : tie.Need-add-result-2
 add-result-2 c = search needs
 
--- src/states.rt:37:1
 same-length-3 : tie.Need-same-length-3
 same-length-3 c = search needs
 
--- src/states.rt:37:1
 returns-3 : tie.Need-returns-3
 returns-3 c =
     let k = c .before .before .before .before .before .before .before .before .before .before .before .before .before .before .before .before .before .before .before .before in

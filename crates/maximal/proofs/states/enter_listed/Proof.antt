@@ -15,14 +15,12 @@ Inv-loop interface property s work₀ q c kind n k₀ total₀ work k total = (k
 abbrev μ-loop : tie.MeasureT-loop
 μ-loop interface property s work₀ q c kind n k₀ total₀ work k total = n - k
 
--- src/states.rt:80:5
 loop-holds : tie.Need-loop-holds Inv-loop μ-loop
 loop-holds c =
     let k = c .before .before .before in
     let a = k .args in
     (omega arith, refl, entering-none (a .s) (decode-interface (a .interface .now)) (decode-property (a .property .now)) (a .c) (a .kind) (a .q) (a .work .now) (k .pre .1 .1 .0) (k .pre .1 .0) (k .pre .1 .1 .1 .1 .1 .0))
 
--- src/states.rt:81:13
 get32-requires : tie.Need-get32-requires Inv-loop μ-loop
 get32-requires c κs =
     let k = c .before .before .before .before .before .before in
@@ -30,7 +28,6 @@ get32-requires c κs =
     let l = c .before .before .loop in
     omega (arith, k .pre .1 .1 .1 .0, k .pre .1 .1 .1 .1 .0, l .inv .1, c .before .loop-test .taken)
 
--- src/states.rt:82:9
 enter-requires : tie.Need-enter-requires Inv-loop μ-loop
 enter-requires c κs =
     let k = c .before .before .before .before .before .before .before .before in
@@ -53,7 +50,6 @@ enter-requires c κs =
       ),
     )
 
--- src/states.rt:84:13
 same-length : tie.Need-same-length Inv-loop μ-loop
 same-length c =
     let k = c .before .before .before .before .before .before .before .before .before .before .before .before .before in
@@ -61,21 +57,17 @@ same-length c =
     let l = c .before .before .before .before .before .before .before .before .before .loop in
     c .before .before .before .before .enter .kept .1 .1 .1 .0 ∙ l .inv .1
 
--- src/states.rt:84:13
 returns : tie.Need-returns Inv-loop μ-loop
 returns c =
     let y = c .before .before .before .before .enter in
     (λ h. absurd (omega (arith, h, c .if1 .taken)), y .ensures .1)
 
--- src/states.rt:86:9
 add-k : tie.Need-add-k Inv-loop μ-loop
 add-k c = omega (arith, c .before .before .before .before .before .before .before .before .loop-test .taken)
 
--- src/states.rt:80:5
 loop-less : tie.Need-loop-less Inv-loop μ-loop
 loop-less c = omega (arith, c .before .before .before .before .before .before .before .before .loop-test .taken)
 
--- src/states.rt:80:5
 loop-again : tie.Need-loop-again Inv-loop μ-loop
 loop-again c =
     let k = c .before .before .before .before .before .before .before .before .before .before .before .before .before in
@@ -85,11 +77,9 @@ loop-again c =
     let y = c .before .before .before .before .enter in
     (omega (arith, c .before .before .before .before .before .before .before .before .loop-test .taken), y .kept .1 .1 .1 .0 ∙ l .inv .1, entering-on (a .s) (decode-interface (a .interface .now)) (decode-property (a .property .now)) (a .c) (a .kind) (a .q) (a .work .now) (l .k) (l .total) (l .work) (l .inv .2) (x .result) (x .ensures) (y .result) (y .last .1 .1 .1 .0) (omega (arith, c .if1 .left)) (y .ensures))
 
--- src/states.rt:65:1
 same-length-2 : tie.Need-same-length-2 Inv-loop μ-loop
 same-length-2 c = c .before .loop .inv .1
 
--- src/states.rt:65:1
 returns-2 : tie.Need-returns-2 Inv-loop μ-loop
 returns-2 c =
     let k = c .before .before .before .before .before in

@@ -2,15 +2,12 @@ use borrow.Author.Needs.{needs}
 use Rattle.maximal.proofs.states.is_pair.Statement.{statement}
 use Rattle.maximal.proofs.states.is_pair.Tie as tie
 
--- src/states.rt:28:6
 get8-requires : tie.Need-get8-requires
 get8-requires c κs = search needs
 
--- src/states.rt:28:39
 get32-requires : tie.Need-get32-requires
 get32-requires c κs = search needs
 
--- src/states.rt:24:1
 returns : tie.Need-returns
 returns c = rw (c .before .get8 .ensures, c .get32 .ensures)
 

@@ -15,37 +15,30 @@ Inv-loop work bytes sets from n byte set i₀ i = (i ≤ n) × ((j : ℕ) → j 
 abbrev μ-loop : tie.MeasureT-loop
 μ-loop work bytes sets from n byte set i₀ i = n - i
 
--- src/states.rt:45:5
 loop-holds : tie.Need-loop-holds Inv-loop μ-loop
 loop-holds c = (c .before .pre .0, c .before .pre .1 .1 .1)
 
--- src/states.rt:46:12
 is-pair-requires : tie.Need-is-pair-requires Inv-loop μ-loop
 is-pair-requires c κs = let p = c .before .before .before .pre in (omega (arith, p .1 .0, c .loop-test .taken), omega (arith, p .1 .1 .0, c .loop-test .taken))
 
--- src/states.rt:47:13
 returns : tie.Need-returns Inv-loop μ-loop
 returns c =
     let a = c .before .before .before .before .before .args in
     let l = c .before .before .before .loop in
     sym (least-at (is-pair (a .work .now) (a .bytes) (a .sets) (a .byte) (a .set)) (a .n) (l .i) (c .before .before .loop-test .taken) (l .inv .1) (subst T (sym (c .if1 .taken) ∙ c .before .is-pair .ensures) tt))
 
--- src/states.rt:49:9
 add-i : tie.Need-add-i Inv-loop μ-loop
 add-i c = omega (arith, c .before .before .loop-test .taken)
 
--- src/states.rt:45:5
 loop-less : tie.Need-loop-less Inv-loop μ-loop
 loop-less c = omega (arith, c .before .before .loop-test .taken)
 
--- src/states.rt:45:5
 loop-again : tie.Need-loop-again Inv-loop μ-loop
 loop-again c =
     let a = c .before .before .before .before .before .args in
     let l = c .before .before .before .loop in
     (omega (arith, c .before .before .loop-test .taken), none-on (is-pair (a .work .now) (a .bytes) (a .sets) (a .byte) (a .set)) (l .i) (l .inv .1) (sym (c .before .is-pair .ensures) ∙ c .if1 .left))
 
--- src/states.rt:32:1
 returns-2 : tie.Need-returns-2 Inv-loop μ-loop
 returns-2 c =
     let a = c .before .before .before .args in

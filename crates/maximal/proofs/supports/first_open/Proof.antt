@@ -17,19 +17,15 @@ Inv-loop property n work set r₀ r = (r ≤ n) × ((j : ℕ) → j < r → T (n
 abbrev μ-loop : tie.MeasureT-loop
 μ-loop property n work set r₀ r = n - r
 
--- src/supports.rt:58:5
 loop-holds : tie.Need-loop-holds Inv-loop μ-loop
 loop-holds c = (omega arith, λ j h. absurd (omega arith))
 
--- src/supports.rt:59:12
 has-row-requires : tie.Need-has-row-requires Inv-loop μ-loop
 has-row-requires c κs = omega arith
 
--- src/supports.rt:59:37
 get32-requires : tie.Need-get32-requires Inv-loop μ-loop
 get32-requires c κs = omega arith
 
--- src/supports.rt:60:13
 returns : tie.Need-returns Inv-loop μ-loop
 returns c =
     let k = c .before .before .before .before .before .before .before in
@@ -39,15 +35,12 @@ returns c =
     let t = sym (open-test (k .args .property .now) (k .pre .0) (k .args .n) (k .pre .1 .0) (k .pre .1 .1 .0) (k .args .work .now) (k .pre .1 .1 .1 .1) (k .args .set) (omega arith) (l .r) (h .result) (g .result) (c .before .before .before .loop-test .taken) (h .ensures) (g .ensures)) ∙ c .if1 .taken in
     lowest-open (k .args .property .now) (k .pre .0) (k .args .n) (k .pre .1 .0) (k .pre .1 .1 .0) (k .args .set) (l .r) (c .before .before .before .loop-test .taken) (l .inv .1) (subst T (sym t) tt)
 
--- src/supports.rt:62:9
 add-r : tie.Need-add-r Inv-loop μ-loop
 add-r c = omega arith
 
--- src/supports.rt:58:5
 loop-less : tie.Need-loop-less Inv-loop μ-loop
 loop-less c = omega arith
 
--- src/supports.rt:58:5
 loop-again : tie.Need-loop-again Inv-loop μ-loop
 loop-again c =
     let k = c .before .before .before .before .before .before .before in
@@ -57,7 +50,6 @@ loop-again c =
     let t = sym (open-test (k .args .property .now) (k .pre .0) (k .args .n) (k .pre .1 .0) (k .pre .1 .1 .0) (k .args .work .now) (k .pre .1 .1 .1 .1) (k .args .set) (omega arith) (l .r) (h .result) (g .result) (c .before .before .before .loop-test .taken) (h .ensures) (g .ensures)) ∙ c .if1 .left in
     (omega arith, none-on (open-at (decode-property (k .args .property .now)) (k .args .set)) (l .r) (l .inv .1) t)
 
--- src/supports.rt:53:1
 returns-2 : tie.Need-returns-2 Inv-loop μ-loop
 returns-2 c =
     let k = c .before .before .before .before in

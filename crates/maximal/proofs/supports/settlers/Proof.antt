@@ -7,15 +7,12 @@ use borrow.Author.Needs.{needs}
 use Rattle.maximal.proofs.supports.settlers.Statement.{statement}
 use Rattle.maximal.proofs.supports.settlers.Tie as tie
 
--- src/supports.rt:30:36
 one-row-requires : tie.Need-one-row-requires
 one-row-requires c κs = search needs
 
--- src/supports.rt:30:5
 operands-or-requires : tie.Need-operands-or-requires
 operands-or-requires c κs = search needs
 
--- src/supports.rt:26:1
 returns : tie.Need-returns
 returns c =
     let k = c .before .before .before in

@@ -10,26 +10,21 @@ use borrow.Author.Needs.{needs}
 use Rattle.maximal.proofs.supports.supports.Statement.{statement}
 use Rattle.maximal.proofs.supports.supports.Tie as tie
 
--- src/supports.rt:131:9
 complete-requires : tie.Need-complete-requires
 complete-requires c κs = search needs
 
--- src/supports.rt:132:9
 untrue-requires : tie.Need-untrue-requires
 untrue-requires c κs = search needs
 
--- src/supports.rt:133:5
 collect-requires : tie.Need-collect-requires
 collect-requires c κs =
     let k = c .before .before .before .before .before in
     let few : 2 ^ k .args .ors ≤ 2 ^ 12 = pow-mono (k .pre .1 .1 .1 .0) in
     (k .pre .0, (k .pre .1 .0, (k .pre .1 .1 .0, (omega arith, (k .pre .1 .1 .1 .1 .1 .0, k .pre .1 .1 .1 .1 .1 .1)))))
 
--- src/supports.rt:119:1
 same-length : tie.Need-same-length
 same-length c = search needs
 
--- src/supports.rt:119:1
 returns : tie.Need-returns
 returns c =
     let k = c .before .before .before .before .before .before .before .before in

@@ -17,39 +17,30 @@ Inv-loop property n work₀ r₀ work r = (r ≤ n) × (length work ≡ length w
 abbrev μ-loop : tie.MeasureT-loop
 μ-loop property n work₀ r₀ work r = n - r
 
--- src/supports.rt:45:5
 loop-holds : tie.Need-loop-holds Inv-loop μ-loop
 loop-holds c = (omega arith, refl, tabled-none (decode-property (c .before .before .args .property .now)) (c .before .before .args .work .now))
 
--- src/supports.rt:46:62
 one-row-requires : tie.Need-one-row-requires Inv-loop μ-loop
 one-row-requires c κs = omega arith
 
--- src/supports.rt:46:40
 complete-requires : tie.Need-complete-requires Inv-loop μ-loop
 complete-requires c κs = let k = c .before .before .before .before .before .before in (k .pre .0, (k .pre .1 .0, (k .pre .1 .1 .0, subst (λ (s : ℕ). s < 2 ^ k .args .n) (sym (c .one-row .ensures)) (pow-lt (c .before .before .loop-test .taken)))))
 
--- src/supports.rt:46:9
 put32-requires : tie.Need-put32-requires Inv-loop μ-loop
 put32-requires c κs = omega (arith, c .before .before .before .before .loop .inv .1)
 
--- src/supports.rt:47:42
 settlers-requires : tie.Need-settlers-requires Inv-loop μ-loop
 settlers-requires c κs = let k = c .before .before .before .before .before .before .before .before .before .before .before in (k .pre .0, (k .pre .1 .0, (k .pre .1 .1 .0, c .before .before .before .before .before .before .before .loop-test .taken)))
 
--- src/supports.rt:47:9
 put32-requires-2 : tie.Need-put32-requires-2 Inv-loop μ-loop
 put32-requires-2 c κs = omega (arith, c .before .before .before .before .before .before .before .before .before .loop .inv .1, c .before .before .before .before .put32 .kept .0)
 
--- src/supports.rt:48:9
 add-r : tie.Need-add-r Inv-loop μ-loop
 add-r c = omega arith
 
--- src/supports.rt:45:5
 loop-less : tie.Need-loop-less Inv-loop μ-loop
 loop-less c = omega arith
 
--- src/supports.rt:45:5
 loop-again : tie.Need-loop-again Inv-loop μ-loop
 loop-again c =
     let k = c .before .before .before .before .before .before .before .before .before .before .before .before .before .before .before in
@@ -66,11 +57,9 @@ loop-again c =
       tabled-on P (k .args .work .now) (l .work) (once .last .0) (twice .last .0) (l .r) (m .result) (s .result) (l .inv .2) few room (omega arith) (omega arith) (m .ensures ∙ ap (completion P) (c .before .before .before .before .before .before .before .before .before .one-row .ensures)) (s .ensures) (once .ensures) (twice .ensures),
     )
 
--- src/supports.rt:40:1
 same-length : tie.Need-same-length Inv-loop μ-loop
 same-length c = c .before .loop .inv .1
 
--- src/supports.rt:40:1
 returns : tie.Need-returns Inv-loop μ-loop
 returns c =
     let k = c .before .before .before .before in

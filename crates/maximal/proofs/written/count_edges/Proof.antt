@@ -14,35 +14,28 @@ Inv-loop work c limit i₀ n₀ i n = (i ≤ c) × (n ≡ tally-upto work c limi
 abbrev μ-loop : tie.MeasureT-loop
 μ-loop work c limit i₀ n₀ i n = c - i
 
--- src/written.rt:67:5
 loop-holds : tie.Need-loop-holds Inv-loop μ-loop
 loop-holds c = let a = c .before .args in (omega arith, sym (upto-none (a .work .now) (a .c) (a .limit)), omega arith)
 
--- src/written.rt:69:13
 returns : tie.Need-returns Inv-loop μ-loop
 returns c = let a = c .before .before .before .before .args in
     let l = c .before .before .loop in
     l .inv .1 ∙ sym (upto-stays (a .work .now) (a .c) (a .limit) (l .i) (a .c) (l .inv .0) (omega (arith, c .if1 .taken, l .inv .1)))
 
--- src/written.rt:71:14
 count-from-requires : tie.Need-count-from-requires Inv-loop μ-loop
 count-from-requires c κs = (c .before .loop-test .taken, c .before .before .before .before .pre)
 
--- src/written.rt:71:9
 add-n : tie.Need-add-n Inv-loop μ-loop
 add-n c = let a = c .before .before .before .before .before .args in
     let l = c .before .before .before .loop in
     omega (arith, l .inv .2, l .inv .0, c .count-from .ensures, c .before .before .before .before .before .pre .0, tally-from-le (a .work .now) (a .c) (l .i) 9 (c .before .before .before .before .before .pre .0))
 
--- src/written.rt:72:9
 add-i : tie.Need-add-i Inv-loop μ-loop
 add-i c = omega (arith, c .before .before .loop-test .taken, c .before .before .before .before .before .pre .0)
 
--- src/written.rt:67:5
 loop-less : tie.Need-loop-less Inv-loop μ-loop
 loop-less c = omega (arith, c .before .before .loop-test .taken)
 
--- src/written.rt:67:5
 loop-again : tie.Need-loop-again Inv-loop μ-loop
 loop-again c = let a = c .before .before .before .before .before .args in
     let l = c .before .before .before .loop in
@@ -52,7 +45,6 @@ loop-again c = let a = c .before .before .before .before .before .args in
       omega (arith, l .inv .2, c .count-from .ensures, tally-from-le (a .work .now) (a .c) (l .i) 9 (c .before .before .before .before .before .pre .0)),
     )
 
--- src/written.rt:61:1
 returns-2 : tie.Need-returns-2 Inv-loop μ-loop
 returns-2 c = let a = c .before .before .before .args in
     let l = c .before .loop in

@@ -14,35 +14,28 @@ Inv-loop work c i label₀ n₀ label n = (label ≤ 9) × (n ≡ tally-from wor
 abbrev μ-loop : tie.MeasureT-loop
 μ-loop work c i label₀ n₀ label n = 9 - label
 
--- src/written.rt:53:5
 loop-holds : tie.Need-loop-holds Inv-loop μ-loop
 loop-holds c = let a = c .before .args in (omega arith, sym (tally-from-none (a .work .now) (a .c) (a .i)))
 
--- src/written.rt:54:14
 count-under-requires : tie.Need-count-under-requires Inv-loop μ-loop
 count-under-requires c κs = let p = c .before .before .before .pre in (p .0, (c .loop-test .taken, (p .1 .0, p .1 .1)))
 
--- src/written.rt:54:9
 add-n : tie.Need-add-n Inv-loop μ-loop
 add-n c = let a = c .before .before .before .before .args in
     let l = c .before .before .loop in
     omega (arith, c .before .loop-test .taken, l .inv .1, c .count-under .ensures, c .before .before .before .before .pre .1 .0, tally-from-le (a .work .now) (a .c) (a .i) (l .label) (c .before .before .before .before .pre .1 .0), tally-le (leads (a .work .now) (a .i) (l .label)) (a .c))
 
--- src/written.rt:55:9
 add-label : tie.Need-add-label Inv-loop μ-loop
 add-label c = omega (arith, c .before .loop-test .taken)
 
--- src/written.rt:53:5
 loop-less : tie.Need-loop-less Inv-loop μ-loop
 loop-less c = omega (arith, c .before .loop-test .taken)
 
--- src/written.rt:53:5
 loop-again : tie.Need-loop-again Inv-loop μ-loop
 loop-again c = let a = c .before .before .before .before .args in
     let l = c .before .before .loop in
     (omega (arith, c .before .loop-test .taken), ap₂ _+_ (l .inv .1) (c .count-under .ensures) ∙ sym (tally-from-more (a .work .now) (a .c) (a .i) (l .label)) ∙ ap (tally-from (a .work .now) (a .c) (a .i)) (sym (add-one (l .label))))
 
--- src/written.rt:47:1
 returns : tie.Need-returns Inv-loop μ-loop
 returns c = let a = c .before .before .before .args in
     let l = c .before .loop in

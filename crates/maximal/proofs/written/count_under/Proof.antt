@@ -15,41 +15,33 @@ Inv-loop work c i label row t₀ n₀ t n = Before work row c (λ (m : ℕ). n �
 abbrev μ-loop : tie.MeasureT-loop
 μ-loop work c i label row t₀ n₀ t n = c - t
 
--- src/written.rt:36:9
 row-of-requires : tie.Need-row-of-requires Inv-loop μ-loop
 row-of-requires c κs = let p = c .before .pre in (omega (arith, p .0, p .1 .1 .0), (p .1 .0, p .1 .1 .1 .0))
 
--- src/written.rt:37:9
 next-bit-requires : tie.Need-next-bit-requires Inv-loop μ-loop
 next-bit-requires c κs = let p = c .before .before .pre in (p .1 .1 .0, omega (arith, c .row-of .ensures .1, p .1 .1 .1 .0))
 
--- src/written.rt:39:5
 loop-holds : tie.Need-loop-holds Inv-loop μ-loop
 loop-holds c =
     let a = c .before .before .before .args in
     let r = c .before .row-of .result in
     visit (a .work .now) r (a .c) (λ (m : ℕ). 0 ≡ tally (has-bit (a .work .now) r) m) (λ t h e x. tally-pass (has-bit (a .work .now) r) 0 t e x) 0 (c .next-bit .result) (omega arith) refl (c .next-bit .ensures)
 
--- src/written.rt:40:9
 add-n : tie.Need-add-n Inv-loop μ-loop
 add-n c =
     let a = c .before .before .before .before .before .args in
     let l = c .before .loop in
     omega (arith, l .inv .here (c .loop-test .taken), c .loop-test .taken, c .before .before .before .before .before .pre .1 .1 .0, tally-le (has-bit (a .work .now) (c .before .before .before .row-of .result)) (l .t))
 
--- src/written.rt:41:33
 add-next-bit : tie.Need-add-next-bit Inv-loop μ-loop
 add-next-bit c = omega (arith, c .loop-test .taken, c .before .before .before .before .before .pre .1 .1 .0)
 
--- src/written.rt:41:9
 next-bit-requires-2 : tie.Need-next-bit-requires-2 Inv-loop μ-loop
 next-bit-requires-2 c κs = let p = c .before .before .before .before .before .pre in (p .1 .1 .0, omega (arith, c .before .before .before .row-of .ensures .1, p .1 .1 .1 .0))
 
--- src/written.rt:39:5
 loop-less : tie.Need-loop-less Inv-loop μ-loop
 loop-less c = omega (arith, c .before .loop-test .taken, c .next-bit2 .ensures .onward)
 
--- src/written.rt:39:5
 loop-again : tie.Need-loop-again Inv-loop μ-loop
 loop-again c =
     let a = c .before .before .before .before .before .before .args in
@@ -59,7 +51,6 @@ loop-again c =
     let p = has-bit (a .work .now) r in
     visit (a .work .now) r (a .c) (λ (m : ℕ). l .n + 1 ≡ tally p m) (λ t k e x. tally-pass p (l .n + 1) t e x) (l .t + 1) (c .next-bit2 .result) (omega (arith, h)) (tally-on p (l .n) (l .t) (l .inv .is-one h) (l .inv .here h)) (c .next-bit2 .ensures)
 
--- src/written.rt:32:1
 returns : tie.Need-returns Inv-loop μ-loop
 returns c =
     let a = c .before .before .before .before .before .args in

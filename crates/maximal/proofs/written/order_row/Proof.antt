@@ -14,11 +14,9 @@ Inv-loop work row c ordered₀ t₀ ordered t = (length ordered ≡ length order
 abbrev μ-loop : tie.MeasureT-loop
 μ-loop work row c ordered₀ t₀ ordered t = c - t
 
--- src/written.rt:108:9
 next-bit-requires : tie.Need-next-bit-requires Inv-loop μ-loop
 next-bit-requires c κs = let p = c .before .before .pre in (p .1 .0, omega (arith, p .0, p .1 .1 .0))
 
--- src/written.rt:109:5
 loop-holds : tie.Need-loop-holds Inv-loop μ-loop
 loop-holds c =
     let a = c .before .before .before .args in
@@ -28,31 +26,24 @@ loop-holds c =
           (marked-none (a .c) (a .work .now) (p .0) (p .1 .0) (a .row) (a .ordered .now) (p .1 .1) (c .before .before .before .pre .1 .0)) (c .next-bit .ensures),
     )
 
--- src/written.rt:110:13
 get8-requires : tie.Need-get8-requires Inv-loop μ-loop
 get8-requires c κs = let p = c .before .before .before .before .before .pre in omega (arith, p .1 .0, p .1 .1 .0, c .loop-test .taken)
 
--- src/written.rt:111:29
 cast-put-bit : tie.Need-cast-put-bit Inv-loop μ-loop
 cast-put-bit c = omega arith
 
--- src/written.rt:111:9
 put-bit-requires : tie.Need-put-bit-requires Inv-loop μ-loop
 put-bit-requires c κs = omega (arith, c .before .before .before .loop .inv .0, ap length (c .before .before .before .before .before .before .before .pre .1 .1 .1 .1 .1), length-replicate {A = ℕ} 32 0)
 
--- src/written.rt:112:33
 add-next-bit : tie.Need-add-next-bit Inv-loop μ-loop
 add-next-bit c = omega (arith, c .before .before .before .before .before .loop-test .taken, c .before .before .before .before .before .before .before .before .before .before .pre .1 .0)
 
--- src/written.rt:112:9
 next-bit-requires-2 : tie.Need-next-bit-requires-2 Inv-loop μ-loop
 next-bit-requires-2 c κs = let p = c .before .before .before .before .before .before .before .before .before .before .pre in (p .1 .0, omega (arith, p .0, p .1 .1 .0))
 
--- src/written.rt:109:5
 loop-less : tie.Need-loop-less Inv-loop μ-loop
 loop-less c = omega (arith, c .before .before .before .before .before .before .loop-test .taken, c .next-bit2 .ensures .onward)
 
--- src/written.rt:109:5
 loop-again : tie.Need-loop-again Inv-loop μ-loop
 loop-again c =
     let a = c .before .before .before .before .before .before .before .before .before .before .before .args in
@@ -67,11 +58,9 @@ loop-again c =
           (c .next-bit2 .ensures),
     )
 
--- src/written.rt:104:1
 same-length : tie.Need-same-length Inv-loop μ-loop
 same-length c = c .before .loop .inv .0
 
--- src/written.rt:104:1
 returns : tie.Need-returns Inv-loop μ-loop
 returns c =
     let a = c .before .before .before .before .before .args in

@@ -12,37 +12,30 @@ Inv-loop work out₀ c i at label₀ end₀ out label end = (label ≤ 9) × Wro
 abbrev μ-loop : tie.MeasureT-loop
 μ-loop work out₀ c i at label₀ end₀ out label end = 9 - label
 
--- src/written.rt:127:5
 loop-holds : tie.Need-loop-holds Inv-loop μ-loop
 loop-holds c = (omega arith, wrote-none (c .before .before .args .out .now) (c .before .before .args .at))
 
--- src/written.rt:128:9
 write-under-requires : tie.Need-write-under-requires Inv-loop μ-loop
 write-under-requires c κs = let a = c .before .before .before .before .before .args in
     let p = c .before .before .before .before .before .pre in
     let l = c .before .before .loop in
     (p .0, (c .before .loop-test .taken, (p .1 .0, (p .1 .1 .0, (label-fits (a .work .now) (a .c) (a .out .now) (l .out) (a .i) (l .label) (a .at) (l .end) (l .inv .1) 9 (c .before .loop-test .taken) (p .1 .1 .1 .0), p .1 .1 .1 .1)))))
 
--- src/written.rt:129:9
 add-label : tie.Need-add-label Inv-loop μ-loop
 add-label c = omega (arith, c .before .before .before .before .loop-test .taken)
 
--- src/written.rt:127:5
 loop-less : tie.Need-loop-less Inv-loop μ-loop
 loop-less c = omega (arith, c .before .before .before .before .loop-test .taken)
 
--- src/written.rt:127:5
 loop-again : tie.Need-loop-again Inv-loop μ-loop
 loop-again c = let a = c .before .before .before .before .before .before .before .before .args in
     let l = c .before .before .before .before .before .loop in
     let x = c .before .before .write-under in
     (omega (arith, c .before .before .before .before .loop-test .taken), label-on (a .work .now) (a .c) (a .out .now) (l .out) (a .i) (l .label) (a .at) (l .end) (l .inv .1) (x .last .1 .0) (x .result) (omega (arith, c .before .before .before .before .before .before .before .before .pre .1 .1 .1 .0)) (x .ensures .1) (x .kept .1 .0) (x .ensures .0))
 
--- src/written.rt:121:1
 same-length : tie.Need-same-length Inv-loop μ-loop
 same-length c = c .before .loop .inv .1 .as-long
 
--- src/written.rt:121:1
 returns : tie.Need-returns Inv-loop μ-loop
 returns c = let a = c .before .before .before .before .args in
     let l = c .before .loop in

@@ -14,15 +14,12 @@ Inv-loop interface property work out₀ c edges i₀ end₀ out i end = (i ≤ c
 abbrev μ-loop : tie.MeasureT-loop
 μ-loop interface property work out₀ c edges i₀ end₀ out i end = c - i
 
--- src/written.rt:146:5
 write-nodes-requires : tie.Need-write-nodes-requires Inv-loop μ-loop
 write-nodes-requires c κs = let p = c .before .before .before .before .before .pre in (p .1 .1 .0 .charted .holds .few, (p .1 .0, omega (arith, p .1 .1 .1 .1 .0)))
 
--- src/written.rt:149:5
 loop-holds : tie.Need-loop-holds Inv-loop μ-loop
 loop-holds c = (omega arith, wrote-none (c .before .before .write-nodes .last .1 .0) (c .before .before .before .before .before .before .before .before .args .c))
 
--- src/written.rt:150:9
 write-from-requires : tie.Need-write-from-requires Inv-loop μ-loop
 write-from-requires c κs = let a = c .before .before .before .before .before .before .before .before .before .before .before .args in
     let p = c .before .before .before .before .before .before .before .before .before .before .before .pre in
@@ -30,26 +27,21 @@ write-from-requires c κs = let a = c .before .before .before .before .before .b
     let many = model-edges-many (decode-interface (a .interface .now)) (decode-property (a .property .now)) (file-named (a .property .now) (p .0)) (a .c) (a .work .now) (p .1 .1 .0) in
     (c .before .loop-test .taken, (p .1 .1 .0 .charted .holds .few, (p .1 .0, (state-fits (a .work .now) (a .c) (c .before .before .before .before .before .write-nodes .last .1 .0) (l .out) (l .i) (l .end) (l .inv .1) (c .before .loop-test .taken) (omega (arith, p .1 .1 .1 .0, p .1 .1 .1 .1 .0, c .before .before .before .before .before .write-nodes .kept .1 .0, many)), (p .1 .1 .0 .ordered, p .1 .1 .1 .1 .1)))))
 
--- src/written.rt:151:9
 add-i : tie.Need-add-i Inv-loop μ-loop
 add-i c = omega (arith, c .before .before .before .before .loop-test .taken)
 
--- src/written.rt:149:5
 loop-less : tie.Need-loop-less Inv-loop μ-loop
 loop-less c = omega (arith, c .before .before .before .before .loop-test .taken)
 
--- src/written.rt:149:5
 loop-again : tie.Need-loop-again Inv-loop μ-loop
 loop-again c = let a = c .before .before .before .before .before .before .before .before .before .before .before .before .before .before .args in
     let l = c .before .before .before .before .before .loop in
     let x = c .before .before .write-from in
     (omega (arith, c .before .before .before .before .loop-test .taken), state-on (a .work .now) (a .c) (c .before .before .before .before .before .before .before .before .write-nodes .last .1 .0) (l .out) (l .i) (l .end) (l .inv .1) (x .last .1 .0) (x .result) (omega (arith, c .before .before .before .before .before .before .before .before .before .before .before .before .before .before .pre .1 .1 .1 .1 .0, c .before .before .before .before .before .before .before .before .write-nodes .kept .1 .0)) (x .ensures .1) (x .kept .1 .0) (x .ensures .0))
 
--- src/written.rt:135:1
 same-length : tie.Need-same-length Inv-loop μ-loop
 same-length c = c .before .loop .inv .1 .as-long ∙ c .before .before .before .before .write-nodes .kept .1 .0
 
--- src/written.rt:135:1
 returns : tie.Need-returns Inv-loop μ-loop
 returns c = let a = c .before .before .before .before .before .before .before .before .before .before .args in
     let p = c .before .before .before .before .before .before .before .before .before .before .pre in

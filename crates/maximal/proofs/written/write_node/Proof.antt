@@ -8,39 +8,30 @@ use borrow.Author.Needs.{needs}
 use Rattle.maximal.proofs.written.write_node.Statement.{statement}
 use Rattle.maximal.proofs.written.write_node.Tie as tie
 
--- src/written.rt:82:17
 get8-requires : tie.Need-get8-requires
 get8-requires c κs = search needs
 
--- src/written.rt:82:17
 cast-state : tie.Need-cast-state
 cast-state c = search needs
 
--- src/written.rt:83:9
 get8-requires-2 : tie.Need-get8-requires-2
 get8-requires-2 c κs = search needs
 
--- src/written.rt:85:39
 mul-has-bit : tie.Need-mul-has-bit
 mul-has-bit c = search needs
 
--- src/written.rt:85:39
 add-has-bit : tie.Need-add-has-bit
 add-has-bit c = search needs
 
--- src/written.rt:85:8
 has-bit-requires : tie.Need-has-bit-requires
 has-bit-requires c κs = search needs
 
--- src/written.rt:88:5
 put-six-requires : tie.Need-put-six-requires
 put-six-requires c κs = search needs
 
--- src/written.rt:78:1
 same-length : tie.Need-same-length
 same-length c = search needs
 
--- src/written.rt:78:1
 returns : tie.Need-returns
 returns c = let a = c .before .before .before .before .before .before .before .before .before .before .args in
     let e : c .before .before .before .before .if1 .entry ≡ one (c .before .before .before .before .before .has-bit .result) = ⊎-elim (λ u. u .1 ∙ ap one (sym (u .0 .taken))) (λ u. u .1 ∙ ap one (sym (u .0 .left))) (c .before .before .before .before .if1 .came) in

@@ -13,33 +13,26 @@ Inv-loop work out₀ c i₀ out i = (i ≤ c) × Wrote out₀ out 0 i (nodes-byt
 abbrev μ-loop : tie.MeasureT-loop
 μ-loop work out₀ c i₀ out i = c - i
 
--- src/written.rt:97:5
 loop-holds : tie.Need-loop-holds Inv-loop μ-loop
 loop-holds c = (omega arith, wrote-none (c .before .before .args .out .now) 0)
 
--- src/written.rt:98:9
 write-node-requires : tie.Need-write-node-requires Inv-loop μ-loop
 write-node-requires c κs = let p = c .before .before .before .before .before .pre in let t = c .before .loop-test .taken in (omega (arith, t, p .0), (p .1 .0, omega (arith, t, p .1 .1, c .before .before .loop .inv .1 .as-long)))
 
--- src/written.rt:99:9
 add-i : tie.Need-add-i Inv-loop μ-loop
 add-i c = omega (arith, c .before .before .before .before .loop-test .taken, c .before .before .before .before .before .before .before .before .pre .0)
 
--- src/written.rt:97:5
 loop-less : tie.Need-loop-less Inv-loop μ-loop
 loop-less c = omega (arith, c .before .before .before .before .loop-test .taken)
 
--- src/written.rt:97:5
 loop-again : tie.Need-loop-again Inv-loop μ-loop
 loop-again c = let a = c .before .before .before .before .before .before .before .before .args in
     let l = c .before .before .before .before .before .loop in
     (omega (arith, c .before .before .before .before .loop-test .taken), node-on (a .work .now) (a .out .now) (l .out) (c .before .before .write-node .last .1 .0) (l .i) (l .inv .1) (c .before .before .write-node .ensures) (c .before .before .write-node .kept .1 .0))
 
--- src/written.rt:92:1
 same-length : tie.Need-same-length Inv-loop μ-loop
 same-length c = c .before .loop .inv .1 .as-long
 
--- src/written.rt:92:1
 returns : tie.Need-returns Inv-loop μ-loop
 returns c = let a = c .before .before .before .before .args in
     let l = c .before .loop in

@@ -15,27 +15,21 @@ Inv-loop work out₀ c i label at ordered j₀ end₀ out j end = Before ordered
 abbrev μ-loop : tie.MeasureT-loop
 μ-loop work out₀ c i label at ordered j₀ end₀ out j end = c - j
 
--- src/written.rt:122:21
 row-of-requires : tie.Need-row-of-requires Inv-loop μ-loop
 row-of-requires c κs = let p = c .before .before .pre in (omega (arith, p .0, p .1 .1 .0), (p .1 .0, p .1 .1 .1 .0))
 
--- src/written.rt:122:48
 slice-aggregate-order-row : tie.Need-slice-aggregate-order-row Inv-loop μ-loop
 slice-aggregate-order-row c = refl
 
--- src/written.rt:122:5
 order-row-requires : tie.Need-order-row-requires Inv-loop μ-loop
 order-row-requires c κs = let p = c .before .before .before .before .pre in (c .before .row-of .ensures .1, (p .1 .1 .0, (p .1 .1 .1 .0, (p .1 .1 .1 .1 .1 .0, (p .1 .1 .1 .1 .1 .1, refl)))))
 
--- src/written.rt:123:26
 slice-aggregate-next-bit : tie.Need-slice-aggregate-next-bit Inv-loop μ-loop
 slice-aggregate-next-bit c = search needs
 
--- src/written.rt:123:9
 next-bit-requires : tie.Need-next-bit-requires Inv-loop μ-loop
 next-bit-requires c κs = (c .before .before .before .before .before .before .before .pre .1 .1 .0, omega (arith, c .before .before .order-row .kept .1 .1 .1 .0))
 
--- src/written.rt:125:5
 loop-holds : tie.Need-loop-holds Inv-loop μ-loop
 loop-holds c =
     let a = c .before .before .before .before .before .before .before .before .args in
@@ -44,19 +38,15 @@ loop-holds c =
     let is = leads-row (a .c) (a .work .now) (p .1 .1 .1 .1 .1 .0) (p .1 .1 .1 .1 .1 .1) (c .before .before .before .before .before .row-of .result) (c .before .before .before .order-row .last .1 .1 .1 .0) (c .before .before .before .order-row .ensures) (a .i) (a .label) (c .before .before .before .before .before .row-of .ensures .0) in
     visit row 0 (a .c) (λ (m : ℕ). Wrote (a .out .now) (a .out .now) (a .at) (a .at) (under-bytes (a .work .now) m (a .i) (a .label))) (λ t h e x. edge-off (a .work .now) (a .out .now) (a .out .now) (a .i) (a .label) t (a .at) (a .at) x (sym e ∙ is t h)) 0 (c .next-bit .result) (omega arith) (wrote-none (a .out .now) (a .at)) (c .next-bit .ensures)
 
--- src/written.rt:126:30
 cast-put-six : tie.Need-cast-put-six Inv-loop μ-loop
 cast-put-six c = let p = c .before .before .before .before .before .before .before .before .before .before .before .pre in omega (arith, p .0, p .1 .1 .0)
 
--- src/written.rt:126:39
 cast-put-six-2 : tie.Need-cast-put-six-2 Inv-loop μ-loop
 cast-put-six-2 c = let p = c .before .before .before .before .before .before .before .before .before .before .before .pre in omega (arith, p .1 .0)
 
--- src/written.rt:126:52
 cast-put-six-3 : tie.Need-cast-put-six-3 Inv-loop μ-loop
 cast-put-six-3 c = let p = c .before .before .before .before .before .before .before .before .before .before .before .pre in omega (arith, c .before .loop-test .taken, p .1 .1 .0)
 
--- src/written.rt:126:9
 put-six-requires : tie.Need-put-six-requires Inv-loop μ-loop
 put-six-requires c κs =
     let a = c .before .before .before .before .before .before .before .before .before .before .before .args in
@@ -66,7 +56,6 @@ put-six-requires c κs =
     let is = leads-row (a .c) (a .work .now) (p .1 .1 .1 .1 .1 .0) (p .1 .1 .1 .1 .1 .1) (c .before .before .before .before .before .before .before .before .row-of .result) (c .before .before .before .before .before .before .order-row .last .1 .1 .1 .0) (c .before .before .before .before .before .before .order-row .ensures) (a .i) (a .label) (c .before .before .before .before .before .before .before .before .row-of .ensures .0) in
     edge-fits (a .work .now) (a .out .now) (l .out) (a .i) (a .label) (l .j) (a .at) (l .end) (l .inv .here h) (a .c) h (sym (l .inv .is-one h) ∙ is (l .j) h) (p .1 .1 .1 .1 .0)
 
--- src/written.rt:127:9
 add-end : tie.Need-add-end Inv-loop μ-loop
 add-end c =
     let a = c .before .before .before .before .before .before .before .before .before .before .before .before .before .before .args in
@@ -76,23 +65,18 @@ add-end c =
     let is = leads-row (a .c) (a .work .now) (p .1 .1 .1 .1 .1 .0) (p .1 .1 .1 .1 .1 .1) (c .before .before .before .before .before .before .before .before .before .before .before .row-of .result) (c .before .before .before .before .before .before .before .before .before .order-row .last .1 .1 .1 .0) (c .before .before .before .before .before .before .before .before .before .order-row .ensures) (a .i) (a .label) (c .before .before .before .before .before .before .before .before .before .before .before .row-of .ensures .0) in
     omega (arith, l .inv .here h .as-long, edge-fits (a .work .now) (a .out .now) (l .out) (a .i) (a .label) (l .j) (a .at) (l .end) (l .inv .here h) (a .c) h (sym (l .inv .is-one h) ∙ is (l .j) h) (p .1 .1 .1 .1 .0))
 
--- src/written.rt:128:22
 slice-aggregate-next-bit-2 : tie.Need-slice-aggregate-next-bit-2 Inv-loop μ-loop
 slice-aggregate-next-bit-2 c = search needs
 
--- src/written.rt:128:35
 add-next-bit : tie.Need-add-next-bit Inv-loop μ-loop
 add-next-bit c = omega (arith, c .before .before .before .before .before .loop-test .taken, c .before .before .before .before .before .before .before .before .before .before .before .before .before .before .before .pre .1 .1 .0)
 
--- src/written.rt:128:9
 next-bit-requires-2 : tie.Need-next-bit-requires-2 Inv-loop μ-loop
 next-bit-requires-2 c κs = (c .before .before .before .before .before .before .before .before .before .before .before .before .before .before .before .pre .1 .1 .0, omega (arith, c .before .before .before .before .before .before .before .before .before .before .order-row .kept .1 .1 .1 .0))
 
--- src/written.rt:125:5
 loop-less : tie.Need-loop-less Inv-loop μ-loop
 loop-less c = omega (arith, c .before .before .before .before .before .before .loop-test .taken, c .next-bit2 .ensures .onward)
 
--- src/written.rt:125:5
 loop-again : tie.Need-loop-again Inv-loop μ-loop
 loop-again c =
     let a = c .before .before .before .before .before .before .before .before .before .before .before .before .before .before .before .before .args in
@@ -105,11 +89,9 @@ loop-again c =
     visit row 0 (a .c) (λ (m : ℕ). Wrote (a .out .now) (y .last .0) (a .at) (l .end + 1) (under-bytes (a .work .now) m (a .i) (a .label))) (λ t k e x. edge-off (a .work .now) (a .out .now) (y .last .0) (a .i) (a .label) t (a .at) (l .end + 1) x (sym e ∙ is t k)) (l .j + 1) (c .next-bit2 .result) (omega (arith, h))
     (edge-on (a .work .now) (a .out .now) (l .out) (a .i) (a .label) (l .j) (a .at) (l .end) (l .inv .here h) (y .last .0) (l .end + 1) (omega (arith, p .1 .1 .1 .1 .0)) (sym (l .inv .is-one h) ∙ is (l .j) h) (y .ensures) (y .kept .0) refl) (c .next-bit2 .ensures)
 
--- src/written.rt:117:1
 same-length : tie.Need-same-length Inv-loop μ-loop
 same-length c = c .before .loop .inv .all (omega (arith, c .loop-test .left)) .as-long
 
--- src/written.rt:117:1
 returns : tie.Need-returns Inv-loop μ-loop
 returns c =
     let a = c .before .before .before .before .before .before .before .before .before .before .args in

@@ -11,19 +11,15 @@ use Rattle.runs.proofs.checks.check_side.Tie as tie
 use Rattle.files.proofs.check.check_interface.Reads as check-interface-reads
 use Rattle.runs.proofs.checks.then_check.Reads as then-check-reads
 
--- src/checks.rt:44:9
 check-interface-requires : tie.Need-check-interface-requires
 check-interface-requires c κs = search needs
 
--- src/checks.rt:45:48
 add-then-check : tie.Need-add-then-check
 add-then-check c = search needs
 
--- src/checks.rt:45:5
 then-check-requires : tie.Need-then-check-requires
 then-check-requires c κs = search needs
 
--- src/checks.rt:40:1
 returns : tie.Need-returns
 returns c = let a = c .before .before .before .before .args in c .then-check .ensures ∙ ap (λ (x : Checked). then-checked x (checked (a .limits) graph (a .graph .now) (a .position + 1))) (c .before .check-interface .ensures)
 

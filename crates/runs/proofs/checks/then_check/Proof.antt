@@ -9,23 +9,18 @@ use Rattle.runs.proofs.checks.then_check.Statement.{statement}
 use Rattle.runs.proofs.checks.then_check.Tie as tie
 use Rattle.files.proofs.check.check.Reads as check-reads
 
--- src/checks.rt:34:26
 enum-known-first : tie.Need-enum-known-first
 enum-known-first c = search needs
 
--- src/checks.rt:35:37
 enum-told : tie.Need-enum-told
 enum-told c = search needs
 
--- src/checks.rt:35:37
 check-requires : tie.Need-check-requires
 check-requires c κs = search needs
 
--- src/checks.rt:24:1
 returns : tie.Need-returns
 returns c = let a = c .before .before .before .before .args in sym (ap (λ (x : Checked). then-checked x (checked (a .limits) (kind-of (a .kind)) (a .file .now) (a .position))) (c .before .first .given .1))
 
--- src/checks.rt:24:1
 returns-2 : tie.Need-returns-2
 returns-2 c = let a = c .before .before .before .before .args in c .check .ensures ∙ sym (ap (λ (x : Checked). then-checked x (checked (a .limits) (kind-of (a .kind)) (a .file .now) (a .position))) (c .before .enum-told .given .1))
 

@@ -12,27 +12,21 @@ use Rattle.runs.proofs.checks.check_side.Reads as check-side-reads
 use Rattle.runs.proofs.checks.then_check.Reads as then-check-reads
 use Rattle.runs.proofs.checks.then_checked.Reads as then-checked-reads
 
--- src/composing.rt:159:9
 check-side-requires : tie.Need-check-side-requires
 check-side-requires c κs = search needs
 
--- src/composing.rt:160:9
 then-check-requires : tie.Need-then-check-requires
 then-check-requires c κs = search needs
 
--- src/composing.rt:161:9
 then-check-requires-2 : tie.Need-then-check-requires-2
 then-check-requires-2 c κs = search needs
 
--- src/composing.rt:162:9
 then-check-requires-3 : tie.Need-then-check-requires-3
 then-check-requires-3 c κs = search needs
 
--- src/composing.rt:163:5
 then-checked-requires : tie.Need-then-checked-requires
 then-checked-requires c κs = search needs
 
--- src/composing.rt:149:1
 returns : tie.Need-returns
 returns c = let a = c .before .before .before .before .before .before .before .before .before .before .args in
     let is-side = c .before .before .before .before .check-side .ensures in

@@ -21,48 +21,37 @@ use Rattle.runs.proofs.watching.watch_runs.Reads as watch-runs-reads
 abbrev second : Sizes → List ℕ → List ℕ
 second s l = take (6 * (s .nodes2 + s .edges2)) l
 
--- src/composing.rt:54:17
 add-nodes : tie.Need-add-nodes
 add-nodes c = search needs
 
--- src/composing.rt:55:17
 add-edges : tie.Need-add-edges
 add-edges c = search needs
 
--- src/composing.rt:57:33
 whole-requires : tie.Need-whole-requires
 whole-requires c κs = search needs
 
--- src/composing.rt:57:9
 returns : tie.Need-returns
 returns c = let k = c .before .before .before .before .before .before .before .before .before .before .before in let a = k .args in joined-large (a .limits) (a .s) (a .graph .now) (second (a .s) (a .store .now)) (a .rules .now) (a .start) (a .out .now) (k .pre .0) (c .before .if1 .taken) (c .whole .result) (c .whole .ensures)
 
--- src/composing.rt:59:33
 add-second : tie.Need-add-second
 add-second c = search needs
 
--- src/composing.rt:59:18
 mul-second : tie.Need-mul-second
 mul-second c = search needs
 
--- src/composing.rt:60:30
 add-end : tie.Need-add-end
 add-end c = search needs
 
--- src/composing.rt:60:15
 mul-end : tie.Need-mul-end
 mul-end c = search needs
 
--- src/composing.rt:61:23
 slice-reshare-prefix-write-join : tie.Need-slice-reshare-prefix-write-join
 slice-reshare-prefix-write-join c = search needs
 
--- src/composing.rt:61:23
 slice-aggregate-write-join : tie.Need-slice-aggregate-write-join
 slice-aggregate-write-join c = let k = c .before .before .before .before .before .before .before .before .before .before .before .before in
     sym (length-take-le (6 * (k .args .s .nodes2 + k .args .s .edges2)) (k .args .store .now) (omega (arith, k .pre .0 .few-second-nodes, k .pre .0 .few-second-edges, k .pre .1 .1 .1 .0)))
 
--- src/composing.rt:61:5
 write-join-requires : tie.Need-write-join-requires
 write-join-requires c κs = let k = c .before .before .before .before .before .before .before .before .before .before .before .before .before in
     let a = k .args in
@@ -70,37 +59,30 @@ write-join-requires c κs = let k = c .before .before .before .before .before .b
     let e = edges-few (a .limits) (a .s) (a .graph .now) (second (a .s) (a .store .now)) (k .pre .0) (c .before .before .before .if1 .left) in
     (k .pre .0, (omega (arith, n, k .pre .1 .1 .0 .nodes-fit), omega (arith, n, e, k .pre .1 .1 .0 .nodes-fit, k .pre .1 .1 .0 .edges-fit, k .pre .1 .1 .1 .1)))
 
--- src/composing.rt:66:16
 slice-reshare-prefix-watch-runs : tie.Need-slice-reshare-prefix-watch-runs
 slice-reshare-prefix-watch-runs c = search needs
 
--- src/composing.rt:66:16
 slice-aggregate-watch-runs : tie.Need-slice-aggregate-watch-runs
 slice-aggregate-watch-runs c = let k = c .before .before .before .before .before .before .before .before .before .before .before .before .before .before .before .before .before in
     let a = k .args in
     let w = c .before .before .before .write-join in
     sym (joined-length (a .limits) (a .s) (a .graph .now) (second (a .s) (a .store .now)) (a .rules .now) (a .start) (a .out .now) (k .pre .0) (c .before .before .before .before .before .before .before .if1 .left) (a .work .now) (w .last .1 .1 .1 .0) (w .ensures))
 
--- src/composing.rt:66:5
 watch-runs-requires : tie.Need-watch-runs-requires
 watch-runs-requires c κs = let k = c .before .before .before .before .before .before .before .before .before .before .before .before .before .before .before .before .before .before .before in
     let a = k .args in
     let w = c .before .before .before .before .before .write-join in
     (joined-ready (a .limits) (a .s) (a .graph .now) (second (a .s) (a .store .now)) (a .rules .now) (a .start) (a .out .now) (k .pre .0) (c .before .before .before .before .before .before .before .before .before .if1 .left) (a .work .now) (w .last .1 .1 .1 .0) (w .ensures) (k .pre .1 .0) (k .pre .1 .1 .0), k .pre .1 .1 .1 .0)
 
--- src/composing.rt:41:1
 same-length : tie.Need-same-length
 same-length c = search needs
 
--- src/composing.rt:41:1
 same-length-2 : tie.Need-same-length-2
 same-length-2 c = search needs
 
--- src/composing.rt:41:1
 same-length-3 : tie.Need-same-length-3
 same-length-3 c = search needs
 
--- src/composing.rt:41:1
 returns-2 : tie.Need-returns-2
 returns-2 c = let k = c .before .before .before .before .before .before .before .before .before .before .before .before .before .before .before .before .before .before .before .before .before .before .before .before in
     let a = k .args in

@@ -22,7 +22,6 @@ Inv-loop graph rules s work g j₀ last set₀ j set = (first-edge (decode-graph
 abbrev μ-loop : tie.MeasureT-loop
 μ-loop graph rules s work g j₀ last set₀ j set = last - j
 
--- src/entered.rt:33:17
 get16-requires : tie.Need-get16-requires Inv-loop μ-loop
 get16-requires c κs =
     let k = c .before .before .before in
@@ -30,11 +29,9 @@ get16-requires c κs =
     let hn = node-in (a .s) (a .graph .now) (a .rules .now) (k .pre .0) (a .g) (k .pre .1 .0) in
     first-fits (a .s) (a .graph .now) (a .rules .now) (k .pre .0) (a .g) (a .work .now) hn (k .pre .1 .1 .0)
 
--- src/entered.rt:33:17
 cast-j : tie.Need-cast-j Inv-loop μ-loop
 cast-j c = search needs
 
--- src/entered.rt:34:45
 add-get16 : tie.Need-add-get16 Inv-loop μ-loop
 add-get16 c =
     let k = c .before .before .before .before in
@@ -42,7 +39,6 @@ add-get16 c =
     let hn = node-in (a .s) (a .graph .now) (a .rules .now) (k .pre .0) (a .g) (k .pre .1 .0) in
     omega (arith, node-small (a .s) (a .graph .now) (a .rules .now) (k .pre .0) (a .g) hn)
 
--- src/entered.rt:34:16
 get16-requires-2 : tie.Need-get16-requires-2 Inv-loop μ-loop
 get16-requires-2 c κs =
     let k = c .before .before .before .before in
@@ -50,11 +46,9 @@ get16-requires-2 c κs =
     let hn = node-in (a .s) (a .graph .now) (a .rules .now) (k .pre .0) (a .g) (k .pre .1 .0) in
     last-fits (a .s) (a .graph .now) (a .rules .now) (k .pre .0) (a .g) (a .work .now) hn (k .pre .1 .1 .0)
 
--- src/entered.rt:34:16
 cast-last : tie.Need-cast-last Inv-loop μ-loop
 cast-last c = search needs
 
--- src/entered.rt:36:5
 loop-holds : tie.Need-loop-holds Inv-loop μ-loop
 loop-holds c =
     let k = c .before .before .before .before .before in
@@ -68,7 +62,6 @@ loop-holds c =
           (a .g) _ f,
     )
 
--- src/entered.rt:37:29
 edge-at-requires : tie.Need-edge-at-requires Inv-loop μ-loop
 edge-at-requires c κs =
     let k = c .before .before .before .before .before .before .before in
@@ -78,23 +71,18 @@ edge-at-requires c κs =
     let d = edge-owned (a .s) (a .graph .now) (a .rules .now) (k .pre .0) (a .g) (a .work .now) hn _ (l .j) (k .pre .1 .1 .1) (c .before .before .get162 .ensures) (l .inv .0) (c .loop-test .taken) in
     (k .pre .0 .graph-file, k .pre .0 .nodes-are, omega (arith, d .0, k .pre .0 .edges-are, k .pre .0 .nodes-are))
 
--- src/entered.rt:37:24
 enum-known-e : tie.Need-enum-known-e Inv-loop μ-loop
 enum-known-e c = search needs
 
--- src/entered.rt:38:13
 enum-told : tie.Need-enum-told Inv-loop μ-loop
 enum-told c = search needs
 
--- src/entered.rt:38:13
 returns : tie.Need-returns Inv-loop μ-loop
 returns c = absurd (edge-read (c .before .before .edge-at .result) _ _ (c .before .before .edge-at .ensures) (c .enum-told .given .1))
 
--- src/entered.rt:41:35
 sub-one-state : tie.Need-sub-one-state Inv-loop μ-loop
 sub-one-state c = search needs
 
--- src/entered.rt:41:25
 one-state-requires : tie.Need-one-state-requires Inv-loop μ-loop
 one-state-requires c κs =
     let k = c .before .before .before .before .before .before .before .before .before .before .before .before .before .before in
@@ -112,15 +100,12 @@ one-state-requires c κs =
           (member-edge (a .s) (a .graph .now) (a .rules .now) (k .pre .0) (l .j) (d .0)),
     )
 
--- src/entered.rt:43:9
 add-j : tie.Need-add-j Inv-loop μ-loop
 add-j c = omega (arith, c .before .before .before .before .before .before .loop-test .taken)
 
--- src/entered.rt:36:5
 loop-less : tie.Need-loop-less Inv-loop μ-loop
 loop-less c = omega (arith, c .before .before .before .before .before .before .loop-test .taken)
 
--- src/entered.rt:36:5
 loop-again : tie.Need-loop-again Inv-loop μ-loop
 loop-again c =
     let k = c .before .before .before .before .before .before .before .before .before .before .before .before .before in
@@ -140,7 +125,6 @@ loop-again c =
           (called-same (decode-graph (a .graph .now)) (watch (decode-rules (a .rules .now))) (a .g) (l .j) (l .set) (l .inv .0) (l .inv .2) _ lab (omega (arith, u .0 .left)))) (c .if1 .came),
     )
 
--- src/entered.rt:29:1
 returns-2 : tie.Need-returns-2 Inv-loop μ-loop
 returns-2 c =
     let k = c .before .before .before .before .before .before .before in

@@ -12,7 +12,6 @@ use borrow.Author.Needs.{needs}
 use Rattle.runs.proofs.entered.enter.Statement.{statement}
 use Rattle.runs.proofs.entered.enter.Tie as tie
 
--- src/entered.rt:125:25
 node-at-requires : tie.Need-node-at-requires
 node-at-requires c κs =
     let k = c .before .before .before in
@@ -20,19 +19,15 @@ node-at-requires c κs =
     let at = k .pre .1 .1 .1 .1 .0 in
     (k .pre .0 .graph-file, node-readable (a .s) (a .graph .now) (a .rules .now) (k .pre .0) (a .g) (at .at-node))
 
--- src/entered.rt:125:20
 enum-known-v : tie.Need-enum-known-v
 enum-known-v c = search needs
 
--- src/entered.rt:126:9
 enum-told : tie.Need-enum-told
 enum-told c = search needs
 
--- src/entered.rt:126:9
 returns : tie.Need-returns
 returns c = absurd (node-read (c .before .before .node-at .result) _ _ (c .before .before .node-at .ensures) (c .enum-told .given .1))
 
--- src/entered.rt:128:9
 step-requires : tie.Need-step-requires
 step-requires c κs =
     let k = c .before .before .before .before .before .before .before .before in
@@ -44,19 +39,15 @@ step-requires c κs =
     let f = method-fits (a .s) (a .graph .now) (a .rules .now) (k .pre .0) (a .g) _ (at .at-node) v in
     (k .pre .1 .1 .1 .1 .1 .searching .tables .steps, (k .pre .1 .1 .1 .1 .1 .searching .room, (at .now-small, (omega arith, (omega arith, (f .0, (f .1, (k .pre .1 .0, k .pre .1 .1 .0))))))))
 
--- src/entered.rt:129:14
 mul-at : tie.Need-mul-at
 mul-at c = search needs
 
--- src/entered.rt:129:33
 cast-at : tie.Need-cast-at
 cast-at c = search needs
 
--- src/entered.rt:129:14
 add-at : tie.Need-add-at
 add-at c = search needs
 
--- src/entered.rt:130:8
 has-bit-requires : tie.Need-has-bit-requires
 has-bit-requires c κs =
     let k = c .before .before .before .before .before .before .before .before .before .before in
@@ -74,11 +65,9 @@ has-bit-requires c κs =
       k .pre .1 .1 .1 .1 .1 .searching .room,
     )
 
--- src/entered.rt:131:9
 same-length : tie.Need-same-length
 same-length c = search needs
 
--- src/entered.rt:131:9
 returns-2 : tie.Need-returns-2
 returns-2 c =
     let k = c .before .before .before .before .before .before .before .before .before .before .before .before in
@@ -91,7 +80,6 @@ returns-2 c =
     entered-before (a .s) (a .graph .now) (a .rules .now) (k .pre .0) (a .start) (a .head) (a .tail) (a .work .now) (a .g) (a .q) at (a .l) (k .pre .1 .0) (k .pre .1 .1 .1 .0)
     (c .before .before .before .step .result) d (k .pre .1 .1 .0) (k .pre .1 .1 .1 .1 .1) (c .before .has-bit .result) (c .before .has-bit .ensures) (c .if1 .taken)
 
--- src/entered.rt:133:9
 look-entries-requires : tie.Need-look-entries-requires
 look-entries-requires c κs =
     let k = c .before .before .before .before .before .before .before .before .before .before .before .before .before in
@@ -103,7 +91,6 @@ look-entries-requires c κs =
     let d = c .before .before .before .before .step .ensures ∙ ap (λ (i : ℕ). watch (decode-rules (a .rules .now)) (a .q) (calls i (a .l))) v in
     (k .pre .0, (k .pre .1 .0, (k .pre .1 .1 .0, (k .pre .1 .1 .1 .0, (d, (at, k .pre .1 .1 .1 .1 .1))))))
 
--- src/entered.rt:134:5
 put-bit-requires : tie.Need-put-bit-requires
 put-bit-requires c κs =
     let k = c .before .before .before .before .before .before .before .before .before .before .before .before .before .before .before .before .before in
@@ -124,11 +111,9 @@ put-bit-requires c κs =
           .1 .1 .1 .0,
     )
 
--- src/entered.rt:110:1
 same-length-2 : tie.Need-same-length-2
 same-length-2 c = search needs
 
--- src/entered.rt:110:1
 returns-3 : tie.Need-returns-3
 returns-3 c =
     let k = c .before .before .before .before .before .before .before .before .before .before .before .before .before .before .before .before .before .before .before .before in

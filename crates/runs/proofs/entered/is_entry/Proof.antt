@@ -8,23 +8,18 @@ use borrow.Author.Needs.{needs}
 use Rattle.runs.proofs.entered.is_entry.Statement.{statement}
 use Rattle.runs.proofs.entered.is_entry.Tie as tie
 
--- src/entered.rt:53:25
 node-at-requires : tie.Need-node-at-requires
 node-at-requires c κs = search needs
 
--- src/entered.rt:53:20
 enum-known-v : tie.Need-enum-known-v
 enum-known-v c = search needs
 
--- src/entered.rt:54:9
 enum-told : tie.Need-enum-told
 enum-told c = search needs
 
--- src/entered.rt:54:9
 returns : tie.Need-returns
 returns c = search needs
 
--- src/entered.rt:49:1
 returns-2 : tie.Need-returns-2
 returns-2 c =
     let a = c .before .before .before .before .before .before .before .before .args in

@@ -20,29 +20,24 @@ Inv-loop graph rules s work₀ start tail head g q set l₀ end₀ work l end = 
 abbrev μ-loop : tie.MeasureT-loop
 μ-loop graph rules s work₀ start tail head g q set l₀ end₀ work l end = 9 - l
 
--- src/entered.rt:156:5
 loop-holds : tie.Need-loop-holds Inv-loop μ-loop
 loop-holds c = let a = c .before .before .before .args in (omega arith, omega arith, series-start (decode-graph (a .graph .now)) (watch (decode-rules (a .rules .now))) (a .start) (a .head) (the-entereds (decode-graph (a .graph .now)) (watch (decode-rules (a .rules .now))) (a .start) (place (a .g) (a .q))) (a .tail) (a .work .now) 1 refl)
 
--- src/entered.rt:157:28
 sub-has-state : tie.Need-sub-has-state Inv-loop μ-loop
 sub-has-state c =
     let l = c .before .loop in
     omega (arith, l .inv .0)
 
--- src/entered.rt:157:27
 cast-has-state : tie.Need-cast-has-state Inv-loop μ-loop
 cast-has-state c =
     let l = c .before .loop in
     omega (arith, l .inv .0)
 
--- src/entered.rt:157:12
 has-state-requires : tie.Need-has-state-requires Inv-loop μ-loop
 has-state-requires c κs =
     let l = c .before .loop in
     omega (arith, l .inv .0, c .loop-test .taken)
 
--- src/entered.rt:158:13
 enter-requires : tie.Need-enter-requires Inv-loop μ-loop
 enter-requires c κs =
     let k = c .before .before .before .before .before .before .before .before in
@@ -66,15 +61,12 @@ enter-requires c κs =
       ),
     )
 
--- src/entered.rt:160:9
 add-l : tie.Need-add-l Inv-loop μ-loop
 add-l c = omega (arith, c .before .before .loop-test .taken)
 
--- src/entered.rt:156:5
 loop-less : tie.Need-loop-less Inv-loop μ-loop
 loop-less c = omega (arith, c .before .before .loop-test .taken)
 
--- src/entered.rt:156:5
 loop-again : tie.Need-loop-again Inv-loop μ-loop
 loop-again c =
     let k = c .before .before .before .before .before .before .before in
@@ -93,11 +85,9 @@ loop-again c =
           (c .if1 .came),
     )
 
--- src/entered.rt:139:1
 same-length : tie.Need-same-length Inv-loop μ-loop
 same-length c = c .before .loop .inv .2 .0
 
--- src/entered.rt:139:1
 returns : tie.Need-returns Inv-loop μ-loop
 returns c =
     let k = c .before .before .before .before .before in

@@ -17,13 +17,11 @@ Inv-loop graph rules s work₀ start tail head g q l p n₀ end₀ work n end = 
 abbrev μ-loop : tie.MeasureT-loop
 μ-loop graph rules s work₀ start tail head g q l p n₀ end₀ work n end = s .nodes - n
 
--- src/entered.rt:102:5
 loop-holds : tie.Need-loop-holds Inv-loop μ-loop
 loop-holds c =
     let a = c .before .before .before .args in
     series-start (decode-graph (a .graph .now)) (watch (decode-rules (a .rules .now))) (a .start) (a .head) (the-entries (decode-graph (a .graph .now)) (watch (decode-rules (a .rules .now))) (a .start) (place (a .g) (a .q)) (a .l)) (a .tail) (a .work .now) 0 (entries-first (decode-graph (a .graph .now)) (watch (decode-rules (a .rules .now))) (a .start) (place (a .g) (a .q)) (a .l))
 
--- src/entered.rt:103:9
 look-entry-requires : tie.Need-look-entry-requires Inv-loop μ-loop
 look-entry-requires c κs =
     let k = c .before .before .before .before .before .before .before in
@@ -50,15 +48,12 @@ look-entry-requires c κs =
       ),
     )
 
--- src/entered.rt:104:9
 add-n : tie.Need-add-n Inv-loop μ-loop
 add-n c = omega (arith, c .before .before .before .before .if1 .taken)
 
--- src/entered.rt:102:5
 loop-less : tie.Need-loop-less Inv-loop μ-loop
 loop-less c = omega (arith, c .before .before .before .before .if1 .taken)
 
--- src/entered.rt:102:5
 loop-again : tie.Need-loop-again Inv-loop μ-loop
 loop-again c =
     let k = c .before .before .before .before .before .before .before .before .before .before in
@@ -68,11 +63,9 @@ loop-again c =
     let o = entries-next (decode-graph (a .graph .now)) (watch (decode-rules (a .rules .now))) (a .start) (place (a .g) (a .q)) (a .l) (l .n) (node-in (a .s) (a .graph .now) (a .rules .now) (k .pre .0) (l .n) (c .before .before .before .before .if1 .taken)) in
     one-looked (decode-graph (a .graph .now)) (watch (decode-rules (a .rules .now))) (a .start) (a .head) (the-entries (decode-graph (a .graph .now)) (watch (decode-rules (a .rules .now))) (a .start) (place (a .g) (a .q)) (a .l)) (a .tail) (a .work .now) (l .n) (l .work) (l .end) (l .inv) o (x .result) (x .last .1 .1 .1 .0) (x .kept .1 .1 .1 .0) (x .ensures)
 
--- src/entered.rt:84:1
 same-length : tie.Need-same-length Inv-loop μ-loop
 same-length c = c .before .before .loop .inv .0
 
--- src/entered.rt:84:1
 returns : tie.Need-returns Inv-loop μ-loop
 returns c =
     let k = c .before .before .before .before .before .before in

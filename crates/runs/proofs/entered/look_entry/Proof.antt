@@ -5,22 +5,18 @@ use borrow.Author.Needs.{needs}
 use Rattle.runs.proofs.entered.look_entry.Statement.{statement}
 use Rattle.runs.proofs.entered.look_entry.Tie as tie
 
--- src/entered.rt:77:8
 is-entry-requires : tie.Need-is-entry-requires
 is-entry-requires c κs = search needs
 
--- src/entered.rt:78:39
 cast-push : tie.Need-cast-push
 cast-push c =
     let k = c .before .before .before .before .before .before in
     let a = k .args in
     omega (arith, node-small (a .s) (a .graph .now) (a .rules .now) (k .pre .0) (a .g) (k .pre .1 .1 .1 .1 .1 .1 .0 .at-node))
 
--- src/entered.rt:78:57
 cast-push-2 : tie.Need-cast-push-2
 cast-push-2 c = search needs
 
--- src/entered.rt:78:9
 push-requires : tie.Need-push-requires
 push-requires c κs =
     let k = c .before .before .before .before .before .before in
@@ -28,11 +24,9 @@ push-requires c κs =
     may-enter (a .s) (a .graph .now) (a .rules .now) (k .pre .0) (a .start) (a .head) (a .tail) (a .work .now) (a .g) (a .q) (k .pre .1 .1 .1 .1 .1 .1 .0) (a .l) (k .pre .1 .1 .0)
     (k .pre .1 .1 .1 .1 .0) (a .p) (k .pre .1 .1 .1 .1 .1 .0) (a .n) (k .pre .1 .0) (c .before .before .is-entry .result) (c .before .before .is-entry .ensures) (c .before .if1 .taken) (k .pre .1 .1 .1 .1 .1 .1 .1)
 
--- src/entered.rt:78:9
 same-length : tie.Need-same-length
 same-length c = search needs
 
--- src/entered.rt:78:9
 returns : tie.Need-returns
 returns c =
     let k = c .before .before .before .before .before .before .before .before .before in
@@ -41,7 +35,6 @@ returns c =
     did-enter (a .s) (a .graph .now) (a .rules .now) (k .pre .0) (a .start) (a .head) (a .tail) (a .work .now) (a .g) (a .q) (k .pre .1 .1 .1 .1 .1 .1 .0) (a .l) (k .pre .1 .1 .0)
     (k .pre .1 .1 .1 .1 .0) (a .p) (k .pre .1 .1 .1 .1 .1 .0) (a .n) (k .pre .1 .0) (c .before .before .before .before .before .is-entry .result) (c .before .before .before .before .before .is-entry .ensures) (c .before .before .before .before .if1 .taken) (k .pre .1 .1 .1 .1 .1 .1 .1) (x .result) (x .last .0) (x .ensures)
 
--- src/entered.rt:60:1
 returns-2 : tie.Need-returns-2
 returns-2 c =
     let k = c .before .before .before .before .before in

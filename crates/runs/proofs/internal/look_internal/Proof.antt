@@ -10,30 +10,24 @@ use borrow.Author.Needs.{needs}
 use Rattle.runs.proofs.internal.look_internal.Statement.{statement}
 use Rattle.runs.proofs.internal.look_internal.Tie as tie
 
--- src/internal.rt:33:25
 edge-at-requires : tie.Need-edge-at-requires
 edge-at-requires c κs = search needs
 
--- src/internal.rt:33:20
 enum-known-e : tie.Need-enum-known-e
 enum-known-e c = search needs
 
--- src/internal.rt:34:9
 enum-told : tie.Need-enum-told
 enum-told c = search needs
 
--- src/internal.rt:34:9
 returns : tie.Need-returns
 returns c = absurd (edge-read (c .before .before .edge-at .result) _ _ (c .before .before .edge-at .ensures) (c .enum-told .given .1))
 
--- src/internal.rt:37:39
 cast-push : tie.Need-cast-push
 cast-push c =
     let k = c .before .before .before .before .before .before .before .before .before .before in
     let a = k .args in
     omega (arith, node-small (a .s) (a .graph .now) (a .rules .now) (k .pre .0) (a .g) (k .pre .1 .1 .1 .0 .at-node))
 
--- src/internal.rt:37:57
 cast-push-2 : tie.Need-cast-push-2
 cast-push-2 c =
     let k = c .before .before .before .before .before .before .before .before .before .before .before in
@@ -42,7 +36,6 @@ cast-push-2 c =
     (c .before .before .before .before .before .e .given .1) (c .before .before .before .before .before .before .before .edge-at .ensures) in
     omega (arith, node-small (a .s) (a .graph .now) (a .rules .now) (k .pre .0) _ (to-in (a .s) (a .graph .now) (a .rules .now) (k .pre .0) (a .j) (k .pre .1 .0) _ h))
 
--- src/internal.rt:37:9
 push-requires : tie.Need-push-requires
 push-requires c κs =
     let k = c .before .before .before .before .before .before .before .before .before .before .before in
@@ -52,11 +45,9 @@ push-requires c κs =
     may-step (a .s) (a .graph .now) (a .rules .now) (k .pre .0) (a .start) (a .head) (a .tail) (a .work .now) (a .g) (a .q) (k .pre .1 .1 .1 .0) (a .j) (k .pre .1 .0) (k .pre .1 .1 .0) _ h
     (c .before .before .if1 .taken) (k .pre .1 .1 .1 .1)
 
--- src/internal.rt:37:9
 same-length : tie.Need-same-length
 same-length c = search needs
 
--- src/internal.rt:37:9
 returns-2 : tie.Need-returns-2
 returns-2 c =
     let k = c .before .before .before .before .before .before .before .before .before .before .before .before .before .before in
@@ -66,7 +57,6 @@ returns-2 c =
     did-step (a .s) (a .graph .now) (a .rules .now) (k .pre .0) (a .start) (a .head) (a .tail) (a .work .now) (a .g) (a .q) (k .pre .1 .1 .1 .0) (a .j) (k .pre .1 .0) (k .pre .1 .1 .0) _ h
     (c .before .before .before .before .before .if1 .taken) (k .pre .1 .1 .1 .1) (c .before .before .push .result) (c .before .before .push .last .0) (c .before .before .push .ensures)
 
--- src/internal.rt:18:1
 returns-3 : tie.Need-returns-3
 returns-3 c =
     let k = c .before .before .before .before .before .before .before .before .before in

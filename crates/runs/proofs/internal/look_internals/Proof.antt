@@ -18,36 +18,30 @@ Inv-loop graph rules s work₀ start tail head g q j₀ last end₀ work j end =
 abbrev μ-loop : tie.MeasureT-loop
 μ-loop graph rules s work₀ start tail head g q j₀ last end₀ work j end = last - j
 
--- src/internal.rt:57:17
 get16-requires : tie.Need-get16-requires Inv-loop μ-loop
 get16-requires c κs =
     let k = c .before .before .before .before in
     let a = k .args in
     first-fits (a .s) (a .graph .now) (a .rules .now) (k .pre .0) (a .g) (a .work .now) (k .pre .1 .0 .at-node) (k .pre .1 .1 .searching .room)
 
--- src/internal.rt:57:17
 cast-j : tie.Need-cast-j Inv-loop μ-loop
 cast-j c = search needs
 
--- src/internal.rt:58:45
 add-get16 : tie.Need-add-get16 Inv-loop μ-loop
 add-get16 c =
     let k = c .before .before .before .before .before .before in
     let a = k .args in
     omega (arith, node-small (a .s) (a .graph .now) (a .rules .now) (k .pre .0) (a .g) (k .pre .1 .0 .at-node))
 
--- src/internal.rt:58:16
 get16-requires-2 : tie.Need-get16-requires-2 Inv-loop μ-loop
 get16-requires-2 c κs =
     let k = c .before .before .before .before .before .before in
     let a = k .args in
     last-fits (a .s) (a .graph .now) (a .rules .now) (k .pre .0) (a .g) (a .work .now) (k .pre .1 .0 .at-node) (k .pre .1 .1 .searching .room)
 
--- src/internal.rt:58:16
 cast-last : tie.Need-cast-last Inv-loop μ-loop
 cast-last c = search needs
 
--- src/internal.rt:60:5
 loop-holds : tie.Need-loop-holds Inv-loop μ-loop
 loop-holds c =
     let k = c .before .before .before .before .before .before .before in
@@ -55,7 +49,6 @@ loop-holds c =
     let f = first-is (a .s) (a .graph .now) (a .rules .now) (k .pre .0) (a .g) (a .work .now) (k .pre .1 .0 .at-node) _ (k .pre .1 .1 .searching .tables) (c .before .before .get16 .ensures) in
     (omega (arith, f), series-start (decode-graph (a .graph .now)) (watch (decode-rules (a .rules .now))) (a .start) (a .head) (the-internals (decode-graph (a .graph .now)) (watch (decode-rules (a .rules .now))) (a .start) (place (a .g) (a .q))) (a .tail) (a .work .now) _ (ap (internals (decode-graph (a .graph .now)) (watch (decode-rules (a .rules .now))) (place (a .g) (a .q))) (sym f)))
 
--- src/internal.rt:61:9
 look-internal-requires : tie.Need-look-internal-requires Inv-loop μ-loop
 look-internal-requires c κs =
     let k = c .before .before .before .before .before .before .before .before .before .before in
@@ -66,15 +59,12 @@ look-internal-requires c κs =
     let o = internals-next (decode-graph (a .graph .now)) (watch (decode-rules (a .rules .now))) (a .start) (place (a .g) (a .q)) (l .j) (d .2) in
     (k .pre .0, (d .0, (d .1, (series-here (decode-graph (a .graph .now)) (watch (decode-rules (a .rules .now))) (a .start) (a .head) (the-internals (decode-graph (a .graph .now)) (watch (decode-rules (a .rules .now))) (a .start) (place (a .g) (a .q))) (a .tail) (a .work .now) (l .j) (l .work) (l .end) (l .inv .1) (place (a .g) (a .q)) (k .pre .1 .0), one-may (decode-graph (a .graph .now)) (watch (decode-rules (a .rules .now))) (a .start) (a .head) (the-internals (decode-graph (a .graph .now)) (watch (decode-rules (a .rules .now))) (a .start) (place (a .g) (a .q))) (a .tail) (a .work .now) (l .j) (l .work) (l .end) (l .inv .1) o (k .pre .1 .1)))))
 
--- src/internal.rt:62:9
 add-j : tie.Need-add-j Inv-loop μ-loop
 add-j c = omega (arith, c .before .before .before .before .loop-test .taken)
 
--- src/internal.rt:60:5
 loop-less : tie.Need-loop-less Inv-loop μ-loop
 loop-less c = omega (arith, c .before .before .before .before .loop-test .taken)
 
--- src/internal.rt:60:5
 loop-again : tie.Need-loop-again Inv-loop μ-loop
 loop-again c =
     let k = c .before .before .before .before .before .before .before .before .before .before .before .before .before in
@@ -85,11 +75,9 @@ loop-again c =
     let o = internals-next (decode-graph (a .graph .now)) (watch (decode-rules (a .rules .now))) (a .start) (place (a .g) (a .q)) (l .j) (d .2) in
     (omega (arith, l .inv .0), one-looked (decode-graph (a .graph .now)) (watch (decode-rules (a .rules .now))) (a .start) (a .head) (the-internals (decode-graph (a .graph .now)) (watch (decode-rules (a .rules .now))) (a .start) (place (a .g) (a .q))) (a .tail) (a .work .now) (l .j) (l .work) (l .end) (l .inv .1) o (x .result) (x .last .1 .1 .1 .0) (x .kept .1 .1 .1 .0) (x .ensures))
 
--- src/internal.rt:43:1
 same-length : tie.Need-same-length Inv-loop μ-loop
 same-length c = c .before .loop .inv .1 .0
 
--- src/internal.rt:43:1
 returns : tie.Need-returns Inv-loop μ-loop
 returns c =
     let k = c .before .before .before .before .before .before .before .before .before in

@@ -8,37 +8,30 @@ use borrow.Author.Needs.{needs}
 use Rattle.runs.proofs.items.push.Statement.{statement}
 use Rattle.runs.proofs.items.push.Tie as tie
 
--- src/items.rt:29:14
 mul-at : tie.Need-mul-at
 mul-at c = search needs
 
--- src/items.rt:29:14
 add-at : tie.Need-add-at
 add-at c = search needs
 
--- src/items.rt:30:8
 has-bit-requires : tie.Need-has-bit-requires
 has-bit-requires c κs = search needs
 
--- src/items.rt:31:9
 same-length : tie.Need-same-length
 same-length c = search needs
 
--- src/items.rt:31:9
 returns : tie.Need-returns
 returns c =
     let k = c .before .before .before .before in
     let a = k .args in
     push-seen (a .work .now) (a .tail) (a .head) (rec-of (a .g) (a .q) (a .kind) (a .label) (a .to) (a .next)) (c .before .has-bit .result) (c .before .has-bit .ensures) (c .if1 .taken)
 
--- src/items.rt:33:5
 put-six-requires : tie.Need-put-six-requires
 put-six-requires c κs =
     let k = c .before .before .before .before .before in
     let few = k .pre .1 .1 .1 (subst (λ (b : Bool). T (not b)) (sym (sym (c .before .before .has-bit .ensures) ∙ c .before .if1 .left)) tt) in
     omega (arith, few, k .pre .1 .0)
 
--- src/items.rt:34:41
 cast-put16 : tie.Need-cast-put16
 cast-put16 c =
     let k = c .before .before .before .before .before .before .before .before .before in
@@ -46,7 +39,6 @@ cast-put16 c =
     (sym (c .before .before .before .before .before .before .has-bit .ensures) ∙ c .before .before .before .before .before .if1 .left)) tt) in
     omega (arith, few, k .pre .1 .1 .0)
 
--- src/items.rt:34:5
 put16-requires : tie.Need-put16-requires
 put16-requires c κs =
     let k = c .before .before .before .before .before .before .before .before .before in
@@ -54,11 +46,9 @@ put16-requires c κs =
     (sym (c .before .before .before .before .before .before .has-bit .ensures) ∙ c .before .before .before .before .before .if1 .left)) tt) in
     omega (arith, few, k .pre .1 .0, c .before .before .before .put-six .kept .0)
 
--- src/items.rt:35:5
 put-bit-requires : tie.Need-put-bit-requires
 put-bit-requires c κs = search needs
 
--- src/items.rt:36:5
 add-result : tie.Need-add-result
 add-result c =
     let k = c .before .before .before .before .before .before .before .before .before .before .before .before .before .before .before .before in
@@ -67,11 +57,9 @@ add-result c =
     .before .before .before .before .before .if1 .left)) tt) in
     omega (arith, few)
 
--- src/items.rt:15:1
 same-length-2 : tie.Need-same-length-2
 same-length-2 c = search needs
 
--- src/items.rt:15:1
 returns-2 : tie.Need-returns-2
 returns-2 c =
     let k = c .before .before .before .before .before .before .before .before .before .before .before .before .before .before .before .before in

@@ -9,31 +9,24 @@ use borrow.Author.Needs.{needs}
 use Rattle.runs.proofs.joining.join_within.Statement.{statement}
 use Rattle.runs.proofs.joining.join_within.Tie as tie
 
--- src/joining.rt:149:11
 check-side-requires : tie.Need-check-side-requires
 check-side-requires c κs = search needs
 
--- src/joining.rt:150:26
 enum-known-refusal : tie.Need-enum-known-refusal
 enum-known-refusal c = search needs
 
--- src/joining.rt:151:29
 enum-known-nodes : tie.Need-enum-known-nodes
 enum-known-nodes c = search needs
 
--- src/joining.rt:151:55
 check-side-requires-2 : tie.Need-check-side-requires-2
 check-side-requires-2 c κs = search needs
 
--- src/joining.rt:152:30
 enum-known-refusal-2 : tie.Need-enum-known-refusal-2
 enum-known-refusal-2 c = search needs
 
--- src/joining.rt:154:24
 enum-known-nodes2 : tie.Need-enum-known-nodes2
 enum-known-nodes2 c = search needs
 
--- src/joining.rt:159:28
 sub-t18 : tie.Need-sub-t18
 sub-t18 c =
     let a = c .before .before .before .before .before .before .before .before .before .before .before .before .before .args in
@@ -41,7 +34,6 @@ sub-t18 c =
     let d = c .before .before .before .before .before .nodes .given in
     nodes-first (a .limits) (a .interface1 .now) (a .graph1 .now) (d .0 .0) (d .0 .1 .0) (side-known (a .limits) (a .interface1 .now) (a .graph1 .now) 1 (d .0 .0) (d .0 .1 .0) (sym (x .ensures) ∙ d .1))
 
--- src/joining.rt:161:29
 sub-t19 : tie.Need-sub-t19
 sub-t19 c =
     let a = c .before .before .before .before .before .before .before .before .before .before .before .before .before .args in
@@ -49,7 +41,6 @@ sub-t19 c =
     let e = c .before .nodes2 .given in
     nodes-first (a .limits) (a .interface2 .now) (a .graph2 .now) (e .0 .0) (e .0 .1 .0) (side-known (a .limits) (a .interface2 .now) (a .graph2 .now) 3 (e .0 .0) (e .0 .1 .0) (sym (y .ensures) ∙ e .1))
 
--- src/joining.rt:163:17
 join-sides-requires : tie.Need-join-sides-requires
 join-sides-requires c κs =
     let k = c .before .before .before .before .before .before .before .before .before .before .before .before .before .before in
@@ -71,7 +62,6 @@ join-sides-requires c κs =
       ),
     )
 
--- src/joining.rt:138:1
 returns : tie.Need-returns
 returns c =
     let a = c .before .before .before .before .before .before .before .before .before .args in
@@ -79,7 +69,6 @@ returns c =
     let d = c .before .refusal .given in
     first-refused (a .limits) (a .interface1 .now) (a .graph1 .now) (a .interface2 .now) (a .graph2 .now) (a .out .now) (x .result) (x .ensures) (d .0 .0) (d .1)
 
--- src/joining.rt:138:1
 returns-2 : tie.Need-returns-2
 returns-2 c =
     let a = c .before .before .before .before .before .before .before .before .before .before .before .before .before .args in
@@ -89,11 +78,9 @@ returns-2 c =
     let e = c .before .refusal2 .given in
     first-passed (a .limits) (a .interface1 .now) (a .graph1 .now) (a .interface2 .now) (a .graph2 .now) (a .out .now) (x .result) (x .ensures) (d .0 .0) (d .0 .1 .0) (d .1) (a .out .now) (refused-answer (e .0 .0)) (second-refused (a .limits) (a .interface1 .now) (a .graph1 .now) (a .interface2 .now) (a .graph2 .now) (a .out .now) (y .result) (y .ensures) (e .0 .0) (e .1))
 
--- src/joining.rt:138:1
 same-length : tie.Need-same-length
 same-length c = search needs
 
--- src/joining.rt:138:1
 returns-3 : tie.Need-returns-3
 returns-3 c =
     let a = c .before .before .before .before .before .before .before .before .before .before .before .before .before .before .before .before .before .args in

@@ -12,23 +12,18 @@ use borrow.Author.Needs.{needs}
 use Rattle.runs.proofs.joining.write_moved.Statement.{statement}
 use Rattle.runs.proofs.joining.write_moved.Tie as tie
 
--- src/joining.rt:46:25
 edge-at-requires : tie.Need-edge-at-requires
 edge-at-requires c κs = search needs
 
--- src/joining.rt:46:20
 enum-known-e : tie.Need-enum-known-e
 enum-known-e c = search needs
 
--- src/joining.rt:47:9
 enum-told : tie.Need-enum-told
 enum-told c = search needs
 
--- src/joining.rt:47:9
 returns : tie.Need-returns
 returns c = search needs
 
--- src/joining.rt:49:9
 moved-node-requires : tie.Need-moved-node-requires
 moved-node-requires c κs =
     let k = c .before .before .before .before .before .before in
@@ -38,7 +33,6 @@ moved-node-requires c κs =
     let h = held-edge (x .result) _ (getD ((decode-graph (a .graph2 .now)) .edges) (a .j) no-edge) (c .before .e .given .1) (x .ensures) in
     from-fits (a .graph2 .now) (k .pre .0) (a .s .nodes) (a .s .nodes2) (a .s .edges2) (p .0) (p .1 .0) (p .1 .1 .0) (a .j) (p .1 .1 .1 .0) _ h
 
--- src/joining.rt:50:9
 moved-node-requires-2 : tie.Need-moved-node-requires-2
 moved-node-requires-2 c κs =
     let k = c .before .before .before .before .before .before .before in
@@ -48,19 +42,15 @@ moved-node-requires-2 c κs =
     let h = held-edge (x .result) _ (getD ((decode-graph (a .graph2 .now)) .edges) (a .j) no-edge) (c .before .before .e .given .1) (x .ensures) in
     to-fits (a .graph2 .now) (k .pre .0) (a .s .nodes) (a .s .nodes2) (a .s .edges2) (p .0) (p .1 .0) (p .1 .1 .0) (a .j) (p .1 .1 .1 .0) _ h
 
--- src/joining.rt:51:25
 edge-requires : tie.Need-edge-requires
 edge-requires c κs = search needs
 
--- src/joining.rt:51:5
 put-record-requires : tie.Need-put-record-requires
 put-record-requires c κs = c .before .before .before .before .before .before .before .before .before .before .pre .1 .1 .1 .1 .1
 
--- src/joining.rt:42:1
 same-length : tie.Need-same-length
 same-length c = search needs
 
--- src/joining.rt:42:1
 returns-2 : tie.Need-returns-2
 returns-2 c =
     let k = c .before .before .before .before .before .before .before .before .before .before .before .before .before in

@@ -17,23 +17,18 @@ use borrow.Author.Needs.{needs}
 use Rattle.runs.proofs.passed.look_passed.Statement.{statement}
 use Rattle.runs.proofs.passed.look_passed.Tie as tie
 
--- src/passed.rt:71:25
 edge-at-requires : tie.Need-edge-at-requires
 edge-at-requires c κs = search needs
 
--- src/passed.rt:71:20
 enum-known-e : tie.Need-enum-known-e
 enum-known-e c = search needs
 
--- src/passed.rt:72:9
 enum-told : tie.Need-enum-told
 enum-told c = search needs
 
--- src/passed.rt:72:9
 returns : tie.Need-returns
 returns c = absurd (edge-read (c .before .before .edge-at .result) _ _ (c .before .before .edge-at .ensures) (c .enum-told .given .1))
 
--- src/passed.rt:75:9
 returns-2 : tie.Need-returns-2
 returns-2 c =
     let k = c .before .before .before .before .before .before .before .before .before in
@@ -43,7 +38,6 @@ returns-2 c =
     (c .before .before .before .before .before .edge-at .ensures) in
     no-pass (a .s) (a .graph .now) (a .rules .now) (k .pre .0) (a .start) (a .head) (a .tail) (a .work .now) (a .g) (a .q) at (a .j) (k .pre .1 .1 .0) (k .pre .1 .1 .1 .0) _ h (c .if1 .taken)
 
--- src/passed.rt:77:9
 step-requires : tie.Need-step-requires
 step-requires c κs =
     let k = c .before .before .before .before .before .before .before .before .before .before in
@@ -56,23 +50,18 @@ step-requires c κs =
     (c .before .if1 .left) (a .method) (k .pre .1 .1 .1 .1 .0) in
     (may .searching .tables .steps, (may .searching .room, (at .now-small, (omega arith, (omega arith, f)))))
 
--- src/passed.rt:78:27
 sub-returned : tie.Need-sub-returned
 sub-returned c = search needs
 
--- src/passed.rt:78:26
 cast-returned : tie.Need-cast-returned
 cast-returned c = search needs
 
--- src/passed.rt:78:50
 cast-returned-2 : tie.Need-cast-returned-2
 cast-returned-2 c = search needs
 
--- src/passed.rt:78:20
 mul-returned : tie.Need-mul-returned
 mul-returned c = search needs
 
--- src/passed.rt:78:20
 index-1-returned : tie.Need-index-1-returned
 index-1-returned c =
     let k = c .before .before .before .before .before .before .before .before .before .before .before .before in
@@ -84,7 +73,6 @@ index-1-returned c =
     (c .before .before .before .if1 .left) (a .method) (k .pre .1 .1 .1 .1 .0) in
     omega (arith, f .1 .1 .0, f .1 .1 .1)
 
--- src/passed.rt:78:20
 index-2-returned : tie.Need-index-2-returned
 index-2-returned c =
     let k = c .before .before .before .before .before .before .before .before .before .before .before .before in
@@ -92,7 +80,6 @@ index-2-returned c =
     let at = k .pre .1 .1 .1 .1 .1 .0 in
     subst (λ (i : ℕ). i < 8) (sym (c .before .step .ensures)) (monitor-small (a .s) (a .graph .now) (a .rules .now) (k .pre .0) (a .q) _ (at .now-small))
 
--- src/passed.rt:79:9
 step-set-requires : tie.Need-step-set-requires
 step-set-requires c κs =
     let k = c .before .before .before .before .before .before .before .before .before .before .before .before .before .before in
@@ -105,7 +92,6 @@ step-set-requires c κs =
     (c .before .before .before .before .before .if1 .left) (a .method) (k .pre .1 .1 .1 .1 .0) in
     (k .pre .0, (may .searching .tables .steps, (may .searching .room, (omega arith, (omega arith, (f .1 .1 .0, (f .1 .1 .1, (f .0, f .1 .0))))))))
 
--- src/passed.rt:92:9
 cast-look-states : tie.Need-cast-look-states
 cast-look-states c =
     let k = c .before .before .before .before .before .before .before .before .before .before .before .before .before .before .before .before .before in
@@ -115,7 +101,6 @@ cast-look-states c =
     (c .before .before .before .before .before .before .before .before .before .before .before .before .before .edge-at .ensures) in
     omega (arith, node-small (a .s) (a .graph .now) (a .rules .now) (k .pre .0) _ (to-in (a .s) (a .graph .now) (a .rules .now) (k .pre .0) (a .j) (k .pre .1 .1 .0) _ h))
 
--- src/passed.rt:80:5
 look-states-requires : tie.Need-look-states-requires
 look-states-requires c κs =
     let k = c .before .before .before .before .before .before .before .before .before .before .before .before .before .before .before .before .before in
@@ -159,11 +144,9 @@ look-states-requires c κs =
       ),
     )
 
--- src/passed.rt:54:1
 same-length : tie.Need-same-length
 same-length c = search needs
 
--- src/passed.rt:54:1
 returns-3 : tie.Need-returns-3
 returns-3 c =
     let k = c .before .before .before .before .before .before .before .before .before .before .before .before .before .before .before .before .before .before .before .before in

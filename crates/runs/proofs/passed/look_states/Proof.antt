@@ -18,26 +18,21 @@ Inv-loop graph rules work₀ start tail head g q j label to ends r₀ end₀ wor
 abbrev μ-loop : tie.MeasureT-loop
 μ-loop graph rules work₀ start tail head g q j label to ends r₀ end₀ work r end = 8 - r
 
--- src/passed.rt:44:5
 loop-holds : tie.Need-loop-holds Inv-loop μ-loop
 loop-holds c = let a = c .before .before .before .args in series-start (decode-graph (a .graph .now)) (watch (decode-rules (a .rules .now))) (a .start) (a .head) (the-states (decode-graph (a .graph .now)) (watch (decode-rules (a .rules .now))) (a .start) (place (a .g) (a .q)) (a .j)) (a .tail) (a .work .now) 0 refl
 
--- src/passed.rt:45:28
 cast-has-state : tie.Need-cast-has-state Inv-loop μ-loop
 cast-has-state c = search needs
 
--- src/passed.rt:45:12
 has-state-requires : tie.Need-has-state-requires Inv-loop μ-loop
 has-state-requires c κs = c .loop-test .taken
 
--- src/passed.rt:46:41
 cast-push : tie.Need-cast-push Inv-loop μ-loop
 cast-push c =
     let k = c .before .before .before .before .before .before .before .before in
     let a = k .args in
     omega (arith, node-small (a .s) (a .graph .now) (a .rules .now) (k .pre .0) (a .g) (k .pre .1 .1 .1 .1 .1 .1 .1 .0 .at-node))
 
--- src/passed.rt:46:13
 push-requires : tie.Need-push-requires Inv-loop μ-loop
 push-requires c κs =
     let k = c .before .before .before .before .before .before .before .before in
@@ -49,15 +44,12 @@ push-requires c κs =
     may-pass (a .s) (a .graph .now) (a .rules .now) (k .pre .0) (a .start) (a .head) (l .end) (l .work) (a .g) (a .q) at (a .j) (k .pre .1 .0) (k .pre .1 .1 .0) (a .label) (a .to) (a .ends) (k .pre .1 .1 .1 .0) (k .pre .1 .1 .1 .1 .0) (k .pre .1 .1 .1 .1 .1 .0) (k .pre .1 .1 .1 .1 .1 .1 .0) (l .r) (c .before .before .before .loop-test .taken)
     (c .before .before .has-state .result) (c .before .before .has-state .ensures) (c .before .if1 .taken) may
 
--- src/passed.rt:48:9
 add-r : tie.Need-add-r Inv-loop μ-loop
 add-r c = omega (arith, c .before .before .loop-test .taken)
 
--- src/passed.rt:44:5
 loop-less : tie.Need-loop-less Inv-loop μ-loop
 loop-less c = omega (arith, c .before .before .loop-test .taken)
 
--- src/passed.rt:44:5
 loop-again : tie.Need-loop-again Inv-loop μ-loop
 loop-again c =
     let k = c .before .before .before .before .before .before .before in
@@ -77,11 +69,9 @@ loop-again c =
     (no-state (a .s) (a .graph .now) (a .rules .now) (k .pre .0) (a .start) (a .head) (l .end) (l .work) (a .g) (a .q) at (a .j) (k .pre .1 .0) (k .pre .1 .1 .0) (a .label) (a .to) (a .ends) (k .pre .1 .1 .1 .0) (k .pre .1 .1 .1 .1 .0) (k .pre .1 .1 .1 .1 .1 .0) (k .pre .1 .1 .1 .1 .1 .1 .0) (l .r) h (b .result) (b .ensures) (u .0 .left))))
     (c .if1 .came)
 
--- src/passed.rt:24:1
 same-length : tie.Need-same-length Inv-loop μ-loop
 same-length c = c .before .loop .inv .0
 
--- src/passed.rt:24:1
 returns : tie.Need-returns Inv-loop μ-loop
 returns c =
     let k = c .before .before .before .before .before in

@@ -7,39 +7,30 @@ use borrow.Author.Needs.{needs}
 use Rattle.runs.proofs.points.add.Statement.{statement}
 use Rattle.runs.proofs.points.add.Tie as tie
 
--- src/points.rt:23:14
 mul-at : tie.Need-mul-at
 mul-at c = search needs
 
--- src/points.rt:23:14
 add-at : tie.Need-add-at
 add-at c = search needs
 
--- src/points.rt:24:9
 get8-requires : tie.Need-get8-requires
 get8-requires c κs = search needs
 
--- src/points.rt:27:9
 same-length : tie.Need-same-length
 same-length c = search needs
 
--- src/points.rt:27:9
 returns : tie.Need-returns
 returns c = let a = c .before .before .before .before .args in add-same (a .work .now) (a .tail) (a .g) (a .p) (a .y) (c .before .get8 .result) (c .before .get8 .ensures) (c .if1 .taken)
 
--- src/points.rt:29:5
 put8-requires : tie.Need-put8-requires
 put8-requires c κs = search needs
 
--- src/points.rt:30:8
 get8-requires-2 : tie.Need-get8-requires-2
 get8-requires-2 c κs = search needs
 
--- src/points.rt:31:9
 same-length-2 : tie.Need-same-length-2
 same-length-2 c = search needs
 
--- src/points.rt:31:9
 returns-2 : tie.Need-returns-2
 returns-2 c =
     let put8 = c .before .before .before .before .before .put8 in
@@ -51,15 +42,12 @@ returns-2 c =
     add-waiting (a .work .now) (put8 .last .0) (a .tail) (a .g) (a .p) (a .y) (get8 .result) (k .pre .0) (k .pre .1 .0) (get8 .ensures) (if1 .left) (put8 .ensures)
     (sym (get82 .ensures) ∙ c .if2 .taken)
 
--- src/points.rt:33:5
 put8-requires-2 : tie.Need-put8-requires-2
 put8-requires-2 c κs = search needs
 
--- src/points.rt:34:39
 cast-put16 : tie.Need-cast-put16
 cast-put16 c = search needs
 
--- src/points.rt:34:5
 put16-requires : tie.Need-put16-requires
 put16-requires c κs =
     let if1 = c .before .before .before .before .before .before .before .before .before .before .before .before .if1 in
@@ -70,7 +58,6 @@ put16-requires c κs =
     let f = k .pre .1 .1 .1 (λ e. if1 .left (ap (λ (x : ℕ). bitOr x (k .args .y)) (get8 .ensures) ∙ e ∙ sym (get8 .ensures))) in
     omega (arith, f, k .pre .1 .1 .0, put82 .kept .0, put8 .kept .0)
 
--- src/points.rt:35:5
 add-result : tie.Need-add-result
 add-result c =
     let if1 = c .before .before .before .before .before .before .before .before .before .before .before .before .before .before .before .if1 in
@@ -79,11 +66,9 @@ add-result c =
     let f = k .pre .1 .1 .1 (λ e. if1 .left (ap (λ (x : ℕ). bitOr x (k .args .y)) (get8 .ensures) ∙ e ∙ sym (get8 .ensures))) in
     omega (arith, f)
 
--- src/points.rt:19:1
 same-length-3 : tie.Need-same-length-3
 same-length-3 c = search needs
 
--- src/points.rt:19:1
 returns-3 : tie.Need-returns-3
 returns-3 c =
     let put8 = c .before .before .before .before .before .before .before .before .before .before .before .before .before .put8 in

@@ -17,18 +17,15 @@ Inv-loop graph rules work₀ tail g row p₀ end₀ work p end = (p ≤ 8) × (l
 abbrev μ-loop : tie.MeasureT-loop
 μ-loop graph rules work₀ tail g row p₀ end₀ work p end = 8 - p
 
--- src/points.rt:103:5
 loop-holds : tie.Need-loop-holds Inv-loop μ-loop
 loop-holds c =
     let k = c .before .before .before in
     let a = k .args in
     (omega arith, refl, grew-none (decode-graph (a .graph .now)) (watch (decode-rules (a .rules .now))) (a .tail) (a .work .now) (k .pre .1 .1 .0), λ i h. absurd (omega (arith, h)))
 
--- src/points.rt:104:36
 element-copy-out-add : tie.Need-element-copy-out-add Inv-loop μ-loop
 element-copy-out-add c = omega (arith, c .before .loop-test .taken)
 
--- src/points.rt:104:9
 add-requires : tie.Need-add-requires Inv-loop μ-loop
 add-requires c κs =
     let k = c .before .before .before .before .before .before .before in
@@ -36,15 +33,12 @@ add-requires c κs =
     let l = c .before .before .before .loop in
     may-add (a .s) (a .graph .now) (a .rules .now) (k .pre .0) (l .end) (l .work) (l .inv .2 .holding) (a .g) (l .p) (getD (a .row .now) (l .p) 0) (node-in (a .s) (a .graph .now) (a .rules .now) (k .pre .0) (a .g) (k .pre .1 .0)) (c .before .before .loop-test .taken) (k .pre .1 .1 .1 (l .p) (c .before .before .loop-test .taken) .0)
 
--- src/points.rt:105:9
 add-p : tie.Need-add-p Inv-loop μ-loop
 add-p c = omega (arith, c .before .before .before .before .before .loop-test .taken)
 
--- src/points.rt:103:5
 loop-less : tie.Need-loop-less Inv-loop μ-loop
 loop-less c = omega (arith, c .before .before .before .before .before .loop-test .taken)
 
--- src/points.rt:103:5
 loop-again : tie.Need-loop-again Inv-loop μ-loop
 loop-again c =
     let k = c .before .before .before .before .before .before .before .before .before .before in
@@ -56,11 +50,9 @@ loop-again c =
     (x .result) (x .last .0) (x .ensures) in
     (omega (arith, h), x .kept .0 ∙ l .inv .1, n .0, n .1)
 
--- src/points.rt:89:1
 same-length : tie.Need-same-length Inv-loop μ-loop
 same-length c = c .before .loop .inv .1
 
--- src/points.rt:89:1
 returns : tie.Need-returns Inv-loop μ-loop
 returns c = let l = c .before .loop in (l .inv .2, λ p h. l .inv .3 p (omega (arith, c .loop-test .left, h)))
 

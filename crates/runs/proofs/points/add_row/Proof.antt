@@ -6,27 +6,21 @@ use borrow.Author.Needs.{needs}
 use Rattle.runs.proofs.points.add_row.Statement.{statement}
 use Rattle.runs.proofs.points.add_row.Tie as tie
 
--- src/points.rt:123:8
 lacks-requires : tie.Need-lacks-requires
 lacks-requires c κs = search needs
 
--- src/points.rt:124:9
 add-each-requires : tie.Need-add-each-requires
 add-each-requires c κs = search needs
 
--- src/points.rt:124:9
 same-length : tie.Need-same-length
 same-length c = search needs
 
--- src/points.rt:124:9
 returns : tie.Need-returns
 returns c = search needs
 
--- src/points.rt:111:1
 same-length-2 : tie.Need-same-length-2
 same-length-2 c = search needs
 
--- src/points.rt:111:1
 returns-2 : tie.Need-returns-2
 returns-2 c = let k = c .before .before .before .before .before .before in let a = k .args in (grew-none (decode-graph (a .graph .now)) (watch (decode-rules (a .rules .now))) (a .tail) (a .work .now) (k .pre .1 .1 .0), c .before .lacks .ensures (c .if1 .left))
 

@@ -15,35 +15,27 @@ Inv-loop work g row p₀ some₀ p some = (p ≤ 8) × (some ≡ false → HasRo
 abbrev μ-loop : tie.MeasureT-loop
 μ-loop work g row p₀ some₀ p some = 8 - p
 
--- src/points.rt:80:5
 loop-holds : tie.Need-loop-holds Inv-loop μ-loop
 loop-holds c = (omega arith, λ e p h. absurd (omega (arith, h)))
 
--- src/points.rt:81:46
 mul-get8 : tie.Need-mul-get8 Inv-loop μ-loop
 mul-get8 c = omega (arith, c .before .before .before .pre .0)
 
--- src/points.rt:81:46
 add-get8 : tie.Need-add-get8 Inv-loop μ-loop
 add-get8 c = omega (arith, c .loop-test .taken, c .before .before .before .pre .0)
 
--- src/points.rt:81:13
 get8-requires : tie.Need-get8-requires Inv-loop μ-loop
 get8-requires c κs = omega (arith, c .loop-test .taken, c .before .before .before .pre .0, c .before .before .before .pre .1)
 
--- src/points.rt:82:28
 element-copy-out-some : tie.Need-element-copy-out-some Inv-loop μ-loop
 element-copy-out-some c = omega (arith, c .before .loop-test .taken)
 
--- src/points.rt:83:9
 add-p : tie.Need-add-p Inv-loop μ-loop
 add-p c = omega (arith, c .before .before .loop-test .taken)
 
--- src/points.rt:80:5
 loop-less : tie.Need-loop-less Inv-loop μ-loop
 loop-less c = omega (arith, c .before .before .loop-test .taken)
 
--- src/points.rt:80:5
 loop-again : tie.Need-loop-again Inv-loop μ-loop
 loop-again c =
     let a = c .before .before .before .before .before .args in
@@ -51,7 +43,6 @@ loop-again c =
     let x = c .before .get8 in
     (omega (arith, c .before .before .loop-test .taken), has-more (a .work .now) (a .g) (a .row .now) (l .p) (x .result) (getD (a .row .now) (l .p) 0) (l .some) (x .ensures) refl (l .inv .1))
 
--- src/points.rt:74:1
 returns : tie.Need-returns Inv-loop μ-loop
 returns c = λ e p h. c .before .loop .inv .1 e p (omega (arith, c .loop-test .left, h))
 

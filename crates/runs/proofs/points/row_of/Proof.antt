@@ -17,39 +17,30 @@ Inv-loop work g set y t₀ p₀ t p = (p ≤ 8) × Placed (λ b v. v ≡ cond (e
 abbrev μ-loop : tie.MeasureT-loop
 μ-loop work g set y t₀ p₀ t p = 8 - p
 
--- src/points.rt:66:5
 loop-holds : tie.Need-loop-holds Inv-loop μ-loop
 loop-holds c = (omega arith, (refl, λ b h. absurd (omega (arith, h))))
 
--- src/points.rt:67:52
 mul-get8 : tie.Need-mul-get8 Inv-loop μ-loop
 mul-get8 c = omega (arith, c .before .before .before .pre .0)
 
--- src/points.rt:67:52
 add-get8 : tie.Need-add-get8 Inv-loop μ-loop
 add-get8 c = omega (arith, c .loop-test .taken, c .before .before .before .pre .0)
 
--- src/points.rt:67:23
 get8-requires : tie.Need-get8-requires Inv-loop μ-loop
 get8-requires c κs = omega (arith, c .loop-test .taken, c .before .before .before .pre .0, c .before .before .before .pre .1)
 
--- src/points.rt:67:16
 unless-requires : tie.Need-unless-requires Inv-loop μ-loop
 unless-requires c κs = search needs
 
--- src/points.rt:67:9
 array-write-t : tie.Need-array-write-t Inv-loop μ-loop
 array-write-t c = omega (arith, c .before .before .loop-test .taken)
 
--- src/points.rt:68:9
 add-p : tie.Need-add-p Inv-loop μ-loop
 add-p c = omega (arith, c .before .before .loop-test .taken)
 
--- src/points.rt:66:5
 loop-less : tie.Need-loop-less Inv-loop μ-loop
 loop-less c = omega (arith, c .before .before .loop-test .taken)
 
--- src/points.rt:66:5
 loop-again : tie.Need-loop-again Inv-loop μ-loop
 loop-again c =
     let a = c .before .before .before .before .before .args in
@@ -59,7 +50,6 @@ loop-again c =
           (c .unless .ensures ∙ ap (λ (x : ℕ). cond (eqb (bitAnd x (a .set)) 0) 0 (a .y)) (c .before .get8 .ensures)) (l .inv .1),
     )
 
--- src/points.rt:60:1
 returns : tie.Need-returns Inv-loop μ-loop
 returns c = λ p h. c .before .loop .inv .1 .1 p (omega (arith, c .loop-test .left, h))
 

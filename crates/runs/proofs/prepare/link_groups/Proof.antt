@@ -20,15 +20,12 @@ Inv-loop graph rules s work₀ e₀ work e =
 abbrev μ-loop : tie.MeasureT-loop
 μ-loop graph rules s work₀ e₀ work e = s .edges - e
 
--- src/prepare.rt:118:5
 loop-holds : tie.Need-loop-holds Inv-loop μ-loop
 loop-holds c = (omega arith, refl, c .before .before .before .pre .1 .1, λ q d. refl)
 
--- src/prepare.rt:119:13
 opened-label-requires : tie.Need-opened-label-requires Inv-loop μ-loop
 opened-label-requires c κs = (c .before .before .before .before .before .before .pre .0, c .if1 .taken)
 
--- src/prepare.rt:120:9
 link-requires : tie.Need-link-requires Inv-loop μ-loop
 link-requires c κs =
     let k = c .before .before .before .before .before .before .before .before in
@@ -41,15 +38,12 @@ link-requires c κs =
       (omega (arith, t, l .inv .1, k .pre .1 .0, k .pre .0 .few-edges), omega (arith, t, k .pre .0 .few-edges)),
     )
 
--- src/prepare.rt:121:9
 add-e : tie.Need-add-e Inv-loop μ-loop
 add-e c = omega (arith, c .before .before .before .before .before .if1 .taken, c .before .before .before .before .before .before .before .before .before .before .before .pre .0 .few-edges)
 
--- src/prepare.rt:118:5
 loop-less : tie.Need-loop-less Inv-loop μ-loop
 loop-less c = omega (arith, c .before .before .before .before .before .if1 .taken)
 
--- src/prepare.rt:118:5
 loop-again : tie.Need-loop-again Inv-loop μ-loop
 loop-again c =
     let k = c .before .before .before .before .before .before .before .before .before .before .before in
@@ -63,11 +57,9 @@ loop-again c =
     (omega (arith, l .inv .1, k .pre .1 .0)) (l .inv .2) (l .inv .3) (p .ensures) in
     (omega (arith, t), p .kept .0 ∙ l .inv .1, n .0, n .1)
 
--- src/prepare.rt:113:1
 same-length : tie.Need-same-length Inv-loop μ-loop
 same-length c = c .before .before .loop .inv .1
 
--- src/prepare.rt:113:1
 returns : tie.Need-returns Inv-loop μ-loop
 returns c =
     let k = c .before .before .before .before .before .before in

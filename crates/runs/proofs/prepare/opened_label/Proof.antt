@@ -10,62 +10,48 @@ use borrow.Author.Needs.{needs}
 use Rattle.runs.proofs.prepare.opened_label.Statement.{statement}
 use Rattle.runs.proofs.prepare.opened_label.Tie as tie
 
--- src/prepare.rt:97:28
 edge-at-requires : tie.Need-edge-at-requires
 edge-at-requires c κs = search needs
 
--- src/prepare.rt:97:20
 enum-known-edge : tie.Need-enum-known-edge
 enum-known-edge c = search needs
 
--- src/prepare.rt:98:9
 enum-told : tie.Need-enum-told
 enum-told c = search needs
 
--- src/prepare.rt:98:9
 returns : tie.Need-returns
 returns c = search needs
 
--- src/prepare.rt:101:16
 cast-result : tie.Need-cast-result
 cast-result c = search needs
 
--- src/prepare.rt:101:9
 returns-2 : tie.Need-returns-2
 returns-2 c = let a = c .before .before .before .before .before .before .before .before .args in opening-first (decode-graph (a .graph .now)) (a .e) _ (held-edge (c .before .before .before .before .before .edge-at .result) _ (getD ((decode-graph (a .graph .now)) .edges) (a .e) no-edge) (c .before .before .before .edge .given .1) (c .before .before .before .before .before .edge-at .ensures)) (c .before .if1 .taken)
 
--- src/prepare.rt:103:54
 sub-edge-at : tie.Need-sub-edge-at
 sub-edge-at c = search needs
 
--- src/prepare.rt:103:30
 edge-at-requires-2 : tie.Need-edge-at-requires-2
 edge-at-requires-2 c κs = search needs
 
--- src/prepare.rt:103:20
 enum-known-before : tie.Need-enum-known-before
 enum-known-before c = search needs
 
--- src/prepare.rt:104:9
 enum-told-2 : tie.Need-enum-told-2
 enum-told-2 c = search needs
 
--- src/prepare.rt:104:9
 returns-3 : tie.Need-returns-3
 returns-3 c = search needs
 
--- src/prepare.rt:107:9
 returns-4 : tie.Need-returns-4
 returns-4 c =
     let a = c .before .before .before .before .before .before .before .before .before .before .before .before .before .before .before .before .args in
     opening-next (decode-graph (a .graph .now)) (a .e) _ (held-edge (c .before .before .before .before .before .before .before .before .before .before .before .before .before .edge-at .result) _ (getD ((decode-graph (a .graph .now)) .edges) (a .e) no-edge) (c .before .before .before .before .before .before .before .before .before .before .before .edge .given .1) (c .before .before .before .before .before .before .before .before .before .before .before .before .before .edge-at .ensures)) _ (held-edge (c .before .before .before .before .before .before .before .before .edge-at2 .result) _ (getD ((decode-graph (a .graph .now)) .edges) (a .e - 1) no-edge) (c .before .before .before .before .before .before .before2 .given .1) (c .before .before .before .before .before .before .before .before .edge-at2 .ensures))
     (c .before .before .before .before .before .before .before .before .before .if1 .left) true (c .if2 .taken)
 
--- src/prepare.rt:109:5
 cast-result-2 : tie.Need-cast-result-2
 cast-result-2 c = search needs
 
--- src/prepare.rt:93:1
 returns-5 : tie.Need-returns-5
 returns-5 c =
     let a = c .before .before .before .before .before .before .before .before .before .before .before .before .before .before .before .before .before .args in

@@ -4,15 +4,12 @@ use borrow.Author.Needs.{needs}
 use Rattle.runs.proofs.prepare.prepare.Statement.{statement}
 use Rattle.runs.proofs.prepare.prepare.Tie as tie
 
--- src/prepare.rt:130:5
 put-steps-requires : tie.Need-put-steps-requires
 put-steps-requires c κs = search needs
 
--- src/prepare.rt:131:5
 put-firsts-requires : tie.Need-put-firsts-requires
 put-firsts-requires c κs = search needs
 
--- src/prepare.rt:132:5
 link-groups-requires : tie.Need-link-groups-requires
 link-groups-requires c κs =
     let k = c .before .before .before .before .before .before .before .before .before .before .before .before in
@@ -26,11 +23,9 @@ link-groups-requires c κs =
       ),
     )
 
--- src/prepare.rt:126:1
 same-length : tie.Need-same-length
 same-length c = search needs
 
--- src/prepare.rt:126:1
 returns : tie.Need-returns
 returns c =
     let k = c .before .before .before .before .before .before .before .before .before .before .before .before .before .before .before in

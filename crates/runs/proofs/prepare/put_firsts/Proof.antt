@@ -24,11 +24,9 @@ Inv-loop graph rules s work₀ g₀ first₀ work g first =
 abbrev μ-loop : tie.MeasureT-loop
 μ-loop graph rules s work₀ g₀ first₀ work g first = s .nodes - g
 
--- src/prepare.rt:84:5
 put16-requires : tie.Need-put16-requires Inv-loop μ-loop
 put16-requires c κs = omega (arith, c .before .before .before .before .pre .1)
 
--- src/prepare.rt:85:5
 loop-holds : tie.Need-loop-holds Inv-loop μ-loop
 loop-holds c =
     let k = c .before .before .before .before .before .before .before in
@@ -42,33 +40,27 @@ loop-holds c =
       λ q d. refl,
     )
 
--- src/prepare.rt:86:9
 next-first-requires : tie.Need-next-first-requires Inv-loop μ-loop
 next-first-requires c κs = let k = c .before .before .before .before .before .before .before .before .before .before in (k .pre .0 .graph-file, k .pre .0 .nodes-are, c .before .before .loop .inv .2)
 
--- src/prepare.rt:87:9
 add-g : tie.Need-add-g Inv-loop μ-loop
 add-g c = omega (arith, c .before .if1 .taken, c .before .before .before .before .before .before .before .before .before .before .before .pre .0 .few-nodes)
 
--- src/prepare.rt:88:41
 cast-put16 : tie.Need-cast-put16 Inv-loop μ-loop
 cast-put16 c =
     let k = c .before .before .before .before .before .before .before .before .before .before .before .before in
     let a = k .args in
     omega (arith, c .before .next-first .ensures, few-first (a .s) (a .graph .now) (a .rules .now) (k .pre .0) (c .before .before .before .before .loop .g + 1))
 
--- src/prepare.rt:88:9
 put16-requires-2 : tie.Need-put16-requires-2 Inv-loop μ-loop
 put16-requires-2 c κs =
     let k = c .before .before .before .before .before .before .before .before .before .before .before .before in
     let z = c .before .before .before .before .before .before .before .put16 in
     omega (arith, c .before .before .if1 .taken, k .pre .0 .few-nodes, k .pre .1, c .before .before .before .before .loop .inv .1, z .kept .0)
 
--- src/prepare.rt:85:5
 loop-less : tie.Need-loop-less Inv-loop μ-loop
 loop-less c = omega (arith, c .before .before .before .before .before .if1 .taken)
 
--- src/prepare.rt:85:5
 loop-again : tie.Need-loop-again Inv-loop μ-loop
 loop-again c =
     let k = c .before .before .before .before .before .before .before .before .before .before .before .before .before .before .before in
@@ -87,11 +79,9 @@ loop-again c =
       put-outside (z .last .0) (l .work) _ 33792 2 (l .g + 1) (f .result) 33792 34306 (p .ensures) (omega arith) (omega (arith, t, k .pre .0 .few-nodes)) (l .inv .4),
     )
 
--- src/prepare.rt:78:1
 same-length : tie.Need-same-length Inv-loop μ-loop
 same-length c = c .before .before .loop .inv .1 ∙ c .before .before .before .before .before .put16 .kept .0
 
--- src/prepare.rt:78:1
 returns : tie.Need-returns Inv-loop μ-loop
 returns c =
     let k = c .before .before .before .before .before .before .before .before .before .before in

@@ -9,23 +9,18 @@ use borrow.Author.Needs.{needs}
 use Rattle.runs.proofs.prepare.put_rule.Statement.{statement}
 use Rattle.runs.proofs.prepare.put_rule.Tie as tie
 
--- src/prepare.rt:57:28
 rule-at-requires : tie.Need-rule-at-requires
 rule-at-requires c κs = search needs
 
--- src/prepare.rt:57:20
 enum-known-rule : tie.Need-enum-known-rule
 enum-known-rule c = search needs
 
--- src/prepare.rt:58:9
 enum-told : tie.Need-enum-told
 enum-told c = search needs
 
--- src/prepare.rt:58:9
 returns : tie.Need-returns
 returns c = absurd (rule-read (c .before .before .rule-at .result) _ _ (c .before .before .rule-at .ensures) (c .enum-told .given .1))
 
--- src/prepare.rt:60:14
 slot-requires : tie.Need-slot-requires
 slot-requires c κs =
     let k = c .before .before .before .before .before .before in
@@ -33,23 +28,18 @@ slot-requires c κs =
     rule-slot (k .args .rules .now) (k .pre .0) (k .args .j) (k .pre .1 .0) _
     (held-rule (x .result) _ (getD (decode-rules (k .args .rules .now)) (k .args .j) no-rule) (c .before .rule .given .1) (x .ensures))
 
--- src/prepare.rt:60:51
 cast-at : tie.Need-cast-at
 cast-at c = search needs
 
--- src/prepare.rt:60:14
 add-at : tie.Need-add-at
 add-at c = search needs
 
--- src/prepare.rt:61:5
 put8-requires : tie.Need-put8-requires
 put8-requires c κs = search needs
 
--- src/prepare.rt:53:1
 same-length : tie.Need-same-length
 same-length c = search needs
 
--- src/prepare.rt:53:1
 returns-2 : tie.Need-returns-2
 returns-2 c =
     let k = c .before .before .before .before .before .before .before .before .before .before .before .before in

@@ -15,19 +15,15 @@ Inv-loop rules work₀ j₀ work j = (j ≤ count rules) × (length work ≡ len
 abbrev μ-loop : tie.MeasureT-loop
 μ-loop rules work₀ j₀ work j = j
 
--- src/prepare.rt:69:5
 start-steps-requires : tie.Need-start-steps-requires Inv-loop μ-loop
 start-steps-requires c κs = c .before .before .before .pre
 
--- src/prepare.rt:71:5
 loop-holds : tie.Need-loop-holds Inv-loop μ-loop
 loop-holds c = (omega arith, refl, c .before .before .start-steps .ensures .0, λ q d. refl)
 
--- src/prepare.rt:72:9
 sub-j : tie.Need-sub-j Inv-loop μ-loop
 sub-j c = omega (arith, c .loop-test .taken)
 
--- src/prepare.rt:73:9
 put-rule-requires : tie.Need-put-rule-requires Inv-loop μ-loop
 put-rule-requires c κs =
     let k = c .before .before .before .before .before .before .before .before .before in
@@ -41,22 +37,18 @@ put-rule-requires c κs =
       ),
     )
 
--- src/prepare.rt:71:5
 loop-less : tie.Need-loop-less Inv-loop μ-loop
 loop-less c = omega (arith, c .before .before .before .before .loop-test .taken)
 
--- src/prepare.rt:71:5
 loop-again : tie.Need-loop-again Inv-loop μ-loop
 loop-again c =
     let l = c .before .before .before .before .before .loop in
     let p = c .before .before .put-rule in
     (omega (arith, l .inv .0), p .kept .1 .0 ∙ l .inv .1, p .ensures .0, λ q d. p .ensures .1 q d ∙ l .inv .3 q d)
 
--- src/prepare.rt:65:1
 same-length : tie.Need-same-length Inv-loop μ-loop
 same-length c = c .before .loop .inv .1 ∙ c .before .before .before .before .start-steps .kept .1 .0
 
--- src/prepare.rt:65:1
 returns : tie.Need-returns Inv-loop μ-loop
 returns c =
     let k = c .before .before .before .before .before .before .before .before in

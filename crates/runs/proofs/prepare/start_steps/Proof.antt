@@ -15,27 +15,21 @@ Inv-loop rules work₀ i₀ work i = (i ≤ 1024) × (length work ≡ length wor
 abbrev μ-loop : tie.MeasureT-loop
 μ-loop rules work₀ i₀ work i = 1024 - i
 
--- src/prepare.rt:46:5
 loop-holds : tie.Need-loop-holds Inv-loop μ-loop
 loop-holds c = (omega arith, refl, (λ u h. absurd (omega arith)), λ q d. refl)
 
--- src/prepare.rt:47:41
 cast-put8 : tie.Need-cast-put8 Inv-loop μ-loop
 cast-put8 c = omega arith
 
--- src/prepare.rt:47:9
 put8-requires : tie.Need-put8-requires Inv-loop μ-loop
 put8-requires c κs = omega (arith, c .before .loop-test .taken, c .before .before .loop .inv .1, c .before .before .before .before .before .pre .1)
 
--- src/prepare.rt:48:9
 add-i : tie.Need-add-i Inv-loop μ-loop
 add-i c = omega (arith, c .before .before .before .before .loop-test .taken)
 
--- src/prepare.rt:46:5
 loop-less : tie.Need-loop-less Inv-loop μ-loop
 loop-less c = omega (arith, c .before .before .before .before .loop-test .taken)
 
--- src/prepare.rt:46:5
 loop-again : tie.Need-loop-again Inv-loop μ-loop
 loop-again c =
     let k = c .before .before .before .before .before .before .before .before in
@@ -48,11 +42,9 @@ loop-again c =
       put-outside (k .args .work .now) (l .work) _ 32768 1 (l .i) (l .i % 8) 32768 33792 (p .ensures) (omega arith) (omega (arith, t)) (l .inv .3),
     )
 
--- src/prepare.rt:41:1
 same-length : tie.Need-same-length Inv-loop μ-loop
 same-length c = c .before .loop .inv .1
 
--- src/prepare.rt:41:1
 returns : tie.Need-returns Inv-loop μ-loop
 returns c =
     let k = c .before .before .before .before in

@@ -5,19 +5,15 @@ use borrow.Author.Needs.{needs}
 use Rattle.runs.proofs.prepare.step.Statement.{statement}
 use Rattle.runs.proofs.prepare.step.Tie as tie
 
--- src/prepare.rt:37:34
 slot-requires : tie.Need-slot-requires
 slot-requires c κs = search needs
 
--- src/prepare.rt:37:34
 add-get8 : tie.Need-add-get8
 add-get8 c = search needs
 
--- src/prepare.rt:37:5
 get8-requires : tie.Need-get8-requires
 get8-requires c κs = search needs
 
--- src/prepare.rt:33:1
 returns : tie.Need-returns
 returns c =
     let k = c .before .before .before .before in

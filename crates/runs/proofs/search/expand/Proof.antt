@@ -12,46 +12,39 @@ use borrow.Author.Needs.{needs}
 use Rattle.runs.proofs.search.expand.Statement.{statement}
 use Rattle.runs.proofs.search.expand.Tie as tie
 
--- src/search.rt:73:14
 mul-at : tie.Need-mul-at
 mul-at c =
     let k = c .before .before .before in
     let a = k .args in
     omega (arith, item-few (a .s) (a .graph .now) (a .rules .now) (k .pre .0) (a .start) (a .head) (a .tail) (a .work .now) (k .pre .1 .1 .1 .0) (k .pre .1 .1 .0))
 
--- src/search.rt:74:23
 add-wide : tie.Need-add-wide
 add-wide c =
     let k = c .before .before .before in
     let a = k .args in
     omega (arith, item-few (a .s) (a .graph .now) (a .rules .now) (k .pre .0) (a .start) (a .head) (a .tail) (a .work .now) (k .pre .1 .1 .1 .0) (k .pre .1 .1 .0))
 
--- src/search.rt:74:18
 slice-read-wide : tie.Need-slice-read-wide
 slice-read-wide c =
     let k = c .before .before .before .before in
     let a = k .args in
     omega (arith, item-reads (a .s) (a .graph .now) (a .rules .now) (k .pre .0) (a .start) (a .head) (a .tail) (a .work .now) (k .pre .1 .1 .1 .0) (k .pre .1 .1 .0))
 
--- src/search.rt:74:9
 wide-requires : tie.Need-wide-requires
 wide-requires c κs = search needs
 
--- src/search.rt:75:18
 add-q : tie.Need-add-q
 add-q c =
     let k = c .before .before .before .before .before in
     let a = k .args in
     omega (arith, item-few (a .s) (a .graph .now) (a .rules .now) (k .pre .0) (a .start) (a .head) (a .tail) (a .work .now) (k .pre .1 .1 .1 .0) (k .pre .1 .1 .0))
 
--- src/search.rt:75:13
 slice-read-q : tie.Need-slice-read-q
 slice-read-q c =
     let k = c .before .before .before .before .before .before in
     let a = k .args in
     omega (arith, item-reads (a .s) (a .graph .now) (a .rules .now) (k .pre .0) (a .start) (a .head) (a .tail) (a .work .now) (k .pre .1 .1 .1 .0) (k .pre .1 .1 .0))
 
--- src/search.rt:76:25
 node-at-requires : tie.Need-node-at-requires
 node-at-requires c κs =
     let k = c .before .before .before .before .before .before in
@@ -62,19 +55,15 @@ node-at-requires c κs =
           (node-there (a .s) (a .graph .now) (a .rules .now) (k .pre .0) (a .start) (a .head) (a .tail) (a .work .now) (k .pre .1 .1 .1 .0) (k .pre .1 .1 .0))),
     )
 
--- src/search.rt:76:20
 enum-known-v : tie.Need-enum-known-v
 enum-known-v c = search needs
 
--- src/search.rt:77:9
 enum-told : tie.Need-enum-told
 enum-told c = search needs
 
--- src/search.rt:77:9
 returns : tie.Need-returns
 returns c = absurd (node-read (c .before .before .node-at .result) _ _ (c .before .before .node-at .ensures) (c .enum-told .given .1))
 
--- src/search.rt:80:9
 returns-2 : tie.Need-returns-2
 returns-2 c =
     let k = c .before .before .before .before .before .before .before .before .before .before .before in
@@ -85,7 +74,6 @@ returns-2 c =
     (c .before .before .before .before .before .before .wide .result) (getD (a .work .now) (6 * a .head + 5) 0) (c .before .before .before .before .before .before .wide .ensures .0) refl _ h
     (c .if1 .taken)
 
--- src/search.rt:82:9
 called-set-requires : tie.Need-called-set-requires
 called-set-requires c κs =
     let k = c .before .before .before .before .before .before .before .before .before .before .before .before in
@@ -103,7 +91,6 @@ called-set-requires c κs =
       ),
     )
 
--- src/search.rt:83:9
 look-internals-requires : tie.Need-look-internals-requires
 look-internals-requires c κs =
     let k = c .before .before .before .before .before .before .before .before .before .before .before .before .before .before in
@@ -123,7 +110,6 @@ look-internals-requires c κs =
       ),
     )
 
--- src/search.rt:84:9
 look-entered-requires : tie.Need-look-entered-requires
 look-entered-requires c κs =
     let k = c .before .before .before .before .before .before .before .before .before .before .before .before .before .before .before .before .before .before in
@@ -150,7 +136,6 @@ look-entered-requires c κs =
       ),
     )
 
--- src/search.rt:85:5
 look-passeds-requires : tie.Need-look-passeds-requires
 look-passeds-requires c κs =
     let k = c .before .before .before .before .before .before .before .before .before .before .before .before .before .before .before .before .before .before .before .before .before .before in
@@ -185,11 +170,9 @@ look-passeds-requires c κs =
       ),
     )
 
--- src/search.rt:60:1
 same-length : tie.Need-same-length
 same-length c = search needs
 
--- src/search.rt:60:1
 returns-3 : tie.Need-returns-3
 returns-3 c =
     let k = c .before .before .before .before .before .before .before .before .before .before .before .before .before .before .before .before .before .before .before .before .before .before

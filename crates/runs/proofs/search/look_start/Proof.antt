@@ -4,30 +4,24 @@ use borrow.Author.Needs.{needs}
 use Rattle.runs.proofs.search.look_start.Statement.{statement}
 use Rattle.runs.proofs.search.look_start.Tie as tie
 
--- src/search.rt:39:8
 is-entry-requires : tie.Need-is-entry-requires
 is-entry-requires c κs = search needs
 
--- src/search.rt:40:36
 cast-push : tie.Need-cast-push
 cast-push c = search needs
 
--- src/search.rt:40:54
 cast-push-2 : tie.Need-cast-push-2
 cast-push-2 c = search needs
 
--- src/search.rt:40:9
 push-requires : tie.Need-push-requires
 push-requires c κs =
     let k = c .before .before .before .before .before .before in
     let a = k .args in
     may-start (a .s) (a .graph .now) (a .rules .now) (k .pre .0) (a .start) (a .tail) (a .work .now) (k .pre .1 .1 .0) (a .n) (k .pre .1 .0) (c .before .before .is-entry .result) (c .before .before .is-entry .ensures) (c .before .if1 .taken) (k .pre .1 .1 .1)
 
--- src/search.rt:40:9
 same-length : tie.Need-same-length
 same-length c = search needs
 
--- src/search.rt:40:9
 returns : tie.Need-returns
 returns c =
     let k = c .before .before .before .before .before .before .before .before .before in
@@ -35,7 +29,6 @@ returns c =
     let x = c .before .before .push in
     did-start (a .s) (a .graph .now) (a .rules .now) (k .pre .0) (a .start) (a .tail) (a .work .now) (k .pre .1 .1 .0) (a .n) (k .pre .1 .0) (c .before .before .before .before .before .is-entry .result) (c .before .before .before .before .before .is-entry .ensures) (c .before .before .before .before .if1 .taken) (k .pre .1 .1 .1) (x .result) (x .last .0) (x .ensures)
 
--- src/search.rt:27:1
 returns-2 : tie.Need-returns-2
 returns-2 c =
     let k = c .before .before .before .before .before in

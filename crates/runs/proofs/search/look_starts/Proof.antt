@@ -16,11 +16,9 @@ Inv-loop graph rules s work₀ start n₀ end₀ work n end = Upto (decode-graph
 abbrev μ-loop : tie.MeasureT-loop
 μ-loop graph rules s work₀ start n₀ end₀ work n end = s .nodes - n
 
--- src/search.rt:52:5
 loop-holds : tie.Need-loop-holds Inv-loop μ-loop
 loop-holds c = let a = c .before .before .before .args in series-start (decode-graph (a .graph .now)) (watch (decode-rules (a .rules .now))) (a .start) 0 (the-starts (decode-graph (a .graph .now)) (watch (decode-rules (a .rules .now))) (a .start)) 1 (a .work .now) 0 (starts-first (decode-graph (a .graph .now)) (watch (decode-rules (a .rules .now))) (a .start))
 
--- src/search.rt:53:9
 look-start-requires : tie.Need-look-start-requires Inv-loop μ-loop
 look-start-requires c κs =
     let k = c .before .before .before .before .before .before .before in
@@ -29,15 +27,12 @@ look-start-requires c κs =
     let h = c .before .if1 .taken in
     (k .pre .0, (h, (omega (arith, l .inv .1 .longer), one-may (decode-graph (a .graph .now)) (watch (decode-rules (a .rules .now))) (a .start) 0 (the-starts (decode-graph (a .graph .now)) (watch (decode-rules (a .rules .now))) (a .start)) 1 (a .work .now) (l .n) (l .work) (l .end) (l .inv) (starts-next (decode-graph (a .graph .now)) (watch (decode-rules (a .rules .now))) (a .start) (l .n) (node-in (a .s) (a .graph .now) (a .rules .now) (k .pre .0) (l .n) h)) (k .pre .1))))
 
--- src/search.rt:54:9
 add-n : tie.Need-add-n Inv-loop μ-loop
 add-n c = omega (arith, c .before .before .before .before .if1 .taken)
 
--- src/search.rt:52:5
 loop-less : tie.Need-loop-less Inv-loop μ-loop
 loop-less c = omega (arith, c .before .before .before .before .if1 .taken)
 
--- src/search.rt:52:5
 loop-again : tie.Need-loop-again Inv-loop μ-loop
 loop-again c =
     let k = c .before .before .before .before .before .before .before .before .before .before in
@@ -46,11 +41,9 @@ loop-again c =
     let x = c .before .before .look-start in
     one-looked (decode-graph (a .graph .now)) (watch (decode-rules (a .rules .now))) (a .start) 0 (the-starts (decode-graph (a .graph .now)) (watch (decode-rules (a .rules .now))) (a .start)) 1 (a .work .now) (l .n) (l .work) (l .end) (l .inv) (starts-next (decode-graph (a .graph .now)) (watch (decode-rules (a .rules .now))) (a .start) (l .n) (node-in (a .s) (a .graph .now) (a .rules .now) (k .pre .0) (l .n) (c .before .before .before .before .if1 .taken))) (x .result) (x .last .1 .1 .1 .0) (x .kept .1 .1 .1 .0) (x .ensures)
 
--- src/search.rt:46:1
 same-length : tie.Need-same-length Inv-loop μ-loop
 same-length c = c .before .before .loop .inv .0
 
--- src/search.rt:46:1
 returns : tie.Need-returns Inv-loop μ-loop
 returns c =
     let k = c .before .before .before .before .before .before in

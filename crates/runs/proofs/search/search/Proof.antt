@@ -17,14 +17,12 @@ Inv-loop graph rules s table work₀ start end₀ head₀ work end head = (lengt
 abbrev μ-loop : tie.MeasureT-loop
 μ-loop graph rules s table work₀ start end₀ head₀ work end head = 2049 - head
 
--- src/search.rt:112:9
 look-starts-requires : tie.Need-look-starts-requires Inv-loop μ-loop
 look-starts-requires c κs =
     let k = c .before .before .before .before in
     let a = k .args in
     (k .pre .0, start-may (decode-graph (a .graph .now)) (watch (decode-rules (a .rules .now))) (a .start) (a .work .now) (k .pre .1 .1 .0) (k .pre .1 .1 .1 .0) (k .pre .1 .1 .1 .1))
 
--- src/search.rt:114:5
 loop-holds : tie.Need-loop-holds Inv-loop μ-loop
 loop-holds c =
     let k = c .before .before .before .before .before .before .before in
@@ -35,7 +33,6 @@ loop-holds c =
           (x .last .1 .1 .1 .0) (x .ensures),
     )
 
--- src/search.rt:115:17
 mul-if1 : tie.Need-mul-if1 Inv-loop μ-loop
 mul-if1 c =
     let k = c .before .before .before .before .before .before .before .before .before in
@@ -43,7 +40,6 @@ mul-if1 c =
     let l = c .before .loop in
     omega (arith, item-few (a .s) (a .graph .now) (a .rules .now) (k .pre .0) (a .start) (l .head) (l .end) (l .work) (l .inv .1) (c .loop-test .taken))
 
--- src/search.rt:115:17
 add-if1 : tie.Need-add-if1 Inv-loop μ-loop
 add-if1 c =
     let k = c .before .before .before .before .before .before .before .before .before in
@@ -51,7 +47,6 @@ add-if1 c =
     let l = c .before .loop in
     omega (arith, item-few (a .s) (a .graph .now) (a .rules .now) (k .pre .0) (a .start) (l .head) (l .end) (l .work) (l .inv .1) (c .loop-test .taken))
 
--- src/search.rt:115:12
 slice-read-if1 : tie.Need-slice-read-if1 Inv-loop μ-loop
 slice-read-if1 c =
     let k = c .before .before .before .before .before .before .before .before .before .before in
@@ -59,14 +54,12 @@ slice-read-if1 c =
     let l = c .before .before .loop in
     omega (arith, item-reads (a .s) (a .graph .now) (a .rules .now) (k .pre .0) (a .start) (l .head) (l .end) (l .work) (l .inv .1) (c .before .loop-test .taken))
 
--- src/search.rt:116:13
 same-length : tie.Need-same-length Inv-loop μ-loop
 same-length c =
     let l = c .before .before .before .loop in
     let x = c .before .before .before .before .before .before .look-starts in
     l .inv .0 ∙ x .kept .1 .1 .1 .0
 
--- src/search.rt:116:13
 returns : tie.Need-returns Inv-loop μ-loop
 returns c =
     let k = c .before .before .before .before .before .before .before .before .before .before .before in
@@ -77,7 +70,6 @@ returns c =
     (c .before .before .loop-test .taken) (bad-there (a .s) (a .graph .now) (a .rules .now) (k .pre .0) (a .start) (l .head) (l .end) (l .work) (l .inv .1) (c .before .before .loop-test .taken)
     (c .if1 .taken))
 
--- src/search.rt:118:9
 expand-requires : tie.Need-expand-requires Inv-loop μ-loop
 expand-requires c κs =
     let k = c .before .before .before .before .before .before .before .before .before .before .before .before in
@@ -97,11 +89,9 @@ expand-requires c κs =
       ),
     )
 
--- src/search.rt:119:9
 add-head : tie.Need-add-head Inv-loop μ-loop
 add-head c = omega (arith, c .before .before .before .before .before .before .loop-test .taken)
 
--- src/search.rt:114:5
 loop-less : tie.Need-loop-less Inv-loop μ-loop
 loop-less c =
     let k = c .before .before .before .before .before .before .before .before .before .before .before .before .before .before .before in
@@ -113,20 +103,17 @@ loop-less c =
           (c .before .before .before .before .before .before .loop-test .taken),
     )
 
--- src/search.rt:114:5
 loop-again : tie.Need-loop-again Inv-loop μ-loop
 loop-again c =
     let l = c .before .before .before .before .before .before .before .loop in
     (c .before .before .expand .kept .1 .1 .1 .1 .0 ∙ l .inv .0, c .before .before .expand .ensures)
 
--- src/search.rt:101:1
 same-length-2 : tie.Need-same-length-2 Inv-loop μ-loop
 same-length-2 c =
     let l = c .before .loop in
     let x = c .before .before .before .before .look-starts in
     l .inv .0 ∙ x .kept .1 .1 .1 .0
 
--- src/search.rt:101:1
 returns-2 : tie.Need-returns-2 Inv-loop μ-loop
 returns-2 c =
     let k = c .before .before .before .before .before .before .before .before .before in

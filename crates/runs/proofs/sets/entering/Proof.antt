@@ -17,43 +17,33 @@ Inv-loop rules work a m p at q₀ y₀ q y = (q ≤ 8) × Picked (λ (i : ℕ). 
 abbrev μ-loop : tie.MeasureT-loop
 μ-loop rules work a m p at q₀ y₀ q y = 8 - q
 
--- src/sets.rt:97:9
 slot-requires : tie.Need-slot-requires Inv-loop μ-loop
 slot-requires c κs = (omega arith, (omega arith, c .before .before .pre .1 .1))
 
--- src/sets.rt:100:5
 loop-holds : tie.Need-loop-holds Inv-loop μ-loop
 loop-holds c = (omega arith, picked-none (λ (i : ℕ). eqb (watch (decode-rules (c .before .before .before .args .rules .now)) i (calls (c .before .before .before .args .a) (c .before .before .before .args .m))) (c .before .before .before .args .p)))
 
--- src/sets.rt:101:46
 cast-get8 : tie.Need-cast-get8 Inv-loop μ-loop
 cast-get8 c = omega (arith, c .loop-test .taken)
 
--- src/sets.rt:101:41
 add-get8 : tie.Need-add-get8 Inv-loop μ-loop
 add-get8 c = omega (arith, c .before .before .slot .ensures .1, c .loop-test .taken)
 
--- src/sets.rt:101:12
 get8-requires : tie.Need-get8-requires Inv-loop μ-loop
 get8-requires c κs = omega (arith, c .before .before .slot .ensures .1, c .loop-test .taken, c .before .before .before .before .before .pre .1 .0)
 
--- src/sets.rt:101:12
 cast-if1 : tie.Need-cast-if1 Inv-loop μ-loop
 cast-if1 c = omega arith
 
--- src/sets.rt:102:21
 one-state-requires : tie.Need-one-state-requires Inv-loop μ-loop
 one-state-requires c κs = c .before .before .loop-test .taken
 
--- src/sets.rt:104:9
 add-q : tie.Need-add-q Inv-loop μ-loop
 add-q c = omega (arith, c .before .before .loop-test .taken)
 
--- src/sets.rt:100:5
 loop-less : tie.Need-loop-less Inv-loop μ-loop
 loop-less c = omega (arith, c .before .before .loop-test .taken)
 
--- src/sets.rt:100:5
 loop-again : tie.Need-loop-again Inv-loop μ-loop
 loop-again c =
     let k = c .before .before .before .before .before .before .before in
@@ -71,7 +61,6 @@ loop-again c =
           (c .if1 .came),
     )
 
--- src/sets.rt:93:1
 returns : tie.Need-returns Inv-loop μ-loop
 returns c = λ q h. c .before .loop .inv .1 .0 q (omega (arith, c .loop-test .left, h))
 

@@ -16,35 +16,27 @@ Inv-loop rules work m p t₀ a₀ t a = (a ≤ 8) × Placed (λ b v. (q : ℕ) �
 abbrev μ-loop : tie.MeasureT-loop
 μ-loop rules work m p t₀ a₀ t a = 8 - a
 
--- src/sets.rt:116:5
 loop-holds : tie.Need-loop-holds Inv-loop μ-loop
 loop-holds c = (omega arith, (refl, λ b h. absurd (omega (arith, h))))
 
--- src/sets.rt:117:47
 add-entering : tie.Need-add-entering Inv-loop μ-loop
 add-entering c = omega (arith, c .loop-test .taken)
 
--- src/sets.rt:117:25
 entering-requires : tie.Need-entering-requires Inv-loop μ-loop
 entering-requires c κs = (c .before .before .before .before .pre .0, (c .before .before .before .before .pre .1 .0, (omega arith, (omega (arith, c .loop-test .taken), c .before .before .before .before .pre .1 .1))))
 
--- src/sets.rt:117:11
 cast-t : tie.Need-cast-t Inv-loop μ-loop
 cast-t c = omega arith
 
--- src/sets.rt:117:9
 array-write-t : tie.Need-array-write-t Inv-loop μ-loop
 array-write-t c = omega (arith, c .before .loop-test .taken)
 
--- src/sets.rt:118:9
 add-a : tie.Need-add-a Inv-loop μ-loop
 add-a c = omega (arith, c .before .loop-test .taken)
 
--- src/sets.rt:116:5
 loop-less : tie.Need-loop-less Inv-loop μ-loop
 loop-less c = omega (arith, c .before .loop-test .taken)
 
--- src/sets.rt:116:5
 loop-again : tie.Need-loop-again Inv-loop μ-loop
 loop-again c =
     let a = c .before .before .before .before .before .args in
@@ -54,7 +46,6 @@ loop-again c =
           (λ q h. c .entering .ensures q h ∙ ap (λ (k : ℕ). eqb (watch (decode-rules (a .rules .now)) q (calls k (a .m))) (a .p)) (add-one (l .a))) (l .inv .1),
     )
 
--- src/sets.rt:110:1
 returns : tie.Need-returns Inv-loop μ-loop
 returns c = λ b q hb hq. c .before .loop .inv .1 .1 b (omega (arith, c .loop-test .left, hb)) q hq
 

@@ -3,11 +3,9 @@ use borrow.Author.Needs.{needs}
 use Rattle.runs.proofs.sets.one_state.Statement.{statement}
 use Rattle.runs.proofs.sets.one_state.Tie as tie
 
--- src/sets.rt:29:5
 shl-result : tie.Need-shl-result
 shl-result c = search needs
 
--- src/sets.rt:25:1
 returns : tie.Need-returns
 returns c = weight (c .args .q) (c .pre)
 

@@ -7,21 +7,17 @@ use borrow.Author.Needs.{needs}
 use Rattle.runs.proofs.sets.pass.Statement.{statement}
 use Rattle.runs.proofs.sets.pass.Tie as tie
 
--- src/sets.rt:87:9
 step-set-requires : tie.Need-step-set-requires
 step-set-requires c κs = search needs
 
--- src/sets.rt:88:9
 sum-set-requires : tie.Need-sum-set-requires
 sum-set-requires c κs = search needs
 
--- src/sets.rt:89:5
 step-set-requires-2 : tie.Need-step-set-requires-2
 step-set-requires-2 c κs =
     let p = c .before .before .before .before .before .pre in
     (p .0, (p .1 .0, (p .1 .1 .0, (omega arith, (omega arith, (p .1 .1 .1 .1 .1 .0, (p .1 .1 .1 .1 .1 .1, (p .1 .1 .1 .0, p .1 .1 .1 .1 .0))))))))
 
--- src/sets.rt:75:1
 returns : tie.Need-returns
 returns c =
     let a = c .before .before .before .before .before .before .args in

@@ -15,35 +15,27 @@ Inv-loop graph rules s work m x t₀ a₀ t a = (a ≤ 8) × Placed (λ b v. v �
 abbrev μ-loop : tie.MeasureT-loop
 μ-loop graph rules s work m x t₀ a₀ t a = 8 - a
 
--- src/sets.rt:137:5
 loop-holds : tie.Need-loop-holds Inv-loop μ-loop
 loop-holds c = (omega arith, (refl, λ b h. absurd (omega (arith, h))))
 
--- src/sets.rt:138:66
 add-step-set : tie.Need-add-step-set Inv-loop μ-loop
 add-step-set c = omega (arith, c .loop-test .taken)
 
--- src/sets.rt:138:25
 step-set-requires : tie.Need-step-set-requires Inv-loop μ-loop
 step-set-requires c κs = let k = c .before .before .before .before .before in (k .pre .0, (k .pre .1 .0, (k .pre .1 .1 .0, (omega arith, (omega arith, (k .pre .1 .1 .1 .0, (k .pre .1 .1 .1 .1, (omega arith, omega (arith, c .loop-test .taken)))))))))
 
--- src/sets.rt:138:11
 cast-t : tie.Need-cast-t Inv-loop μ-loop
 cast-t c = omega arith
 
--- src/sets.rt:138:9
 array-write-t : tie.Need-array-write-t Inv-loop μ-loop
 array-write-t c = omega (arith, c .before .loop-test .taken)
 
--- src/sets.rt:139:9
 add-a : tie.Need-add-a Inv-loop μ-loop
 add-a c = omega (arith, c .before .loop-test .taken)
 
--- src/sets.rt:137:5
 loop-less : tie.Need-loop-less Inv-loop μ-loop
 loop-less c = omega (arith, c .before .loop-test .taken)
 
--- src/sets.rt:137:5
 loop-again : tie.Need-loop-again Inv-loop μ-loop
 loop-again c =
     let a = c .before .before .before .before .before .before .args in
@@ -53,7 +45,6 @@ loop-again c =
           (c .step-set .ensures ∙ ap (λ (n : ℕ). union (λ (k : ℕ). 2 ^ watch (decode-rules (a .rules .now)) k (returns-to (a .m) n)) (a .x)) (add-one (l .a))) (l .inv .1),
     )
 
--- src/sets.rt:124:1
 returns : tie.Need-returns Inv-loop μ-loop
 returns c = λ b hb. c .before .loop .inv .1 .1 b (omega (arith, c .loop-test .left, hb))
 

@@ -16,30 +16,24 @@ Inv-loop graph rules work x event m1 m2 at q₀ y₀ q y = (q ≤ 8) × (y ≡ u
 abbrev μ-loop : tie.MeasureT-loop
 μ-loop graph rules work x event m1 m2 at q₀ y₀ q y = 8 - q
 
--- src/sets.rt:46:9
 slot-requires : tie.Need-slot-requires Inv-loop μ-loop
 slot-requires c κs = c .before .before .before .pre .1 .1 .1
 
--- src/sets.rt:49:5
 loop-holds : tie.Need-loop-holds Inv-loop μ-loop
 loop-holds c =
     let a = c .before .before .before .before .args in
     let f = onto (watch (decode-rules (a .rules .now))) (a .event) (a .m1) (a .m2) in
     (omega arith, union-none f (a .x))
 
--- src/sets.rt:50:12
 has-state-requires : tie.Need-has-state-requires Inv-loop μ-loop
 has-state-requires c κs = c .loop-test .taken
 
--- src/sets.rt:51:60
 add-get8 : tie.Need-add-get8 Inv-loop μ-loop
 add-get8 c = omega (arith, c .before .before .before .before .slot .ensures .1)
 
--- src/sets.rt:51:31
 get8-requires : tie.Need-get8-requires Inv-loop μ-loop
 get8-requires c κs = omega (arith, c .before .before .before .before .slot .ensures .1, c .before .before .before .before .before .before .before .before .pre .1 .1 .0)
 
--- src/sets.rt:51:21
 one-state-requires : tie.Need-one-state-requires Inv-loop μ-loop
 one-state-requires c κs =
     let slot = c .before .before .before .before .before .slot in
@@ -52,15 +46,12 @@ one-state-requires c κs =
     (slot .ensures .0) (c .get8 .ensures)))
     (monitor-small (a .s) (a .graph .now) (a .rules .now) (k .pre .0) (l .q) (record { kind = a .event; m1 = a .m1; m2 = a .m2 }) (loop-test .taken))
 
--- src/sets.rt:53:9
 add-q : tie.Need-add-q Inv-loop μ-loop
 add-q c = omega arith
 
--- src/sets.rt:49:5
 loop-less : tie.Need-loop-less Inv-loop μ-loop
 loop-less c = omega arith
 
--- src/sets.rt:49:5
 loop-again : tie.Need-loop-again Inv-loop μ-loop
 loop-again c =
     let slot = c .before .before .before .before .slot in
@@ -79,7 +70,6 @@ loop-again c =
           (λ u. u .1 ∙ union-without f (a .x) (l .q) (l .y) (l .inv .1) (sym (has-state .ensures) ∙ u .0 .left)) (c .if1 .came),
     )
 
--- src/sets.rt:33:1
 returns : tie.Need-returns Inv-loop μ-loop
 returns c =
     let a = c .before .before .before .before .before .before .args in

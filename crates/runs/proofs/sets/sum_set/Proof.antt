@@ -14,35 +14,27 @@ Inv-loop work m x p₀ y₀ p y = (p ≤ 8) × (y ≡ union-to (sums work m) x p
 abbrev μ-loop : tie.MeasureT-loop
 μ-loop work m x p₀ y₀ p y = 8 - p
 
--- src/sets.rt:65:5
 loop-holds : tie.Need-loop-holds Inv-loop μ-loop
 loop-holds c = let a = c .before .args in (omega arith, union-none (sums (a .work .now) (a .m)) (a .x))
 
--- src/sets.rt:66:12
 has-state-requires : tie.Need-has-state-requires Inv-loop μ-loop
 has-state-requires c κs = c .loop-test .taken
 
--- src/sets.rt:67:47
 mul-get8 : tie.Need-mul-get8 Inv-loop μ-loop
 mul-get8 c = omega (arith, c .before .before .before .before .before .pre .0)
 
--- src/sets.rt:67:47
 add-get8 : tie.Need-add-get8 Inv-loop μ-loop
 add-get8 c = omega (arith, c .before .before .before .before .before .pre .0)
 
--- src/sets.rt:67:21
 get8-requires : tie.Need-get8-requires Inv-loop μ-loop
 get8-requires c κs = omega (arith, c .before .before .before .before .before .pre .0, c .before .before .before .before .before .pre .1)
 
--- src/sets.rt:69:9
 add-p : tie.Need-add-p Inv-loop μ-loop
 add-p c = omega arith
 
--- src/sets.rt:65:5
 loop-less : tie.Need-loop-less Inv-loop μ-loop
 loop-less c = omega arith
 
--- src/sets.rt:65:5
 loop-again : tie.Need-loop-again Inv-loop μ-loop
 loop-again c =
     let a = c .before .before .before .before .before .args in
@@ -53,7 +45,6 @@ loop-again c =
           (λ u. u .1 ∙ union-without f (a .x) (l .p) (l .y) (l .inv .1) (sym (c .before .has-state .ensures) ∙ u .0 .left)) (c .if1 .came),
     )
 
--- src/sets.rt:59:1
 returns : tie.Need-returns Inv-loop μ-loop
 returns c =
     let a = c .before .before .before .args in

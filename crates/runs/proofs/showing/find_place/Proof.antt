@@ -3,19 +3,15 @@ use borrow.Author.Needs.{needs}
 use Rattle.runs.proofs.showing.find_place.Statement.{statement}
 use Rattle.runs.proofs.showing.find_place.Tie as tie
 
--- src/showing.rt:47:11
 check-graph-requires : tie.Need-check-graph-requires
 check-graph-requires c κs = search needs
 
--- src/showing.rt:48:26
 enum-known-refusal : tie.Need-enum-known-refusal
 enum-known-refusal c = search needs
 
--- src/showing.rt:49:29
 enum-known-nodes : tie.Need-enum-known-nodes
 enum-known-nodes c = search needs
 
--- src/showing.rt:49:44
 place-second-requires : tie.Need-place-second-requires
 place-second-requires c κs =
     let k = c .before .before .before .before .before .before in
@@ -24,7 +20,6 @@ place-second-requires c κs =
     first-counts (k .args .limits) (k .args .graph1 .now) (k .args .graph2 .now) (k .args .number) (g .result) (g .ensures)
     (x .0 .0) (x .0 .1 .0) (x .1)
 
--- src/showing.rt:44:1
 returns : tie.Need-returns
 returns c =
     let k = c .before .before .before .before .before .before in
@@ -32,7 +27,6 @@ returns c =
     first-refused (k .args .limits) (k .args .graph1 .now) (k .args .graph2 .now) (k .args .number) (g .result) (g .ensures)
     (c .before .refusal .given .0 .0) (c .before .refusal .given .1)
 
--- src/showing.rt:44:1
 returns-2 : tie.Need-returns-2
 returns-2 c =
     let k = c .before .before .before .before .before .before .before in

@@ -3,19 +3,15 @@ use borrow.Author.Needs.{needs}
 use Rattle.runs.proofs.showing.place_second.Statement.{statement}
 use Rattle.runs.proofs.showing.place_second.Tie as tie
 
--- src/showing.rt:29:11
 check-graph-requires : tie.Need-check-graph-requires
 check-graph-requires c κs = search needs
 
--- src/showing.rt:30:26
 enum-known-refusal : tie.Need-enum-known-refusal
 enum-known-refusal c = search needs
 
--- src/showing.rt:31:29
 enum-known-nodes : tie.Need-enum-known-nodes
 enum-known-nodes c = search needs
 
--- src/showing.rt:33:17
 returns : tie.Need-returns
 returns c =
     let k = c .before .before .before .before .before .before .before in
@@ -24,7 +20,6 @@ returns c =
     stands-first (k .args .limits) (k .args .graph1 .now) (k .args .graph2 .now) (k .args .number) (k .pre .0) (g .result) (g .ensures)
     (k .args .n) (x .0 .0) (x .0 .1 .0) (k .pre .1) (x .1) (c .if1 .taken)
 
--- src/showing.rt:36:17
 returns-2 : tie.Need-returns-2
 returns-2 c =
     let k = c .before .before .before .before .before .before .before .before in
@@ -33,11 +28,9 @@ returns-2 c =
     stands-second (k .args .limits) (k .args .graph1 .now) (k .args .graph2 .now) (k .args .number) (k .pre .0) (g .result) (g .ensures)
     (k .args .n) (x .0 .0) (x .0 .1 .0) (k .pre .1) (x .1) (c .before .if1 .left) (c .if2 .taken)
 
--- src/showing.rt:38:28
 whole-requires : tie.Need-whole-requires
 whole-requires c κs = search needs
 
--- src/showing.rt:25:1
 returns-3 : tie.Need-returns-3
 returns-3 c =
     let k = c .before .before .before .before .before .before in
@@ -45,7 +38,6 @@ returns-3 c =
     second-refused (k .args .limits) (k .args .graph1 .now) (k .args .graph2 .now) (k .args .number) (k .pre .0) (g .result) (g .ensures)
     (c .before .refusal .given .0 .0) (c .before .refusal .given .1)
 
--- src/showing.rt:25:1
 returns-4 : tie.Need-returns-4
 returns-4 c =
     let k = c .before .before .before .before .before .before .before .before .before in

@@ -6,15 +6,12 @@ use borrow.Author.Needs.{needs}
 use Rattle.runs.proofs.showing.show_refusal_within.Statement.{statement}
 use Rattle.runs.proofs.showing.show_refusal_within.Tie as tie
 
--- src/showing.rt:92:14
 find-place-requires : tie.Need-find-place-requires
 find-place-requires c κs = search needs
 
--- src/showing.rt:92:5
 shown-at-requires : tie.Need-shown-at-requires
 shown-at-requires c κs = search needs
 
--- src/showing.rt:89:1
 returns : tie.Need-returns
 returns c =
     let a = c .before .before .before .before .args in

@@ -6,15 +6,12 @@ use borrow.Author.Needs.{needs}
 use Rattle.runs.proofs.showing.show_within.Statement.{statement}
 use Rattle.runs.proofs.showing.show_within.Tie as tie
 
--- src/showing.rt:70:11
 find-place-requires : tie.Need-find-place-requires
 find-place-requires c κs = search needs
 
--- src/showing.rt:71:22
 enum-known-i : tie.Need-enum-known-i
 enum-known-i c = search needs
 
--- src/showing.rt:71:28
 record-at-requires : tie.Need-record-at-requires
 record-at-requires c κs =
     let a = c .before .before .before .before .before .before .args in
@@ -22,11 +19,9 @@ record-at-requires c κs =
     let x = c .before .i .given in
     (found-first (shown (a .limits) (a .graph1 .now) (a .graph2 .now) (a .number)) (a .graph1 .now) (a .graph2 .now) (f .result) (f .ensures) (x .0 .0) (x .1)) .0
 
--- src/showing.rt:72:23
 enum-known-i-2 : tie.Need-enum-known-i-2
 enum-known-i-2 c = search needs
 
--- src/showing.rt:72:29
 record-at-requires-2 : tie.Need-record-at-requires-2
 record-at-requires-2 c κs =
     let a = c .before .before .before .before .before .before .args in
@@ -34,15 +29,12 @@ record-at-requires-2 c κs =
     let x = c .before .i2 .given in
     (found-second (shown (a .limits) (a .graph1 .now) (a .graph2 .now) (a .number)) (a .graph1 .now) (a .graph2 .now) (f .result) (f .ensures) (x .0 .0) (x .1)) .0
 
--- src/showing.rt:73:30
 enum-told : tie.Need-enum-told
 enum-told c = search needs
 
--- src/showing.rt:73:30
 slice-aggregate-result : tie.Need-slice-aggregate-result
 slice-aggregate-result c = search needs
 
--- src/showing.rt:62:1
 returns : tie.Need-returns
 returns c =
     let a = c .before .before .before .before .before .before .before .args in
@@ -50,7 +42,6 @@ returns c =
     let x = c .before .before .i .given in
     c .record-at .ensures ∙ (found-first (shown (a .limits) (a .graph1 .now) (a .graph2 .now) (a .number)) (a .graph1 .now) (a .graph2 .now) (f .result) (f .ensures) (x .0 .0) (x .1)) .1
 
--- src/showing.rt:62:1
 returns-2 : tie.Need-returns-2
 returns-2 c =
     let a = c .before .before .before .before .before .before .before .args in
@@ -58,7 +49,6 @@ returns-2 c =
     let x = c .before .before .i2 .given in
     c .record-at2 .ensures ∙ (found-second (shown (a .limits) (a .graph1 .now) (a .graph2 .now) (a .number)) (a .graph1 .now) (a .graph2 .now) (f .result) (f .ensures) (x .0 .0) (x .1)) .1
 
--- src/showing.rt:62:1
 returns-3 : tie.Need-returns-3
 returns-3 c =
     let a = c .before .before .before .before .before .before .args in

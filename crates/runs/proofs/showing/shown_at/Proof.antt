@@ -5,27 +5,21 @@ use borrow.Author.Needs.{needs}
 use Rattle.runs.proofs.showing.shown_at.Statement.{statement}
 use Rattle.runs.proofs.showing.shown_at.Tie as tie
 
--- src/showing.rt:82:28
 enum-told : tie.Need-enum-told
 enum-told c = search needs
 
--- src/showing.rt:83:29
 enum-told-2 : tie.Need-enum-told-2
 enum-told-2 c = search needs
 
--- src/showing.rt:84:24
 enum-known-place : tie.Need-enum-known-place
 enum-known-place c = search needs
 
--- src/showing.rt:78:1
 returns : tie.Need-returns
 returns c = search needs
 
--- src/showing.rt:78:1
 returns-2 : tie.Need-returns-2
 returns-2 c = search needs
 
--- src/showing.rt:78:1
 returns-3 : tie.Need-returns-3
 returns-3 c = sym (ap shown-at (c .before .place .given .1))
 

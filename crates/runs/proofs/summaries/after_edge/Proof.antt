@@ -11,22 +11,18 @@ use Rattle.runs.specs.Worklist.{passed, sums}
 use Rattle.runs.proofs.summaries.after_edge.Statement.{statement}
 use Rattle.runs.proofs.summaries.after_edge.Tie as tie
 
--- src/summaries.rt:48:9
 returns : tie.Need-returns
 returns c =
     let k = c .before .before .before .before in
     let a = k .args in
     k .pre .1 .1 .1 .1 .1 .1 ∙ ap (λ (l : ℕ). cond (eqb l 0) (a .x) (passed (watch (decode-rules (a .rules .now))) (sums (a .work .now)) (a .caller) l (a .x))) (sym (c .if1 .taken))
 
--- src/summaries.rt:51:9
 returns-2 : tie.Need-returns-2
 returns-2 c = let a = c .before .before .before .before .before .args in sym (ap (λ (b : Bool). cond b (a .x) (passed (watch (decode-rules (a .rules .now))) (sums (a .work .now)) (a .caller) (a .label) (a .x))) (eq-eqb (a .label) 0 (c .if2 .taken)))
 
--- src/summaries.rt:53:5
 pass-requires : tie.Need-pass-requires
 pass-requires c κs = let k = c .before .before .before .before .before in (k .pre .0, (k .pre .1 .0, (k .pre .1 .1 .0, (k .pre .1 .1 .1 .0, (k .pre .1 .1 .1 .1 .0, (omega (arith, c .if2 .left), k .pre .1 .1 .1 .1 .1 .0))))))
 
--- src/summaries.rt:33:1
 returns-3 : tie.Need-returns-3
 returns-3 c = let a = c .before .before .before .before .before .before .args in c .pass .ensures ∙ sym (ap (λ (b : Bool). cond b (a .x) (passed (watch (decode-rules (a .rules .now))) (sums (a .work .now)) (a .caller) (a .label) (a .x))) (ne-eqb (a .label) 0 (c .before .if2 .left)))
 

@@ -9,44 +9,36 @@ use borrow.Author.Needs.{needs}
 use Rattle.runs.proofs.summaries.end_call.Statement.{statement}
 use Rattle.runs.proofs.summaries.end_call.Tie as tie
 
--- src/summaries.rt:202:42
 mul-get8 : tie.Need-mul-get8
 mul-get8 c = search needs
 
--- src/summaries.rt:202:42
 add-get8 : tie.Need-add-get8
 add-get8 c = search needs
 
--- src/summaries.rt:202:9
 get8-requires : tie.Need-get8-requires
 get8-requires c κs = search needs
 
--- src/summaries.rt:203:41
 mul-get8-2 : tie.Need-mul-get8-2
 mul-get8-2 c =
     let k = c .before .before .before .before .before .before in
     let a = k .args in
     omega (arith, method-fits (a .s) (a .graph .now) (a .rules .now) (k .pre .0) (a .g) (a .m) (k .pre .1 .0) (k .pre .1 .1 .1 .0))
 
--- src/summaries.rt:203:41
 add-get8-2 : tie.Need-add-get8-2
 add-get8-2 c =
     let k = c .before .before .before .before .before .before in
     let a = k .args in
     omega (arith, method-fits (a .s) (a .graph .now) (a .rules .now) (k .pre .0) (a .g) (a .m) (k .pre .1 .0) (k .pre .1 .1 .1 .0), k .pre .1 .1 .0)
 
--- src/summaries.rt:203:9
 get8-requires-2 : tie.Need-get8-requires-2
 get8-requires-2 c κs =
     let k = c .before .before .before .before .before .before in
     let a = k .args in
     omega (arith, method-fits (a .s) (a .graph .now) (a .rules .now) (k .pre .0) (a .g) (a .m) (k .pre .1 .0) (k .pre .1 .1 .1 .0), k .pre .1 .1 .0, k .pre .1 .1 .1 .1 .1 .2 .holding .room)
 
--- src/summaries.rt:206:9
 same-length : tie.Need-same-length
 same-length c = search needs
 
--- src/summaries.rt:206:9
 returns : tie.Need-returns
 returns c =
     let get8 = c .before .before .before .get8 in
@@ -58,35 +50,30 @@ returns c =
       (omega arith, λ q h. refl),
     )
 
--- src/summaries.rt:208:31
 mul-put8 : tie.Need-mul-put8
 mul-put8 c =
     let k = c .before .before .before .before .before .before .before .before .before in
     let a = k .args in
     omega (arith, method-fits (a .s) (a .graph .now) (a .rules .now) (k .pre .0) (a .g) (a .m) (k .pre .1 .0) (k .pre .1 .1 .1 .0))
 
--- src/summaries.rt:208:31
 add-put8 : tie.Need-add-put8
 add-put8 c =
     let k = c .before .before .before .before .before .before .before .before .before in
     let a = k .args in
     omega (arith, method-fits (a .s) (a .graph .now) (a .rules .now) (k .pre .0) (a .g) (a .m) (k .pre .1 .0) (k .pre .1 .1 .1 .0), k .pre .1 .1 .0)
 
--- src/summaries.rt:208:5
 put8-requires : tie.Need-put8-requires
 put8-requires c κs =
     let k = c .before .before .before .before .before .before .before .before .before in
     let a = k .args in
     omega (arith, method-fits (a .s) (a .graph .now) (a .rules .now) (k .pre .0) (a .g) (a .m) (k .pre .1 .0) (k .pre .1 .1 .1 .0), k .pre .1 .1 .0, k .pre .1 .1 .1 .1 .1 .2 .holding .room)
 
--- src/summaries.rt:209:44
 cast-entering-by : tie.Need-cast-entering-by
 cast-entering-by c =
     let k = c .before .before .before .before .before .before .before .before .before .before .before .before .before in
     let a = k .args in
     omega (arith, (method-small (a .s) (a .graph .now) (a .rules .now) (k .pre .0) (a .g) (a .m) (k .pre .1 .0) (k .pre .1 .1 .1 .0)) .1)
 
--- src/summaries.rt:209:19
 entering-by-requires : tie.Need-entering-by-requires
 entering-by-requires c κs =
     let get8 = c .before .before .before .before .before .before .before .before .get8 in
@@ -98,14 +85,12 @@ entering-by-requires c κs =
     (omega (arith, get8 .ok)) (omega (arith, get82 .ok)) (get8 .ensures) (get82 .ensures) (put8 .last .0) (put8 .ensures) (k .pre .1 .1 .1 .1 .1) in
     (h .tables .steps, (h .room, method-small (a .s) (a .graph .now) (a .rules .now) (k .pre .0) (a .g) (a .m) (k .pre .1 .0) (k .pre .1 .1 .1 .0)))
 
--- src/summaries.rt:210:52
 cast-returning-by : tie.Need-cast-returning-by
 cast-returning-by c =
     let k = c .before .before .before .before .before .before .before .before .before .before .before .before .before .before .before in
     let a = k .args in
     omega (arith, (method-small (a .s) (a .graph .now) (a .rules .now) (k .pre .0) (a .g) (a .m) (k .pre .1 .0) (k .pre .1 .1 .1 .0)) .1)
 
--- src/summaries.rt:210:16
 returning-by-requires : tie.Need-returning-by-requires
 returning-by-requires c κs =
     let get8 = c .before .before .before .before .before .before .before .before .before .before .get8 in
@@ -117,7 +102,6 @@ returning-by-requires c κs =
     (omega (arith, get8 .ok)) (omega (arith, get82 .ok)) (get8 .ensures) (get82 .ensures) (put8 .last .0) (put8 .ensures) (k .pre .1 .1 .1 .1 .1) in
     (k .pre .0, (h .tables .steps, (h .room, method-small (a .s) (a .graph .now) (a .rules .now) (k .pre .0) (a .g) (a .m) (k .pre .1 .0) (k .pre .1 .1 .1 .0))))
 
--- src/summaries.rt:211:5
 run-calls-requires : tie.Need-run-calls-requires
 run-calls-requires c κs =
     let get8 = c .before .before .before .before .before .before .before .before .before .before .before .before .before .before .get8 in
@@ -145,11 +129,9 @@ run-calls-requires c κs =
       ),
     )
 
--- src/summaries.rt:189:1
 same-length-2 : tie.Need-same-length-2
 same-length-2 c = search needs
 
--- src/summaries.rt:189:1
 returns-2 : tie.Need-returns-2
 returns-2 c =
     let get8 = c .before .before .before .before .before .before .before .before .before .before .before .before .before .before .before .before .before .get8 in

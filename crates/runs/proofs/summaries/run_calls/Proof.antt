@@ -27,15 +27,12 @@ Inv-loop graph rules s callers ends work₀ tail m at₀ end₀ work at end =
 abbrev μ-loop : tie.MeasureT-loop
 μ-loop graph rules s callers ends work₀ tail m at₀ end₀ work at end = at
 
--- src/summaries.rt:178:18
 get16-requires : tie.Need-get16-requires Inv-loop μ-loop
 get16-requires c κs = let k = c .before .before .before .before in omega (arith, k .pre .1 .1 .0, k .pre .1 .1 .1 .0 .room)
 
--- src/summaries.rt:178:18
 cast-at : tie.Need-cast-at Inv-loop μ-loop
 cast-at c = search needs
 
--- src/summaries.rt:180:5
 loop-holds : tie.Need-loop-holds Inv-loop μ-loop
 loop-holds c =
     let k = c .before .before .before .before .before in
@@ -46,11 +43,9 @@ loop-holds c =
           (GroupRan (decode-graph (a .graph .now)) (watch (decode-rules (a .rules .now))) (a .callers .now) (a .ends .now) (a .work .now) (a .work .now)) (c .get16 .ensures ∙ k .pre .1 .1 .1 .0 .tables .by-label .heads-are (a .m) (k .pre .1 .1 .0)),
     )
 
--- src/summaries.rt:181:21
 sub-first : tie.Need-sub-first Inv-loop μ-loop
 sub-first c = search needs
 
--- src/summaries.rt:182:9
 run-source-requires : tie.Need-run-source-requires Inv-loop μ-loop
 run-source-requires c κs =
     let loop-test = c .before .loop-test in
@@ -80,7 +75,6 @@ run-source-requires c κs =
       ),
     )
 
--- src/summaries.rt:183:14
 get16-requires-2 : tie.Need-get16-requires-2 Inv-loop μ-loop
 get16-requires-2 c κs =
     let loop-test = c .before .before .before .before .before .loop-test in
@@ -92,11 +86,9 @@ get16-requires-2 c κs =
     (GroupRan (decode-graph (a .graph .now)) (watch (decode-rules (a .rules .now))) (a .callers .now) (a .ends .now) (a .work .now) (l .work)) (l .inv .2) (loop-test .taken) in
     omega (arith, i .1, edges-fit (a .s) (a .graph .now) (a .rules .now) (k .pre .0), run-source .ensures .0 .holding .room)
 
--- src/summaries.rt:183:14
 cast-at-2 : tie.Need-cast-at-2 Inv-loop μ-loop
 cast-at-2 c = search needs
 
--- src/summaries.rt:180:5
 loop-less : tie.Need-loop-less Inv-loop μ-loop
 loop-less c =
     let loop-test = c .before .before .before .before .before .before .loop-test in
@@ -110,7 +102,6 @@ loop-less c =
     walk-less (opens (decode-graph (a .graph .now)) (a .m)) (l .at) (c .get162 .result) t
     (c .get162 .ensures ∙ run-source .ensures .0 .holding .tables .by-label .nexts-are (a .m) (l .at - 1) (k .pre .1 .1 .0) (i .1) (i .0))
 
--- src/summaries.rt:180:5
 loop-again : tie.Need-loop-again Inv-loop μ-loop
 loop-again c =
     let loop-test = c .before .before .before .before .before .before .loop-test in
@@ -131,11 +122,9 @@ loop-again c =
           (group-from (a .s) (a .graph .now) (a .rules .now) (k .pre .0) (a .tail) (l .end) (a .work .now) (l .work) (l .inv .1) (a .callers .now) (a .ends .now) (l .at - 1) (x .last .1 .1 .1 .1 .1 .0) (x .ensures .1)),
     )
 
--- src/summaries.rt:165:1
 same-length : tie.Need-same-length Inv-loop μ-loop
 same-length c = c .before .loop .inv .0
 
--- src/summaries.rt:165:1
 returns : tie.Need-returns Inv-loop μ-loop
 returns c =
     let k = c .before .before .before .before .before .before .before in

@@ -28,39 +28,30 @@ Inv-loop graph rules s work₀ tail g p caller x j₀ last end₀ label₀ y₀ 
 abbrev μ-loop : tie.MeasureT-loop
 μ-loop graph rules s work₀ tail g p caller x j₀ last end₀ label₀ y₀ work j end label y = last - j
 
--- src/summaries.rt:70:42
 mul-get8 : tie.Need-mul-get8 Inv-loop μ-loop
 mul-get8 c = let k = c .before .before .before .before in omega (arith, k .pre .0 .few-nodes, k .pre .1 .0)
 
--- src/summaries.rt:70:42
 add-get8 : tie.Need-add-get8 Inv-loop μ-loop
 add-get8 c = let k = c .before .before .before .before in omega (arith, k .pre .0 .few-nodes, k .pre .1 .0, k .pre .1 .1 .0)
 
--- src/summaries.rt:70:9
 get8-requires : tie.Need-get8-requires Inv-loop μ-loop
 get8-requires c κs = let k = c .before .before .before .before in omega (arith, k .pre .0 .few-nodes, k .pre .1 .0, k .pre .1 .1 .0, k .pre .1 .1 .1 .1 .1 .room)
 
--- src/summaries.rt:71:17
 get16-requires : tie.Need-get16-requires Inv-loop μ-loop
 get16-requires c κs = let k = c .before .before .before .before .before .before in omega (arith, k .pre .0 .few-nodes, k .pre .1 .0, k .pre .1 .1 .1 .1 .1 .room)
 
--- src/summaries.rt:71:17
 cast-j : tie.Need-cast-j Inv-loop μ-loop
 cast-j c = search needs
 
--- src/summaries.rt:72:45
 add-get16 : tie.Need-add-get16 Inv-loop μ-loop
 add-get16 c = let k = c .before .before .before .before .before .before .before .before in omega (arith, k .pre .0 .few-nodes, k .pre .1 .0)
 
--- src/summaries.rt:72:16
 get16-requires-2 : tie.Need-get16-requires-2 Inv-loop μ-loop
 get16-requires-2 c κs = let k = c .before .before .before .before .before .before .before .before in omega (arith, k .pre .0 .few-nodes, k .pre .1 .0, k .pre .1 .1 .1 .1 .1 .room)
 
--- src/summaries.rt:72:16
 cast-last : tie.Need-cast-last Inv-loop μ-loop
 cast-last c = search needs
 
--- src/summaries.rt:76:5
 loop-holds : tie.Need-loop-holds Inv-loop μ-loop
 loop-holds c =
     let k = c .before .before .before .before .before .before .before .before .before in
@@ -68,7 +59,6 @@ loop-holds c =
     let f = first-held (a .s) (a .graph .now) (a .rules .now) (k .pre .0) (a .tail) (a .work .now) (k .pre .1 .1 .1 .1 .1) (a .g) _ (le-of-lt (k .pre .1 .0)) (c .before .before .get16 .ensures) in
     (refl, grew-none (decode-graph (a .graph .now)) (watch (decode-rules (a .rules .now))) (a .tail) (a .work .now) (k .pre .1 .1 .1 .1 .1), omega (arith, f), refl, λ i h l. absurd (omega (arith, f, h, l)))
 
--- src/summaries.rt:77:29
 edge-at-requires : tie.Need-edge-at-requires Inv-loop μ-loop
 edge-at-requires c κs =
     let k = c .before .before .before .before .before .before .before .before .before .before .before in
@@ -78,23 +68,18 @@ edge-at-requires c κs =
     let hj = edge-in-file (a .s) (a .graph .now) (a .rules .now) (k .pre .0) (a .g + 1) (l .j) (omega (arith, c .loop-test .taken, f)) in
     (k .pre .0 .graph-file, k .pre .0 .nodes-are, omega (arith, hj, k .pre .0 .edges-are, k .pre .0 .nodes-are))
 
--- src/summaries.rt:77:24
 enum-known-e : tie.Need-enum-known-e Inv-loop μ-loop
 enum-known-e c = search needs
 
--- src/summaries.rt:78:13
 enum-told : tie.Need-enum-told Inv-loop μ-loop
 enum-told c = search needs
 
--- src/summaries.rt:78:13
 same-length : tie.Need-same-length Inv-loop μ-loop
 same-length c = c .before .before .before .before .loop .inv .0
 
--- src/summaries.rt:78:13
 returns : tie.Need-returns Inv-loop μ-loop
 returns c = absurd (edge-read (c .before .before .edge-at .result) _ _ (c .before .before .edge-at .ensures) (c .enum-told .given .1))
 
--- src/summaries.rt:80:9
 after-edge-requires : tie.Need-after-edge-requires Inv-loop μ-loop
 after-edge-requires c κs =
     let k = c .before .before .before .before .before .before .before .before .before .before .before .before .before .before .before .before in
@@ -122,7 +107,6 @@ after-edge-requires c κs =
       ),
     )
 
--- src/summaries.rt:82:9
 add-requires : tie.Need-add-requires Inv-loop μ-loop
 add-requires c κs =
     let k = c .before .before .before .before .before .before .before .before .before .before .before .before .before .before .before .before .before .before in
@@ -132,15 +116,12 @@ add-requires c κs =
     let hj = edge-in-file (a .s) (a .graph .now) (a .rules .now) (k .pre .0) (a .g + 1) (l .j) (omega (arith, c .before .before .before .before .before .before .before .loop-test .taken, f)) in
     may-add (a .s) (a .graph .now) (a .rules .now) (k .pre .0) (l .end) (l .work) (l .inv .1 .holding) _ (a .p) (c .before .after-edge .result) (to-in (a .s) (a .graph .now) (a .rules .now) (k .pre .0) (l .j) hj _ (held-edge (c .before .before .before .before .before .before .edge-at .result) _ (getD ((decode-graph (a .graph .now)) .edges) (l .j) no-edge) (c .before .before .before .before .e .given .1) (c .before .before .before .before .before .before .edge-at .ensures))) (k .pre .1 .1 .0) (omega arith)
 
--- src/summaries.rt:83:9
 add-j : tie.Need-add-j Inv-loop μ-loop
 add-j c = omega (arith, c .before .before .before .before .before .before .before .before .before .before .loop-test .taken)
 
--- src/summaries.rt:76:5
 loop-less : tie.Need-loop-less Inv-loop μ-loop
 loop-less c = omega (arith, c .before .before .before .before .before .before .before .before .before .before .loop-test .taken)
 
--- src/summaries.rt:76:5
 loop-again : tie.Need-loop-again Inv-loop μ-loop
 loop-again c =
     let k = c .before .before .before .before .before .before .before .before .before .before .before .before .before .before .before .before .before .before .before .before .before in
@@ -162,11 +143,9 @@ loop-again c =
           (λ i h e. ran-kept (a .s) (a .graph .now) (a .rules .now) (k .pre .0) (l .end) (z .result) (l .work) (z .last .0) (n .0) i (lt-trans h hj) (a .p) (k .pre .1 .1 .0) (l .inv .4 i h e)) (λ e. n .1),
     )
 
--- src/summaries.rt:57:1
 same-length-2 : tie.Need-same-length-2 Inv-loop μ-loop
 same-length-2 c = c .before .loop .inv .0
 
--- src/summaries.rt:57:1
 returns-2 : tie.Need-returns-2 Inv-loop μ-loop
 returns-2 c =
     let k = c .before .before .before .before .before .before .before .before .before .before .before in

@@ -23,38 +23,30 @@ Inv-loop graph rules s work₀ tail first g m set y row j₀ end₀ work j end =
 abbrev μ-loop : tie.MeasureT-loop
 μ-loop graph rules s work₀ tail first g m set y row j₀ end₀ work j end = s .edges - j
 
--- src/summaries.rt:107:5
 loop-holds : tie.Need-loop-holds Inv-loop μ-loop
 loop-holds c =
     let k = c .before .before .before in
     let a = k .args in
     (omega arith, refl, grew-none (decode-graph (a .graph .now)) (watch (decode-rules (a .rules .now))) (a .tail) (a .work .now) (k .pre .1 .1 .1 .0), λ i h f. absurd (omega (arith, h, f)))
 
--- src/summaries.rt:108:29
 edge-at-requires : tie.Need-edge-at-requires Inv-loop μ-loop
 edge-at-requires c κs = let k = c .before .before .before .before .before .before in (k .pre .0 .graph-file, k .pre .0 .nodes-are, omega (arith, c .if1 .taken, k .pre .0 .edges-are, k .pre .0 .nodes-are))
 
--- src/summaries.rt:108:24
 enum-known-e : tie.Need-enum-known-e Inv-loop μ-loop
 enum-known-e c = search needs
 
--- src/summaries.rt:109:13
 enum-told : tie.Need-enum-told Inv-loop μ-loop
 enum-told c = search needs
 
--- src/summaries.rt:109:13
 same-length : tie.Need-same-length Inv-loop μ-loop
 same-length c = c .before .before .before .before .before .loop .inv .1
 
--- src/summaries.rt:109:13
 returns : tie.Need-returns Inv-loop μ-loop
 returns c = absurd (edge-read (c .before .before .edge-at .result) _ _ (c .before .before .edge-at .ensures) (c .enum-told .given .1))
 
--- src/summaries.rt:112:13
 same-length-2 : tie.Need-same-length-2 Inv-loop μ-loop
 same-length-2 c = c .before .before .before .before .before .before .before .before .before .loop .inv .1
 
--- src/summaries.rt:112:13
 returns-2 : tie.Need-returns-2 Inv-loop μ-loop
 returns-2 c =
     let k = c .before .before .before .before .before .before .before .before .before .before .before .before .before in
@@ -64,7 +56,6 @@ returns-2 c =
       λ i f h grouped. l .inv .3 i (group-ends (a .s) (a .graph .now) (a .rules .now) (k .pre .0) (l .j) (c .before .before .before .before .before .before .before .if1 .taken) _ (held-edge (c .before .before .before .before .before .before .edge-at .result) _ (getD ((decode-graph (a .graph .now)) .edges) (l .j) no-edge) (c .before .before .before .before .e .given .1) (c .before .before .before .before .before .before .edge-at .ensures)) (a .g) (a .m) (a .first) (l .inv .0) (c .if2 .taken) i grouped) f h,
     )
 
--- src/summaries.rt:114:9
 add-row-requires : tie.Need-add-row-requires Inv-loop μ-loop
 add-row-requires c κs =
     let k = c .before .before .before .before .before .before .before .before .before .before .before .before .before .before in
@@ -75,15 +66,12 @@ add-row-requires c κs =
     let n = may-get (a .s) (a .graph .now) (a .rules .now) (k .pre .0) (a .tail) (a .work .now) (k .pre .1 .1 .1 .0) (a .g) (a .m) (a .set) (a .y) (k .pre .1 .0) (k .pre .1 .1 .0) (a .row .now) (k .pre .1 .1 .1 .1 .0) (k .pre .1 .1 .1 .1 .1) (l .j) (c .before .before .before .before .before .before .before .before .if1 .taken) (d .0) (d .1) (omega arith) (omega arith) _ (to-is (a .s) (a .graph .now) (a .rules .now) (k .pre .0) (l .j) (c .before .before .before .before .before .before .before .before .if1 .taken) _ u) in
     (k .pre .0, (n .0, (l .inv .2 .holding, n .1)))
 
--- src/summaries.rt:115:9
 add-j : tie.Need-add-j Inv-loop μ-loop
 add-j c = omega (arith, c .before .before .before .before .before .before .before .before .before .before .before .if1 .taken, c .before .before .before .before .before .before .before .before .before .before .before .before .before .before .before .before .before .pre .0 .few-edges)
 
--- src/summaries.rt:107:5
 loop-less : tie.Need-loop-less Inv-loop μ-loop
 loop-less c = omega (arith, c .before .before .before .before .before .before .before .before .before .before .before .if1 .taken)
 
--- src/summaries.rt:107:5
 loop-again : tie.Need-loop-again Inv-loop μ-loop
 loop-again c =
     let k = c .before .before .before .before .before .before .before .before .before .before .before .before .before .before .before .before .before in
@@ -102,11 +90,9 @@ loop-again c =
           (λ f e. row-runs (a .s) (a .graph .now) (a .rules .now) (k .pre .0) (a .tail) (a .work .now) (k .pre .1 .1 .1 .0) (a .g) (a .m) (a .set) (a .y) (k .pre .1 .0) (k .pre .1 .1 .0) (a .row .now) (k .pre .1 .1 .1 .1 .0) (k .pre .1 .1 .1 .1 .1) (l .j) hj (d .0) (d .1) _ (to-is (a .s) (a .graph .now) (a .rules .now) (k .pre .0) (l .j) hj _ u) (x .result) (x .last .1 .1 .1 .0) grew (x .ensures .1)),
     )
 
--- src/summaries.rt:89:1
 same-length-3 : tie.Need-same-length-3 Inv-loop μ-loop
 same-length-3 c = c .before .before .loop .inv .1
 
--- src/summaries.rt:89:1
 returns-3 : tie.Need-returns-3 Inv-loop μ-loop
 returns-3 c = let l = c .before .before .loop in (l .inv .2, λ i f h grouped. l .inv .3 i (omega (arith, c .if1 .left, h)) f h)
 

@@ -12,23 +12,18 @@ use borrow.Author.Needs.{needs}
 use Rattle.runs.proofs.summaries.run_source.Statement.{statement}
 use Rattle.runs.proofs.summaries.run_source.Tie as tie
 
--- src/summaries.rt:134:25
 edge-at-requires : tie.Need-edge-at-requires
 edge-at-requires c κs = search needs
 
--- src/summaries.rt:134:20
 enum-known-e : tie.Need-enum-known-e
 enum-known-e c = search needs
 
--- src/summaries.rt:135:9
 enum-told : tie.Need-enum-told
 enum-told c = search needs
 
--- src/summaries.rt:135:9
 returns : tie.Need-returns
 returns c = absurd (edge-read (c .before .before .edge-at .result) _ _ (c .before .before .edge-at .ensures) (c .enum-told .given .1))
 
--- src/summaries.rt:137:25
 node-at-requires : tie.Need-node-at-requires
 node-at-requires c κs =
     let k = c .before .before .before .before .before .before .before in
@@ -36,19 +31,15 @@ node-at-requires c κs =
     let u = held-edge (c .before .before .before .edge-at .result) _ (getD ((decode-graph (a .graph .now)) .edges) (a .first) no-edge) (c .before .e .given .1) (c .before .before .before .edge-at .ensures) in
     (k .pre .0 .graph-file, node-readable (a .s) (a .graph .now) (a .rules .now) (k .pre .0) (c .before .e .given .0 .0 .from) (from-in (a .s) (a .graph .now) (a .rules .now) (k .pre .0) (a .first) (k .pre .1 .0) _ u))
 
--- src/summaries.rt:137:20
 enum-known-v : tie.Need-enum-known-v
 enum-known-v c = search needs
 
--- src/summaries.rt:138:9
 enum-told-2 : tie.Need-enum-told-2
 enum-told-2 c = search needs
 
--- src/summaries.rt:138:9
 returns-2 : tie.Need-returns-2
 returns-2 c = absurd (node-read (c .before .before .node-at .result) _ _ (c .before .before .node-at .ensures) (c .enum-told2 .given .1))
 
--- src/summaries.rt:141:9
 returns-3 : tie.Need-returns-3
 returns-3 c =
     let k = c .before .before .before .before .before .before .before .before .before .before .before .before in
@@ -57,7 +48,6 @@ returns-3 c =
     let v = held-node (c .before .before .before .before .node-at .result) _ (node (decode-graph (a .graph .now)) (c .before .before .before .before .before .before .e .given .0 .0 .from)) (c .before .before .v .given .1) (c .before .before .before .before .node-at .ensures) in
     (grew-none (decode-graph (a .graph .now)) (watch (decode-rules (a .rules .now))) (a .tail) (a .work .now) (k .pre .1 .1 .1 .0), group-returns (a .s) (a .graph .now) (a .rules .now) (k .pre .0) (a .first) (k .pre .1 .0) _ u _ v (a .callers .now) (a .ends .now) (a .work .now) (a .work .now) (c .if1 .taken))
 
--- src/summaries.rt:143:24
 sub-set : tie.Need-sub-set
 sub-set c =
     let k = c .before .before .before .before .before .before .before .before .before .before .before .before .before in
@@ -66,11 +56,9 @@ sub-set c =
     let v = held-node (c .before .before .before .before .before .node-at .result) _ (node (decode-graph (a .graph .now)) (c .before .before .before .before .before .before .before .e .given .0 .0 .from)) (c .before .before .before .v .given .1) (c .before .before .before .before .before .node-at .ensures) in
     omega (arith, (caller-in (a .s) (a .graph .now) (a .rules .now) (k .pre .0) (a .first) (k .pre .1 .0) _ u _ v) .0)
 
--- src/summaries.rt:143:23
 cast-set : tie.Need-cast-set
 cast-set c = search needs
 
--- src/summaries.rt:143:15
 element-copy-out-set : tie.Need-element-copy-out-set
 element-copy-out-set c =
     let k = c .before .before .before .before .before .before .before .before .before .before .before .before .before in
@@ -80,7 +68,6 @@ element-copy-out-set c =
     let m = caller-in (a .s) (a .graph .now) (a .rules .now) (k .pre .0) (a .first) (k .pre .1 .0) _ u _ v in
     omega (arith, m .0, m .1)
 
--- src/summaries.rt:144:19
 sub-y : tie.Need-sub-y
 sub-y c =
     let k = c .before .before .before .before .before .before .before .before .before .before .before .before .before .before .before in
@@ -89,11 +76,9 @@ sub-y c =
     let v = held-node (c .before .before .before .before .before .before .before .node-at .result) _ (node (decode-graph (a .graph .now)) (c .before .before .before .before .before .before .before .before .before .e .given .0 .0 .from)) (c .before .before .before .before .before .v .given .1) (c .before .before .before .before .before .before .before .node-at .ensures) in
     omega (arith, (caller-in (a .s) (a .graph .now) (a .rules .now) (k .pre .0) (a .first) (k .pre .1 .0) _ u _ v) .0)
 
--- src/summaries.rt:144:18
 cast-y : tie.Need-cast-y
 cast-y c = search needs
 
--- src/summaries.rt:144:13
 element-copy-out-y : tie.Need-element-copy-out-y
 element-copy-out-y c =
     let k = c .before .before .before .before .before .before .before .before .before .before .before .before .before .before .before in
@@ -103,7 +88,6 @@ element-copy-out-y c =
     let m = caller-in (a .s) (a .graph .now) (a .rules .now) (k .pre .0) (a .first) (k .pre .1 .0) _ u _ v in
     omega (arith, m .0, m .1)
 
--- src/summaries.rt:145:8
 reached-any-requires : tie.Need-reached-any-requires
 reached-any-requires c κs =
     let k = c .before .before .before .before .before .before .before .before .before .before .before .before .before .before .before .before .before in
@@ -111,7 +95,6 @@ reached-any-requires c κs =
     let u = held-edge (c .before .before .before .before .before .before .before .before .before .before .before .before .before .edge-at .result) _ (getD ((decode-graph (a .graph .now)) .edges) (a .first) no-edge) (c .before .before .before .before .before .before .before .before .before .before .before .e .given .1) (c .before .before .before .before .before .before .before .before .before .before .before .before .before .edge-at .ensures) in
     (from-fits (a .s) (a .graph .now) (a .rules .now) (k .pre .0) (a .first) (k .pre .1 .0) _ u, k .pre .1 .1 .1 .0 .room)
 
--- src/summaries.rt:146:19
 row-of-requires : tie.Need-row-of-requires
 row-of-requires c κs =
     let k = c .before .before .before .before .before .before .before .before .before .before .before .before .before .before .before .before .before .before .before .before in
@@ -119,7 +102,6 @@ row-of-requires c κs =
     let u = held-edge (c .before .before .before .before .before .before .before .before .before .before .before .before .before .before .before .before .edge-at .result) _ (getD ((decode-graph (a .graph .now)) .edges) (a .first) no-edge) (c .before .before .before .before .before .before .before .before .before .before .before .before .before .before .e .given .1) (c .before .before .before .before .before .before .before .before .before .before .before .before .before .before .before .before .edge-at .ensures) in
     (from-fits (a .s) (a .graph .now) (a .rules .now) (k .pre .0) (a .first) (k .pre .1 .0) _ u, k .pre .1 .1 .1 .0 .room)
 
--- src/summaries.rt:147:9
 run-group-requires : tie.Need-run-group-requires
 run-group-requires c κs =
     let k = c .before .before .before .before .before .before .before .before .before .before .before .before .before .before .before .before .before .before .before .before .before .before .before in
@@ -137,11 +119,9 @@ run-group-requires c κs =
       ),
     )
 
--- src/summaries.rt:147:9
 same-length : tie.Need-same-length
 same-length c = search needs
 
--- src/summaries.rt:147:9
 returns-4 : tie.Need-returns-4
 returns-4 c =
     let k = c .before .before .before .before .before .before .before .before .before .before .before .before .before .before .before .before .before .before .before .before .before .before .before .before .before .before in
@@ -151,11 +131,9 @@ returns-4 c =
     let x = c .before .before .run-group in
     (x .ensures .0, group-ran (a .s) (a .graph .now) (a .rules .now) (k .pre .0) (a .first) (k .pre .1 .0) _ u _ v (a .callers .now) (a .ends .now) (a .work .now) (x .last .1 .1 .1 .0) (x .ensures .1))
 
--- src/summaries.rt:121:1
 same-length-2 : tie.Need-same-length-2
 same-length-2 c = search needs
 
--- src/summaries.rt:121:1
 returns-5 : tie.Need-returns-5
 returns-5 c =
     let k = c .before .before .before .before .before .before .before .before .before .before .before .before .before .before .before .before .before .before .before in

@@ -22,26 +22,21 @@ Inv-loop graph rules s work₀ g₀ end₀ work g end =
 abbrev μ-loop : tie.MeasureT-loop
 μ-loop graph rules s work₀ g₀ end₀ work g end = s .nodes - g
 
--- src/summaries.rt:266:5
 loop-holds : tie.Need-loop-holds Inv-loop μ-loop
 loop-holds c =
     let k = c .before .before .before in
     let a = k .args in
     (omega arith, refl, grew-none (decode-graph (a .graph .now)) (watch (decode-rules (a .rules .now))) 0 (a .work .now) (k .pre .1), λ n p h. absurd (omega arith))
 
--- src/summaries.rt:267:9
 seed-node-requires : tie.Need-seed-node-requires Inv-loop μ-loop
 seed-node-requires c κs = let l = c .before .before .before .loop in (c .before .before .before .before .before .before .before .pre .0, (c .before .if1 .taken, l .inv .2 .holding))
 
--- src/summaries.rt:268:9
 add-g : tie.Need-add-g Inv-loop μ-loop
 add-g c = omega (arith, c .before .before .before .before .if1 .taken, c .before .before .before .before .before .before .before .before .before .before .pre .0 .few-nodes)
 
--- src/summaries.rt:266:5
 loop-less : tie.Need-loop-less Inv-loop μ-loop
 loop-less c = omega (arith, c .before .before .before .before .if1 .taken)
 
--- src/summaries.rt:266:5
 loop-again : tie.Need-loop-again Inv-loop μ-loop
 loop-again c =
     let if1 = c .before .before .before .before .if1 in
@@ -57,11 +52,9 @@ loop-again c =
           h t,
     )
 
--- src/summaries.rt:260:1
 same-length : tie.Need-same-length Inv-loop μ-loop
 same-length c = c .before .before .loop .inv .1
 
--- src/summaries.rt:260:1
 returns : tie.Need-returns Inv-loop μ-loop
 returns c = let l = c .before .before .loop in (l .inv .2, λ n p h. l .inv .3 n p (omega (arith, c .if1 .left, h)))
 

@@ -24,26 +24,21 @@ Inv-loop graph rules work₀ tail g p₀ end₀ work p end =
 abbrev μ-loop : tie.MeasureT-loop
 μ-loop graph rules work₀ tail g p₀ end₀ work p end = 8 - p
 
--- src/summaries.rt:244:25
 node-at-requires : tie.Need-node-at-requires Inv-loop μ-loop
 node-at-requires c κs =
     let k = c .before .before .before in
     let a = k .args in
     (k .pre .0 .graph-file, node-readable (a .s) (a .graph .now) (a .rules .now) (k .pre .0) (a .g) (node-in (a .s) (a .graph .now) (a .rules .now) (k .pre .0) (a .g) (k .pre .1 .0)))
 
--- src/summaries.rt:244:20
 enum-known-v : tie.Need-enum-known-v Inv-loop μ-loop
 enum-known-v c = search needs
 
--- src/summaries.rt:245:9
 enum-told : tie.Need-enum-told Inv-loop μ-loop
 enum-told c = search needs
 
--- src/summaries.rt:245:9
 returns : tie.Need-returns Inv-loop μ-loop
 returns c = absurd (node-read (c .before .before .node-at .result) _ _ (c .before .before .node-at .ensures) (c .enum-told .given .1))
 
--- src/summaries.rt:250:9
 returns-2 : tie.Need-returns-2 Inv-loop μ-loop
 returns-2 c =
     let node-at = c .before .before .before .before .before .node-at in
@@ -56,22 +51,18 @@ returns-2 c =
           (c .if1 .taken) t),
     )
 
--- src/summaries.rt:252:5
 loop-holds : tie.Need-loop-holds Inv-loop μ-loop
 loop-holds c =
     let k = c .before .before .before .before .before .before .before .before .before in
     let a = k .args in
     (omega arith, refl, grew-none (decode-graph (a .graph .now)) (watch (decode-rules (a .rules .now))) (a .tail) (a .work .now) (k .pre .1 .1), λ i h. absurd (omega arith))
 
--- src/summaries.rt:253:33
 cast-add : tie.Need-cast-add Inv-loop μ-loop
 cast-add c = search needs
 
--- src/summaries.rt:253:45
 one-state-requires : tie.Need-one-state-requires Inv-loop μ-loop
 one-state-requires c κs = omega arith
 
--- src/summaries.rt:253:9
 add-requires : tie.Need-add-requires Inv-loop μ-loop
 add-requires c κs =
     let loop-test = c .before .before .loop-test in
@@ -81,15 +72,12 @@ add-requires c κs =
     may-add (a .s) (a .graph .now) (a .rules .now) (k .pre .0) (l .end) (l .work) (l .inv .2 .holding) (a .g) (l .p) (c .one-state .result)
     (node-in (a .s) (a .graph .now) (a .rules .now) (k .pre .0) (a .g) (k .pre .1 .0)) (loop-test .taken) (omega arith)
 
--- src/summaries.rt:254:9
 add-p : tie.Need-add-p Inv-loop μ-loop
 add-p c = omega arith
 
--- src/summaries.rt:252:5
 loop-less : tie.Need-loop-less Inv-loop μ-loop
 loop-less c = omega arith
 
--- src/summaries.rt:252:5
 loop-again : tie.Need-loop-again Inv-loop μ-loop
 loop-again c =
     let node-at = c .before .before .before .before .before .before .before .before .before .before .before .before .node-at in
@@ -111,11 +99,9 @@ loop-again c =
           (λ i h. d .0 .reach-kept (a .g) i i (node-in (a .s) (a .graph .now) (a .rules .now) (k .pre .0) (a .g) (k .pre .1 .0)) (lt-trans h (loop-test .taken)) (l .inv .3 i h)) (d .1),
     )
 
--- src/summaries.rt:233:1
 same-length : tie.Need-same-length Inv-loop μ-loop
 same-length c = c .before .loop .inv .1
 
--- src/summaries.rt:233:1
 returns-3 : tie.Need-returns-3 Inv-loop μ-loop
 returns-3 c = let l = c .before .loop in (l .inv .2, λ t i h. l .inv .3 i (omega (arith, c .loop-test .left, h)))
 

@@ -15,15 +15,12 @@ Inv-loop graph rules s work₀ tail head₀ end₀ work head end = (length work 
 abbrev μ-loop : tie.MeasureT-loop
 μ-loop graph rules s work₀ tail head₀ end₀ work head end = 16384 - head
 
--- src/summaries.rt:280:5
 loop-holds : tie.Need-loop-holds Inv-loop μ-loop
 loop-holds c = (refl, omega arith, c .before .before .before .pre .1, λ q h. refl)
 
--- src/summaries.rt:281:9
 take-requires : tie.Need-take-requires Inv-loop μ-loop
 take-requires c κs = let l = c .before .before .loop in (c .before .before .before .before .before .before .pre .0, (c .before .loop-test .taken, l .inv .2))
 
--- src/summaries.rt:282:9
 add-head : tie.Need-add-head Inv-loop μ-loop
 add-head c =
     let loop-test = c .before .before .before .before .loop-test in
@@ -31,7 +28,6 @@ add-head c =
     let a = k .args in
     let l = c .before .before .before .before .before .loop in omega (arith, loop-test .taken, queue-fits (a .s) (a .graph .now) (a .rules .now) (k .pre .0) (l .end) (l .work) (l .inv .2 .holding))
 
--- src/summaries.rt:280:5
 loop-less : tie.Need-loop-less Inv-loop μ-loop
 loop-less c =
     let loop-test = c .before .before .before .before .loop-test in
@@ -39,18 +35,15 @@ loop-less c =
     let a = k .args in
     let l = c .before .before .before .before .before .loop in omega (arith, loop-test .taken, queue-fits (a .s) (a .graph .now) (a .rules .now) (k .pre .0) (l .end) (l .work) (l .inv .2 .holding))
 
--- src/summaries.rt:280:5
 loop-again : tie.Need-loop-again Inv-loop μ-loop
 loop-again c =
     let l = c .before .before .before .before .before .loop in
     let x = c .before .before .take in
     (x .kept .1 .1 .1 .0 ∙ l .inv .0, omega (arith, c .before .before .before .before .loop-test .taken, x .ensures .1 .0), x .ensures .0, λ q h. x .ensures .1 .1 q h ∙ l .inv .3 q h)
 
--- src/summaries.rt:274:1
 same-length : tie.Need-same-length Inv-loop μ-loop
 same-length c = c .before .loop .inv .0
 
--- src/summaries.rt:274:1
 returns : tie.Need-returns Inv-loop μ-loop
 returns c =
     let k = c .before .before .before .before .before in

@@ -6,14 +6,12 @@ use borrow.Author.Needs.{needs}
 use Rattle.runs.proofs.summaries.summarize.Statement.{statement}
 use Rattle.runs.proofs.summaries.summarize.Tie as tie
 
--- src/summaries.rt:291:9
 seed-requires : tie.Need-seed-requires
 seed-requires c κs =
     let k = c .before .before .before .before in
     let a = k .args in
     (k .pre .0, starts (a .s) (a .graph .now) (a .rules .now) (k .pre .0) (a .work .now) (k .pre .1 .1 .0) (k .pre .1 .0) (k .pre .1 .1 .1))
 
--- src/summaries.rt:292:5
 settle-requires : tie.Need-settle-requires
 settle-requires c κs =
     let k = c .before .before .before .before .before .before .before .before in
@@ -24,11 +22,9 @@ settle-requires c κs =
           (x .ensures .1),
     )
 
--- src/summaries.rt:287:1
 same-length : tie.Need-same-length
 same-length c = search needs
 
--- src/summaries.rt:287:1
 returns : tie.Need-returns
 returns c =
     let x = c .before .before .before .before .before .before .seed in

@@ -10,39 +10,30 @@ Inv-loop work t₀ i₀ t i = (i ≤ 64) × (Filled work t i)
 abbrev μ-loop : tie.MeasureT-loop
 μ-loop work t₀ i₀ t i = 64 - i
 
--- src/summaries.rt:302:5
 loop-holds : tie.Need-loop-holds Inv-loop μ-loop
 loop-holds c = (omega arith, filled-none (c .before .args .work .now))
 
--- src/summaries.rt:303:53
 add-get8 : tie.Need-add-get8 Inv-loop μ-loop
 add-get8 c = omega arith
 
--- src/summaries.rt:303:27
 get8-requires : tie.Need-get8-requires Inv-loop μ-loop
 get8-requires c κs = omega (arith, c .before .before .before .pre)
 
--- src/summaries.rt:303:9
 mul-t : tie.Need-mul-t Inv-loop μ-loop
 mul-t c = omega arith
 
--- src/summaries.rt:303:9
 index-1-t : tie.Need-index-1-t Inv-loop μ-loop
 index-1-t c = omega arith
 
--- src/summaries.rt:303:9
 index-2-t : tie.Need-index-2-t Inv-loop μ-loop
 index-2-t c = omega arith
 
--- src/summaries.rt:304:9
 add-i : tie.Need-add-i Inv-loop μ-loop
 add-i c = omega arith
 
--- src/summaries.rt:302:5
 loop-less : tie.Need-loop-less Inv-loop μ-loop
 loop-less c = omega arith
 
--- src/summaries.rt:302:5
 loop-again : tie.Need-loop-again Inv-loop μ-loop
 loop-again c =
     let l = c .before .before .loop in (
@@ -51,7 +42,6 @@ loop-again c =
           (l .inv .1),
     )
 
--- src/summaries.rt:296:1
 returns : tie.Need-returns Inv-loop μ-loop
 returns c = let l = c .before .loop in filled-all (c .before .before .before .args .work .now) (l .t) (l .i) (omega (arith, c .loop-test .left)) (l .inv .1)
 

@@ -8,18 +8,15 @@ use borrow.Author.Needs.{needs}
 use Rattle.runs.proofs.summaries.take.Statement.{statement}
 use Rattle.runs.proofs.summaries.take.Tie as tie
 
--- src/summaries.rt:219:14
 get16-requires : tie.Need-get16-requires
 get16-requires c κs =
     let k = c .before .before .before .before in
     let a = k .args in
     omega (arith, k .pre .1 .0, queue-fits (a .s) (a .graph .now) (a .rules .now) (k .pre .0) (a .tail) (a .work .now) (k .pre .1 .1 .holding), k .pre .1 .1 .holding .room)
 
--- src/summaries.rt:219:14
 cast-at : tie.Need-cast-at
 cast-at c = search needs
 
--- src/summaries.rt:222:25
 node-at-requires : tie.Need-node-at-requires
 node-at-requires c κs =
     let k = c .before .before .before .before .before in
@@ -29,23 +26,18 @@ node-at-requires c κs =
           (node-there (a .s) (a .graph .now) (a .rules .now) (k .pre .0) (a .head) (a .tail) (a .work .now) (k .pre .1 .1) (k .pre .1 .0) (c .get16 .result) (c .get16 .ensures)),
     )
 
--- src/summaries.rt:222:20
 enum-known-v : tie.Need-enum-known-v
 enum-known-v c = search needs
 
--- src/summaries.rt:223:9
 enum-told : tie.Need-enum-told
 enum-told c = search needs
 
--- src/summaries.rt:223:9
 same-length : tie.Need-same-length
 same-length c = search needs
 
--- src/summaries.rt:223:9
 returns : tie.Need-returns
 returns c = absurd (node-read (c .before .before .node-at .result) _ _ (c .before .before .node-at .ensures) (c .enum-told .given .1))
 
--- src/summaries.rt:225:5
 put8-requires : tie.Need-put8-requires
 put8-requires c κs =
     let get16 = c .before .before .before .before .before .get16 in
@@ -57,11 +49,9 @@ put8-requires c κs =
       k .pre .1 .1 .holding .room,
     )
 
--- src/summaries.rt:227:60
 cast-end-call : tie.Need-cast-end-call
 cast-end-call c = search needs
 
--- src/summaries.rt:227:9
 end-call-requires : tie.Need-end-call-requires
 end-call-requires c κs =
     let get16 = c .before .before .before .before .before .before .before .before .before .before .before .get16 in
@@ -76,11 +66,9 @@ end-call-requires c κs =
           (put8 .ensures) _ (held-node (node-at .result) _ (node (decode-graph (a .graph .now)) (get16 .result / 8)) (read-v .given .1) (node-at .ensures)) (if1 .taken),
     )
 
--- src/summaries.rt:227:9
 same-length-2 : tie.Need-same-length-2
 same-length-2 c = search needs
 
--- src/summaries.rt:227:9
 returns-2 : tie.Need-returns-2
 returns-2 c =
     let get16 = c .before .before .before .before .before .before .before .before .before .before .before .before .before .before .get16 in
@@ -91,7 +79,6 @@ returns-2 c =
     point-ends (a .s) (a .graph .now) (a .rules .now) (k .pre .0) (a .head) (a .tail) (a .work .now) (k .pre .1 .1) (k .pre .1 .0) (get16 .result) (get16 .ensures) (put8 .last .0) (put8 .ensures)
     (x .result) (x .last .1 .1 .1 .0) (x .ensures)
 
--- src/summaries.rt:229:5
 run-edges-requires : tie.Need-run-edges-requires
 run-edges-requires c κs =
     let get16 = c .before .before .before .before .before .before .before .before .before .before .get16 in
@@ -105,11 +92,9 @@ run-edges-requires c κs =
           (put8 .ensures) _ (held-node (node-at .result) _ (node (decode-graph (a .graph .now)) (get16 .result / 8)) (read-v .given .1) (node-at .ensures)) (c .before .if1 .left),
     )
 
--- src/summaries.rt:215:1
 same-length-3 : tie.Need-same-length-3
 same-length-3 c = search needs
 
--- src/summaries.rt:215:1
 returns-3 : tie.Need-returns-3
 returns-3 c =
     let get16 = c .before .before .before .before .before .before .before .before .before .before .before .before .before .get16 in

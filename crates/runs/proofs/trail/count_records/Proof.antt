@@ -12,24 +12,19 @@ Inv-loop graph rules work start i at₀ n₀ at n = Counting (decode-graph graph
 abbrev μ-loop : tie.MeasureT-loop
 μ-loop graph rules work start i at₀ n₀ at n = at
 
--- src/trail.rt:22:5
 loop-holds : tie.Need-loop-holds Inv-loop μ-loop
 loop-holds c = let k = c .before .before .before in let a = k .args in counting-first (decode-graph (a .graph .now)) (watch (decode-rules (a .rules .now))) (a .start) (a .i) (a .work .now) (k .pre .0)
 
--- src/trail.rt:23:14
 get16-requires : tie.Need-get16-requires Inv-loop μ-loop
 get16-requires c κs =
     let k = c .before .before .before .before .before in let l = c .before .loop in omega (arith, l .inv .short, l .inv .traced .few, k .pre .1)
 
--- src/trail.rt:23:14
 cast-at : tie.Need-cast-at Inv-loop μ-loop
 cast-at c = search needs
 
--- src/trail.rt:24:9
 add-n : tie.Need-add-n Inv-loop μ-loop
 add-n c = let l = c .before .before .loop in omega (arith, l .inv .short, l .inv .traced .few)
 
--- src/trail.rt:22:5
 loop-less : tie.Need-loop-less Inv-loop μ-loop
 loop-less c =
     let k = c .before .before .before .before .before .before in
@@ -37,7 +32,6 @@ loop-less c =
     let l = c .before .before .loop in
     omega (arith, c .get16 .ensures, counting-back (decode-graph (a .graph .now)) (watch (decode-rules (a .rules .now))) (a .start) (a .i) (a .work .now) (l .at) (l .n) (l .inv) (omega (arith, c .before .loop-test .taken)))
 
--- src/trail.rt:22:5
 loop-again : tie.Need-loop-again Inv-loop μ-loop
 loop-again c =
     let k = c .before .before .before .before .before .before in
@@ -45,7 +39,6 @@ loop-again c =
     let l = c .before .before .loop in
     counting-next (decode-graph (a .graph .now)) (watch (decode-rules (a .rules .now))) (a .start) (a .i) (a .work .now) (l .at) (l .n) (c .get16 .result) (l .inv) (omega (arith, c .before .loop-test .taken)) (c .get16 .ensures)
 
--- src/trail.rt:16:1
 returns : tie.Need-returns Inv-loop μ-loop
 returns c =
     let k = c .before .before .before .before .before in

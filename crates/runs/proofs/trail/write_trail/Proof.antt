@@ -16,14 +16,12 @@ Inv-loop graph rules work start i n out₀ at₀ k₀ out at k = Writing (decode
 abbrev μ-loop : tie.MeasureT-loop
 μ-loop graph rules work start i n out₀ at₀ k₀ out at k = at
 
--- src/trail.rt:44:5
 loop-holds : tie.Need-loop-holds Inv-loop μ-loop
 loop-holds c =
     let j = c .before .before .before .before in
     let a = j .args in
     writing-first (decode-graph (a .graph .now)) (watch (decode-rules (a .rules .now))) (a .start) (a .i) (a .work .now) (a .out .now) (a .n) (j .pre .0) (j .pre .1 .1 .0) (j .pre .1 .1 .1)
 
--- src/trail.rt:45:9
 sub-k : tie.Need-sub-k Inv-loop μ-loop
 sub-k c =
     let j = c .before .before .before .before .before .before in
@@ -31,11 +29,9 @@ sub-k c =
     let l = c .before .loop in
     omega (arith, writing-more (decode-graph (a .graph .now)) (watch (decode-rules (a .rules .now))) (a .start) (a .i) (a .work .now) (a .out .now) (l .out) (l .at) (l .k) (l .inv) (omega (arith, c .loop-test .taken)))
 
--- src/trail.rt:46:20
 mul-from : tie.Need-mul-from Inv-loop μ-loop
 mul-from c = let l = c .before .loop in omega (arith, l .inv .below, l .inv .traced .few)
 
--- src/trail.rt:47:22
 mul-copy-at : tie.Need-mul-copy-at Inv-loop μ-loop
 mul-copy-at c =
     let j = c .before .before .before .before .before .before .before in
@@ -43,26 +39,21 @@ mul-copy-at c =
     let l = c .before .before .loop in
     omega (arith, writing-small (decode-graph (a .graph .now)) (watch (decode-rules (a .rules .now))) (a .start) (a .i) (a .work .now) (a .out .now) (l .out) (l .at) (l .k) (l .inv))
 
--- src/trail.rt:47:51
 add-copy-at : tie.Need-add-copy-at Inv-loop μ-loop
 add-copy-at c = let l = c .before .before .loop in omega (arith, l .inv .below, l .inv .traced .few)
 
--- src/trail.rt:47:39
 sub-copy-at : tie.Need-sub-copy-at Inv-loop μ-loop
 sub-copy-at c = search needs
 
--- src/trail.rt:47:39
 part-copy-at-start : tie.Need-part-copy-at-start Inv-loop μ-loop
 part-copy-at-start c = search needs
 
--- src/trail.rt:47:39
 part-copy-at-end : tie.Need-part-copy-at-end Inv-loop μ-loop
 part-copy-at-end c =
     let j = c .before .before .before .before .before .before .before in
     let l = c .before .before .loop in
     omega (arith, l .inv .below, l .inv .traced .few, j .pre .1 .0)
 
--- src/trail.rt:47:9
 copy-at-requires : tie.Need-copy-at-requires Inv-loop μ-loop
 copy-at-requires c κs =
     let j = c .before .before .before .before .before .before .before .before in
@@ -72,18 +63,15 @@ copy-at-requires c κs =
     let part = item-part (a .work .now) (l .at) (omega (arith, l .inv .below, l .inv .traced .few, j .pre .1 .0)) in
     omega (arith, ap length part, l .inv .fits, l .inv .same-length, writing-more (decode-graph (a .graph .now)) (watch (decode-rules (a .rules .now))) (a .start) (a .i) (a .work .now) (a .out .now) (l .out) (l .at) (l .k) (l .inv) (omega (arith, z)))
 
--- src/trail.rt:48:14
 get16-requires : tie.Need-get16-requires Inv-loop μ-loop
 get16-requires c κs =
     let j = c .before .before .before .before .before .before .before .before .before .before .before in
     let l = c .before .before .before .before .before .before .loop in
     omega (arith, l .inv .below, l .inv .traced .few, j .pre .1 .0)
 
--- src/trail.rt:48:14
 cast-at : tie.Need-cast-at Inv-loop μ-loop
 cast-at c = search needs
 
--- src/trail.rt:44:5
 loop-less : tie.Need-loop-less Inv-loop μ-loop
 loop-less c =
     let j = c .before .before .before .before .before .before .before .before .before .before .before .before in
@@ -91,7 +79,6 @@ loop-less c =
     let l = c .before .before .before .before .before .before .before .loop in
     omega (arith, c .get16 .ensures, writing-back (decode-graph (a .graph .now)) (watch (decode-rules (a .rules .now))) (a .start) (a .i) (a .work .now) (a .out .now) (l .out) (l .at) (l .k) (l .inv) (omega (arith, c .before .before .before .before .before .before .loop-test .taken)))
 
--- src/trail.rt:44:5
 loop-again : tie.Need-loop-again Inv-loop μ-loop
 loop-again c =
     let j = c .before .before .before .before .before .before .before .before .before .before .before .before in
@@ -103,11 +90,9 @@ loop-again c =
     (c .get16 .ensures) (omega (arith, writing-more (decode-graph (a .graph .now)) (watch (decode-rules (a .rules .now))) (a .start) (a .i) (a .work .now) (a .out .now) (l .out) (l .at) (l .k) (l .inv) (omega (arith, z))))
     (x .ensures ∙ ap (put-at (l .out) (6 * (l .k - 1))) (item-part (a .work .now) (l .at) (omega (arith, l .inv .below, l .inv .traced .few, j .pre .1 .0)))) (x .kept .0)
 
--- src/trail.rt:30:1
 same-length : tie.Need-same-length Inv-loop μ-loop
 same-length c = c .before .loop .inv .same-length
 
--- src/trail.rt:30:1
 returns : tie.Need-returns Inv-loop μ-loop
 returns c =
     let j = c .before .before .before .before .before .before in

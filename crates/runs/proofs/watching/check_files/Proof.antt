@@ -12,19 +12,15 @@ use Rattle.runs.proofs.checks.check_side.Reads as check-side-reads
 use Rattle.runs.proofs.checks.then_check.Reads as then-check-reads
 use Rattle.runs.proofs.checks.then_checked.Reads as then-checked-reads
 
--- src/watching.rt:110:9
 check-side-requires : tie.Need-check-side-requires
 check-side-requires c κs = search needs
 
--- src/watching.rt:111:18
 then-check-requires : tie.Need-then-check-requires
 then-check-requires c κs = search needs
 
--- src/watching.rt:111:5
 then-checked-requires : tie.Need-then-checked-requires
 then-checked-requires c κs = search needs
 
--- src/watching.rt:107:1
 returns : tie.Need-returns
 returns c = let a = c .before .before .before .before .before .before .args in
     let is-side = c .before .before .check-side .ensures in

@@ -16,15 +16,12 @@ use Rattle.runs.proofs.search.search.Reads as search-reads
 use Rattle.runs.proofs.summaries.summarize.Reads as summarize-reads
 use Rattle.runs.proofs.summaries.table_of.Reads as table-of-reads
 
--- src/watching.rt:41:5
 clear-requires : tie.Need-clear-requires
 clear-requires c κs = search needs
 
--- src/watching.rt:42:5
 prepare-requires : tie.Need-prepare-requires
 prepare-requires c κs = let k = c .before .before .before .before .before .before .before .before in let x = c .before .before .before .clear in (k .pre .0, (x .ensures ∙ ap (λ (n : ℕ). replicate n 0) (sym (x .kept .0)), omega (arith, x .kept .0, k .pre .1)))
 
--- src/watching.rt:43:5
 summarize-requires : tie.Need-summarize-requires
 summarize-requires c κs = let k = c .before .before .before .before .before .before .before .before .before .before .before .before in
     let x = c .before .before .before .before .before .before .before .clear in
@@ -32,11 +29,9 @@ summarize-requires c κs = let k = c .before .before .before .before .before .be
     let p = c .before .before .before .prepare in
     (k .pre .0, (p .ensures .0, (omega (arith, p .kept .1 .1 .1 .0, x .kept .0, k .pre .1), λ q h. p .ensures .1 q (inr h) ∙ zero-byte (x .last .0) zeros q)))
 
--- src/watching.rt:44:17
 table-of-requires : tie.Need-table-of-requires
 table-of-requires c κs = search needs
 
--- src/watching.rt:45:5
 search-requires : tie.Need-search-requires
 search-requires c κs = let k = c .before .before .before .before .before .before .before .before .before .before .before .before .before .before .before .before .before .before .before in
     let a = k .args in
@@ -58,11 +53,9 @@ search-requires c κs = let k = c .before .before .before .before .before .befor
       ),
     )
 
--- src/watching.rt:37:1
 same-length : tie.Need-same-length
 same-length c = search needs
 
--- src/watching.rt:37:1
 returns : tie.Need-returns
 returns c = search needs
 

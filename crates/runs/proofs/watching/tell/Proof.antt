@@ -7,7 +7,6 @@ use Rattle.runs.specs.Watching.Steps.{clean-told, bad-short, bad-told}
 use Rattle.runs.proofs.watching.tell.Statement.{statement}
 use Rattle.runs.proofs.watching.tell.Tie as tie
 
--- src/watching.rt:52:9
 returns : tie.Need-returns
 returns c =
     let k = c .before .before .before .before .before in
@@ -15,14 +14,12 @@ returns c =
     clean-told (decode-graph (a .graph .now)) (watch (decode-rules (a .rules .now))) (a .start) (a .out .now)
     (says-zero (decode-graph (a .graph .now)) (watch (decode-rules (a .rules .now))) (a .start) (a .i) (a .work .now) (k .pre .0) (c .if1 .taken))
 
--- src/watching.rt:54:9
 count-records-requires : tie.Need-count-records-requires
 count-records-requires c κs =
     let k = c .before .before .before .before .before in
     let a = k .args in
     ((says-item (decode-graph (a .graph .now)) (watch (decode-rules (a .rules .now))) (a .start) (a .i) (a .work .now) (k .pre .0) (c .if1 .left)) .1, k .pre .1)
 
--- src/watching.rt:55:20
 mul-if2 : tie.Need-mul-if2
 mul-if2 c =
     let k = c .before .before .before .before .before .before in
@@ -30,11 +27,9 @@ mul-if2 c =
     let t = (says-item (decode-graph (a .graph .now)) (watch (decode-rules (a .rules .now))) (a .start) (a .i) (a .work .now) (k .pre .0) (c .before .if1 .left)) .1 in
     omega (arith, c .count-records .ensures, trail-small (decode-graph (a .graph .now)) (watch (decode-rules (a .rules .now))) (a .start) (a .i) (a .work .now) t)
 
--- src/watching.rt:56:33
 whole-requires : tie.Need-whole-requires
 whole-requires c κs = search needs
 
--- src/watching.rt:56:9
 returns-2 : tie.Need-returns-2
 returns-2 c =
     let k = c .before .before .before .before .before .before .before .before in
@@ -43,7 +38,6 @@ returns-2 c =
     bad-short (decode-graph (a .graph .now)) (watch (decode-rules (a .rules .now))) (a .start) (a .out .now) (b .0) (c .before .before .count-records .result)
     (c .before .before .count-records .ensures) (c .before .if2 .taken) (c .whole .result) (c .whole .ensures)
 
--- src/watching.rt:58:5
 write-trail-requires : tie.Need-write-trail-requires
 write-trail-requires c κs =
     let k = c .before .before .before .before .before .before .before .before in
@@ -51,11 +45,9 @@ write-trail-requires c κs =
     let b = says-item (decode-graph (a .graph .now)) (watch (decode-rules (a .rules .now))) (a .start) (a .i) (a .work .now) (k .pre .0) (c .before .before .before .if1 .left) in
     (b .1, (k .pre .1, (c .before .before .count-records .ensures, omega (arith, c .before .if2 .left))))
 
--- src/watching.rt:47:1
 same-length : tie.Need-same-length
 same-length c = search needs
 
--- src/watching.rt:47:1
 returns-3 : tie.Need-returns-3
 returns-3 c =
     let k = c .before .before .before .before .before .before .before .before .before .before .before in

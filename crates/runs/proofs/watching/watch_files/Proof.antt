@@ -8,23 +8,18 @@ use borrow.Author.Needs.{needs}
 use Rattle.runs.proofs.watching.watch_files.Statement.{statement}
 use Rattle.runs.proofs.watching.watch_files.Tie as tie
 
--- src/watching.rt:126:11
 check-files-requires : tie.Need-check-files-requires
 check-files-requires c κs = search needs
 
--- src/watching.rt:127:26
 enum-known-refusal : tie.Need-enum-known-refusal
 enum-known-refusal c = search needs
 
--- src/watching.rt:128:29
 enum-known-nodes : tie.Need-enum-known-nodes
 enum-known-nodes c = search needs
 
--- src/watching.rt:130:41
 whole-requires : tie.Need-whole-requires
 whole-requires c κs = search needs
 
--- src/watching.rt:130:17
 returns : tie.Need-returns
 returns c =
     let a = c .before .before .before .before .before .before .before .before .before .before .before .args in
@@ -32,7 +27,6 @@ returns c =
     let d = c .before .before .before .nodes .given in
     files-passed (a .limits) (a .interface .now) (a .graph .now) (a .rules .now) (a .start) (a .out .now) (length (a .work .now)) (x .result) (x .ensures) (d .0 .0) (d .0 .1 .0) (d .1) (a .out .now) (refused-answer (c .whole .result)) (start-refused (a .limits) (a .interface .now) (a .graph .now) (a .rules .now) (a .start) (a .out .now) (length (a .work .now)) (c .before .if1 .taken) (c .whole .result) (c .whole .ensures))
 
--- src/watching.rt:134:24
 sub-t19 : tie.Need-sub-t19
 sub-t19 c =
     let a = c .before .before .before .before .before .before .before .before .before .before .args in
@@ -40,7 +34,6 @@ sub-t19 c =
     let d = c .before .before .nodes .given in
     nodes-first (a .limits) (a .interface .now) (a .graph .now) (d .0 .0) (d .0 .1 .0) (side-is (a .limits) (a .interface .now) (a .graph .now) (a .rules .now) (x .result) (x .ensures) (d .0 .0) (d .0 .1 .0) (d .1))
 
--- src/watching.rt:136:13
 watch-sides-requires : tie.Need-watch-sides-requires
 watch-sides-requires c κs =
     let k = c .before .before .before .before .before .before .before .before .before .before .before .before in
@@ -50,7 +43,6 @@ watch-sides-requires c κs =
     let side = side-is (a .limits) (a .interface .now) (a .graph .now) (a .rules .now) (x .result) (x .ensures) (d .0 .0) (d .0 .1 .0) (d .1) in
     (side .interface-file, (ready-of (a .limits) (a .interface .now) (a .graph .now) (a .rules .now) (x .result) (x .ensures) (d .0 .0) (d .0 .1 .0) (d .1) (k .pre .0), k .pre .1))
 
--- src/watching.rt:114:1
 returns-2 : tie.Need-returns-2
 returns-2 c =
     let a = c .before .before .before .before .before .before .before .before .before .args in
@@ -58,15 +50,12 @@ returns-2 c =
     let d = c .before .refusal .given in
     files-refused (a .limits) (a .interface .now) (a .graph .now) (a .rules .now) (a .start) (a .out .now) (length (a .work .now)) (x .result) (x .ensures) (d .0 .0) (d .1)
 
--- src/watching.rt:114:1
 same-length : tie.Need-same-length
 same-length c = search needs
 
--- src/watching.rt:114:1
 same-length-2 : tie.Need-same-length-2
 same-length-2 c = search needs
 
--- src/watching.rt:114:1
 returns-3 : tie.Need-returns-3
 returns-3 c =
     let a = c .before .before .before .before .before .before .before .before .before .before .before .before .before .before .before .before .before .args in

@@ -11,32 +11,25 @@ use Rattle.files.proofs.cells.clear.Reads as clear-reads
 use Rattle.files.proofs.refusal.Refusal.whole.Reads as whole-reads
 use Rattle.runs.proofs.watching.watch_files.Reads as watch-files-reads
 
--- src/watching.rt:156:33
 whole-requires : tie.Need-whole-requires
 whole-requires c κs = search needs
 
--- src/watching.rt:156:9
 returns : tie.Need-returns
 returns c = let a = c .before .before .before .before .before .before .before .args in
     does-nothing (a .limits) (a .interface .now) (a .graph .now) (a .rules .now) (a .start) (a .out .now) (a .work .now) (c .whole .result) (c .before .if1 .taken) (c .whole .ensures)
 
--- src/watching.rt:158:9
 watch-files-requires : tie.Need-watch-files-requires
 watch-files-requires c κs = search needs
 
--- src/watching.rt:159:5
 clear-requires : tie.Need-clear-requires
 clear-requires c κs = search needs
 
--- src/watching.rt:143:1
 same-length : tie.Need-same-length
 same-length c = search needs
 
--- src/watching.rt:143:1
 same-length-2 : tie.Need-same-length-2
 same-length-2 c = search needs
 
--- src/watching.rt:143:1
 returns-2 : tie.Need-returns-2
 returns-2 c = let a = c .before .before .before .before .before .before .before .before .before .before .before .before .before .before .before .before .before .args in
     let j = c .before .before .before .before .before .before .before .before .watch-files in
