@@ -1,5 +1,6 @@
 pub mod Chains
 pub mod Checks
+pub mod TwoFiles
 pub mod Levels
 pub mod Ranking
 pub mod Sheets

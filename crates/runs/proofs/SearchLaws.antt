@@ -449,10 +449,6 @@ module _ (s : Regions) (g r : List ℕ) (ready : Ready s g r) where
       start-leaves = record {
         leaves = start-i G mon (is-flow s g r ready) (labels-small s g r ready) (monitor-small s g r ready) m k
             (entry-e G mon m k (node-in s g r ready k hk) (subst T (sym (sym b-is ∙ yes)) tt));
-        at-small = node-small k (node-in s g r ready k hk);
-        state-small = omega arith;
-        step-small = omega arith;
-        label-small = omega arith;
         to-node = node-in s g r ready k hk;
         now-small = omega arith;
       }

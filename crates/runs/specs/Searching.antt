@@ -159,10 +159,6 @@ module _ (G : Graph) (mon : Monitor) where
     -- a record that may be looked at next from item `head`
     pub record Leaving (head : ℕ) (w : List ℕ) (r : Rec) : Type 0 where
       pub leaves : List·Memᴰ r (leaving G mon m (item-end w head))
-      pub at-small : r .at < 256
-      pub state-small : r .state < 256
-      pub step-small : r .step < 256
-      pub label-small : r .label < 256
       pub to-node : r .to < size G
       pub now-small : r .now < 8
 

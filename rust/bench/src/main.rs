@@ -1,6 +1,7 @@
 //! Prints the time of each call in both implementations, side by side on the same bytes, and their ratio: `cargo run --release -p bench`.
 //! With an argument, only the calls of that name; with a second one, only the inputs whose name has it as a part.
 //! With `growth` as the first argument, how the times grow with one size of the input at a time; with the name of a call after it, only for that call.
+//! With `random`, a seed and a count, the worst ratios on so many random inputs of each call.
 
 mod compose;
 mod growth;
@@ -8,6 +9,7 @@ mod inputs;
 mod join;
 mod judge;
 mod model;
+mod search;
 mod show;
 mod side_by_side;
 mod simulation;
@@ -27,8 +29,12 @@ fn main() -> io::Result<()> {
     println!("{NOTE}");
     let mut chosen = env::args().skip(1);
     let (name, part) = (chosen.next(), chosen.next());
+    let number = |text: Option<String>| text.and_then(|text| text.parse().ok());
     match name.as_deref() {
         Some("growth") => growth::print(part.as_deref()),
+        Some("random") => {
+            search::print(number(part).unwrap_or(1), number(chosen.next()).unwrap_or(2000) as usize)
+        }
         name => print_calls(name, &part.unwrap_or_default())?,
     }
     Ok(())

@@ -51,7 +51,7 @@ pub fn print_line(call: &Call, row: &Timed) {
     );
 }
 
-fn work_buffers(call: &Call) -> Vec<Vec<u8>> {
+pub fn work_buffers(call: &Call) -> Vec<Vec<u8>> {
     call.rooms.iter().map(|room| vec![0; room()]).collect()
 }
 

@@ -1,6 +1,7 @@
 //! Comparing graphs in both implementations, and the pairs of graphs on which that is done.
 
 use crate::calls::{on_two_files, Call};
+use generator::families::hard_pair;
 use generator::generate::{self, Kind, Random, Size};
 use second::Limits;
 use tintboulder::COMPARE;
@@ -18,8 +19,11 @@ pub const CALL: Call = Call {
     claim: None,
 };
 
-/// Half of the pairs differ by an edge at most, one file in eight is damaged, and one pair in 64 is large: the second implementation takes milliseconds there.
+/// Half of the pairs differ by an edge at most, one file in eight is damaged, one pair in 64 is large, and one is hard: the second implementation takes milliseconds there.
 fn files(random: &mut Random) -> [Vec<u8>; 2] {
+    if random.once_in(64) {
+        return hard_pair(random);
+    }
     let size = if random.once_in(64) { Size::Large } else { Size::Small };
     if random.once_in(2) {
         let whole = alike(random, size);

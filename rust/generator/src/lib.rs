@@ -4,6 +4,7 @@ mod composed;
 pub mod conforming;
 mod damage;
 pub mod extremes;
+pub mod families;
 pub mod generate;
 mod graded;
 mod graphs;

@@ -8,14 +8,14 @@ use Prim.Native.Nat.{ℕ, _≤_, _<_, _+_, _*_, _/_, _%_}
 use native.Mathlib.Omega.{arith}
 use lib.Dec.{T, T-not}
 use lib.ListN.{length, getD}
-use Rattle.files.specs.Basics.Says.{says-lt}
 use Rattle.files.specs.Decode.{decode-graph}
 use Rattle.files.specs.Decode.Graphs.{decoded-flow}
 use Rattle.files.specs.Graph.{Graph, Flow, node, size}
 use Rattle.files.specs.Outcome.{Said, refuses, says, refusal-at, NoneOf, FirstOf, Matches, answer}
-use Rattle.files.specs.Outcome.Laws.{whole-match, files-match, out-match, refused-by, accepted-by, verdict-is, file-accepted, whole-none, whole-none-i, file-none, none-end}
+use Rattle.files.specs.Outcome.Laws.{refused-by, accepted-by}
 use Rattle.files.specs.Refusal.{graph, refusal}
 use Rattle.files.specs.declared.record.Limits.{Limits}
+use Rattle.judging.specs.TwoFiles.{two-match, two-given, two-say}
 use Rattle.judging.specs.Compare.{compare-room, compare-said, compare-verdict, compare-checks, compare-lines, compared, Compares, compared-answer}
 use Rattle.judging.specs.Simulation.{Simulation, Simulates, covered, simulates, uncovered, relation-bytes, related}
 use Rattle.judging.specs.Simulation.Laws.{verdict, largest, covered-i, uncovered-is, uncovered-lowest, simulates-covers, related-simulation, relation-bit}
@@ -27,8 +27,7 @@ use Rattle.judging.specs.declared.answers.Compared.the-variants.{Yes, No
 
 module _ (L : Limits) (g h : List ℕ) (out work : ℕ) where
   compare-match : Matches (compare-checks L g h out work) (compare-lines L g h out work)
-  compare-match =
-      whole-match 13 _ (work < compare-room) (says-lt work compare-room) _ _ (files-match L 1 graph g _ _ (files-match L 2 graph h _ _ (out-match out (compare-verdict L g h out work))))
+  compare-match = two-match L graph g graph h compare-room out work (compare-verdict L g h out work)
 
   -- the lines stand in the published order
   pub compare-order : published (compare-lines L g h out work) ≡ true
@@ -47,11 +46,7 @@ module _ (L : Limits) (g h : List ℕ) (out work : ℕ) where
   -- a verdict is that of the two graphs, and both files are accepted
   pub compare-files : (s : Said) → compared L g h out work ≡ says s → (s ≡ compare-verdict L g h out work) × (refusal L graph g ≡ none) × (refusal L graph h ≡ none)
   unfolding compared
-  compare-files s e =
-      let a = verdict-is _ _ compare-match (compare-verdict L g h out work) s e in
-      let b = file-accepted L 1 graph g _ ((whole-none 13 _ _ (a .1)) .1) in
-      let c = file-accepted L 2 graph h _ (b .1) in
-      (a .0, b .0, c .0)
+  compare-files = two-given L graph g graph h compare-room out work (compare-verdict L g h out work)
 
 -- ---- what the verdict says
 
@@ -117,9 +112,9 @@ compare-says L g h out work s e =
 -- whatever files are accepted, with room enough, get the verdict of what they hold
 pub compare-on : (L : Limits) (g h : List ℕ) (out work : ℕ) (G H : Graph) (s : Said) → refusal L graph g ≡ none → refusal L graph h ≡ none
     → decode-graph g ≡ G → decode-graph h ≡ H → compare-said G H ≡ s → length (s .written) ≤ out → compare-room ≤ work → compared L g h out work ≡ says s
+unfolding compared
 compare-on L g h out work G H s a b c d e o w =
-    compare-accepted L g h out work .1 (whole-none-i 13 _ _ (λ x. absurd (omega arith)) (file-none L 1 graph g _ a (file-none L 2 graph h _ b
-    (whole-none-i 12 _ _ (λ x. absurd (omega (arith, ap (λ (x : Said). length (x .written)) said))) none-end))))
+    two-say L graph g graph h compare-room out work (compare-said (decode-graph g) (decode-graph h)) a b (omega (arith, ap (λ (x : Said). length (x .written)) said)) w
     ∙ ap says said
   where
     said : compare-said (decode-graph g) (decode-graph h) ≡ s

@@ -4,20 +4,20 @@ use mathlib.Core.Logic.{_↔_}
 use mathlib.Core.Bool.{Bool, true, false, cond, not}
 use mathlib.Core.List.{List, [], _∷_}
 use mathlib.Core.Option.{none}
-use Prim.Native.Nat.{ℕ, _≤_, _<_}
+use Prim.Native.Nat.{ℕ, _≤_}
 use native.Mathlib.Omega.{arith}
 use lib.Dec.{T}
 use lib.ListN.{length}
-use Rattle.files.specs.Basics.Says.{says-lt}
 use Rattle.files.specs.Decode.{decode-graph, decode-property}
 use Rattle.files.specs.Decode.Graphs.{decoded-flow}
 use Rattle.files.specs.Decode.Properties.{decoded-property}
 use Rattle.files.specs.Graph.{Graph, Flow}
 use Rattle.files.specs.Outcome.{Said, refuses, says, refusal-at, NoneOf, FirstOf, Matches, answer}
-use Rattle.files.specs.Outcome.Laws.{whole-match, files-match, out-match, refused-by, accepted-by, verdict-is, file-accepted, whole-none, whole-none-i, file-none, none-end}
+use Rattle.files.specs.Outcome.Laws.{refused-by, accepted-by}
 use Rattle.files.specs.Property.{Row, Property}
 use Rattle.files.specs.Refusal.{graph, property, refusal}
 use Rattle.files.specs.declared.record.Limits.{Limits}
+use Rattle.judging.specs.TwoFiles.{two-match, two-given, two-say}
 use Rattle.judging.specs.Judge.{judge-room, judge-said, judge-verdict, judge-checks, judge-lines, judged, Judges, judged-answer}
 use Rattle.judging.specs.Levels.{Satisfies, satisfies}
 use Rattle.judging.specs.Levels.Laws.{satisfies-agrees}
@@ -29,8 +29,7 @@ use Rattle.judging.specs.declared.answers.Judged.the-variants.{Holds, Fa
 
 module _ (L : Limits) (g p : List ℕ) (out work : ℕ) where
   judge-match : Matches (judge-checks L g p out work) (judge-lines L g p out work)
-  judge-match =
-      whole-match 13 _ (work < judge-room) (says-lt work judge-room) _ _ (files-match L 1 graph g _ _ (files-match L 2 property p _ _ (out-match out (judge-verdict L g p out work))))
+  judge-match = two-match L graph g property p judge-room out work (judge-verdict L g p out work)
 
   -- the lines stand in the published order
   pub judge-order : published (judge-lines L g p out work) ≡ true
@@ -49,11 +48,7 @@ module _ (L : Limits) (g p : List ℕ) (out work : ℕ) where
   -- a verdict is that of the graph and the property, and both files are accepted
   pub judge-files : (s : Said) → judged L g p out work ≡ says s → (s ≡ judge-verdict L g p out work) × (refusal L graph g ≡ none) × (refusal L property p ≡ none)
   unfolding judged
-  judge-files s e =
-      let a = verdict-is _ _ judge-match (judge-verdict L g p out work) s e in
-      let b = file-accepted L 1 graph g _ ((whole-none 13 _ _ (a .1)) .1) in
-      let c = file-accepted L 2 property p _ (b .1) in
-      (a .0, b .0, c .0)
+  judge-files = two-given L graph g property p judge-room out work (judge-verdict L g p out work)
 
 -- ---- what the verdict says
 
@@ -98,9 +93,9 @@ judge-says L g p out work s e =
 -- whatever files are accepted, with room enough, get the verdict of what they hold
 pub judge-on : (L : Limits) (g p : List ℕ) (out work : ℕ) (G : Graph) (P : List Row) (s : Said) → refusal L graph g ≡ none → refusal L property p ≡ none
     → decode-graph g ≡ G → decode-property p ≡ P → judge-said G P ≡ s → length (s .written) ≤ out → judge-room ≤ work → judged L g p out work ≡ says s
+unfolding judged
 judge-on L g p out work G P s a b c d e o w =
-    judge-accepted L g p out work .1 (whole-none-i 13 _ _ (λ h. absurd (omega arith)) (file-none L 1 graph g _ a (file-none L 2 property p _ b
-    (whole-none-i 12 _ _ (λ h. absurd (omega (arith, ap (λ (x : Said). length (x .written)) said))) none-end))))
+    two-say L graph g property p judge-room out work (judge-said (decode-graph g) (decode-property p)) a b (omega (arith, ap (λ (x : Said). length (x .written)) said)) w
     ∙ ap says said
   where
     said : judge-said (decode-graph g) (decode-property p) ≡ s

@@ -84,37 +84,19 @@ module _ (G : Graph) (mon : Monitor) (m : ℕ) where
     pub leaving-of : (r : Rec) → Leaves G mon flow labels-small mon-small m x r → Leaving G mon m head w r
     leaving-of r l = go r l (subst (λ (v : Where). List·Memᴰ r (leaving G mon m v)) (sym (h .is-here)) (leaves-i G mon flow labels-small mon-small m x r l))
       where
-        at-small : x .at < 256
-        at-small = omega (arith, h .at-node)
-
-        state-small : x .now < 256
-        state-small = omega (arith, h .now-small)
-
         go : (r : Rec) → Leaves G mon flow labels-small mon-small m x r → List·Memᴰ r (leaving G mon m (item-end w head)) → Leaving G mon m head w r
         go r (steps-on e y z) k = record {
           leaves = k;
-          at-small = at-small;
-          state-small = state-small;
-          step-small = omega arith;
-          label-small = omega arith;
           to-node = flow .to-node e (y .edge);
           now-small = h .now-small;
         }
         go r (goes-in e n y z d) k = record {
           leaves = k;
-          at-small = at-small;
-          state-small = state-small;
-          step-small = omega arith;
-          label-small = omega (arith, labels-small e (y .edge));
           to-node = d .is-node;
           now-small = mon-small (x .now) _ (h .now-small);
         }
         go r (goes-by e q y z hq t) k = record {
           leaves = k;
-          at-small = at-small;
-          state-small = state-small;
-          step-small = omega arith;
-          label-small = omega (arith, labels-small e (y .edge));
           to-node = flow .to-node e (y .edge);
           now-small = hq;
         }
