@@ -8,7 +8,7 @@ use native.Mathlib.Decide.{ℕ-discrete, decLt}
 use native.Mathlib.Nat.{add-zero, zero-div}
 use native.Mathlib.Omega.{arith}
 use lib.Bits.{bitAnd, and-le-r}
-use lib.Count.{trailingZeros, under, trailing-le}
+use lib.Count.{ones, trailingZeros, under, trailing-le}
 use lib.Dec.{T, eqb, eqb→eq}
 use lib.ListN.{getD}
 use lib.Pow.{shr-lt, shr-shr, field, mod-mod-pow}
@@ -116,6 +116,11 @@ module _ (w : List ℕ) (base : ℕ) (bytes : (b : ℕ) → getD w b 0 < 256) wh
       ∙ ap₂ (λ (m d : ℕ). eqb (getD w m 0 / 2 ^ d % 2) 1) a b
       ∙ ap (λ (x : ℕ). eqb x 1) (sym (digit-of-byte 4 (byte (u / 32)) (λ k. bytes (base + 4 * (u / 32) + k)) (u % 32) (omega arith)))
       ∙ ap (λ (x : ℕ). eqb (x / 2 ^ (u % 32) % 2) 1) (sym (word-is (u / 32)))
+
+-- how many bits of the first k words are one
+abbrev pub ones-in : List ℕ → ℕ → ℕ
+ones-in l zero = 0
+ones-in l (suc k) = ones-in l k + ones (cell l 0 4 k)
 
 -- ---- the lowest digit, dropped
 

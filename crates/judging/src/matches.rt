@@ -85,7 +85,7 @@ fn predecessors(work: &[u8], nodes: &[u8]) -> [u8; LINE]
     met
 }
 
-// A row that has every node with an edge into this one: its predecessors, or just all nodes where those of what was lost are fewer to add.
+// A row that has every node with an edge into this one: its predecessors, or, where it has more nodes than were lost, all nodes. Either is right: the smaller part is less work.
 fn nodes_near(
     first: &[u8],
     second: &[u8],

@@ -8,6 +8,7 @@ ghost use lib.Dec.{T};
 ghost use lib.ListN.{length};
 ghost use Rattle.files.specs.Cells.{has-bit};
 ghost use Rattle.judging.specs.Chains.{Outside};
+ghost use Rattle.judging.specs.Words.{ones-in};
 use files::cells::get32;
 use files::cells::wide;
 use files::encode::LINE;
@@ -138,9 +139,10 @@ pub(crate) fn exceeds(work: &[u8], at: usize, less: usize) -> bool
     wide(any) > 0
 }
 
-// How many bits a row has. Nothing is stated of it: it only chooses between two ways to the same result.
+// How many bits of a row are one.
 pub(crate) fn size_of_row(row: &[u8]) -> u32
     requires { ⌜ 32 ≤ length (now row) ⌝ }
+    ensures { λ r. ⌜ r ≡ ones-in (now (row .entry)) 8 ⌝ }
 {
     let mut n = 0;
     let mut k = 0;
