@@ -56,9 +56,14 @@ fn misplaced(kind: FileKind, records: &[u8], i: usize) -> bool
     ensures { λ r. ⌜ r ≡ misplaced (kind-of kind) (now (records .entry)) i ⌝ }
 {
     let k = kind_at(records, i);
-    let after = edge_before(records, i);
     match kind {
-        FileKind::Graph => !((k == 1) | (k == 2)) | ((k == 1) & after),
+        // Most records of a graph are edges, and an edge is in its place wherever it stands.
+        FileKind::Graph => {
+            if k == 2 {
+                return false;
+            }
+            !(k == 1) | edge_before(records, i)
+        }
         FileKind::Property => !(k == 3),
         FileKind::Rules => !(k == 4),
         FileKind::Interface => !(k == 5) | (1 <= i),
