@@ -269,7 +269,7 @@ module _ (s : Regions) (g r : List ℕ) (ready : Ready s g r) where
   module _ (m head tail : ℕ) (w : List ℕ) (n q : ℕ) (at : Here G mon m head tail w (place n q)) where
     leaving-to : (t : Rec) → Leaves G mon (is-flow s g r ready) (labels-small s g r ready) (monitor-small s g r ready) m (place n q) t → Leaving G mon m head w t
     leaving-to t l =
-        leaving-of G mon m (is-flow s g r ready) (labels-small s g r ready) (monitor-small s g r ready) (size-fits s g r ready) head tail w (place n q) at t l
+        leaving-of G mon m (is-flow s g r ready) (labels-small s g r ready) (monitor-small s g r ready) head tail w (place n q) at t l
 
     -- over edge j, as it was read
     module _ (j : ℕ) (hj : j < s .edges) (leaves : (edge j) .from ≡ n) where

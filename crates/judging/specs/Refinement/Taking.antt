@@ -61,18 +61,17 @@ module _ (G H : Graph) (fl : Flow G) (fk : Flow H) (fg : size G ≤ 256) (fh : s
 
   -- ---- all rows
 
-  -- what holds of another node, or of v itself, once the row of v is taken
-  pub at-took : (v u : ℕ) (w w′ : List ℕ) → v < size G → u < size G → Refining G H w → MatchedAt G H w u ⊎ (u ≡ v) → Took G H v w w′ → MatchedAt G H w′ u
+  -- what holds of a node once the row of v, which may be itself, is taken
+  pub at-took : (v u : ℕ) (w w′ : List ℕ) → v < size G → u < size G → MatchedAt G H w u → Took G H v w w′ → MatchedAt G H w′ u
   unfolding NodeMatched
-  at-took v u w w′ hv hu r which y = go (ℕ-discrete u v) which
+  at-took v u w w′ hv hu x y = go (ℕ-discrete u v)
     where
-      go : Dec (u ≡ v) → MatchedAt G H w u ⊎ (u ≡ v) → MatchedAt G H w′ u
-      go (yes e) d = subst (MatchedAt G H w′) (sym e) (record {
+      go : Dec (u ≡ v) → MatchedAt G H w′ u
+      go (yes e) = subst (MatchedAt G H w′) (sym e) (record {
         holding = λ h b t. subst T (sym (y .held-now h b)) (y .rel-less v h hv b t);
         node-matched = y .matched;
       })
-      go (no f) (inr e) = absurd (f e)
-      go (no f) (inl x) = record {
+      go (no f) = record {
         holding = λ h b t. subst T (sym (y .held-kept u h hu b f)) (x .holding h b (y .rel-less u h hu b t));
         node-matched = λ e h he to-is b t.
             let d = x .node-matched e h he to-is b (y .rel-less ((edge G e) .from) h (from-in G fl e he) b t) in
@@ -87,7 +86,7 @@ module _ (G H : Graph) (fl : Flow G) (fk : Flow H) (fg : size G ≤ 256) (fh : s
   at-matching n w r x = record { refining = r; holding = λ v h l b t. (x v l) .holding h b t; node-matched = λ v l. (x v l) .node-matched }
 
   pub matching-on : (v : ℕ) (w w′ : List ℕ) → v < size G → Matching G H (size G) w → Took G H v w w′ → Matching G H (size G) w′
-  matching-on v w w′ hv x y = at-matching (size G) w′ (y .refining) (λ u l. at-took v u w w′ hv l (x .refining) (inl (matching-at (size G) u w l x)) y)
+  matching-on v w w′ hv x y = at-matching (size G) w′ (y .refining) (λ u l. at-took v u w w′ hv l (matching-at (size G) u w l x) y)
 
   -- ---- before any row is taken
 

@@ -79,7 +79,7 @@ module _ (G : Graph) (mon : Monitor) (m : ℕ) where
 
   -- ---- the records from a place
 
-  module _ (flow : Flow G) (labels-small : (e : Edge) → List·Memᴰ e (G .edges) → e .label < 9) (mon-small : (q : ℕ) (v : Event) → q < 8 → mon q v < 8) (few-nodes : size G ≤ 256)
+  module _ (flow : Flow G) (labels-small : (e : Edge) → List·Memᴰ e (G .edges) → e .label < 9) (mon-small : (q : ℕ) (v : Event) → q < 8 → mon q v < 8)
       (head tail : ℕ) (w : List ℕ) (x : Place) (h : Here G mon m head tail w x) where
     pub leaving-of : (r : Rec) → Leaves G mon flow labels-small mon-small m x r → Leaving G mon m head w r
     leaving-of r l = go r l (subst (λ (v : Where). List·Memᴰ r (leaving G mon m v)) (sym (h .is-here)) (leaves-i G mon flow labels-small mon-small m x r l))
