@@ -10,6 +10,7 @@ use native.Mathlib.Numerals.{add-one}
 use native.Mathlib.Omega.{arith}
 use lib.Dec.{eqb}
 use lib.ListN.{length, getD, replicate, getD-replicate, List·getD-eq-default}
+use borrow.Rule.Slice.PartMut.{midOf, putMid}
 use borrow.Author.Tests.{ne-eqb}
 use Rattle.files.specs.Basics.Lists.{index-e}
 use Rattle.files.specs.Graph.{Graph, size, no-edge}
@@ -28,6 +29,7 @@ use Rattle.judging.specs.Chains.{Chained, Outside, linked, into, uses, n
 use Rattle.judging.specs.Chains.Laws.{chained-none, chained-kept, linked-is, linked-outside, test-turned, chain-more, chain-on, chain-skip}
 use Rattle.judging.specs.Ranking.{Ready}
 use Rattle.judging.specs.Ranking.Files.{size-is, edges-is, rows-is}
+use Rattle.judging.proofs.ClearedLaws.{cleared-outside, cleared-inside}
 use Rattle.judging.proofs.HeldLaws.{held-row}
 
 -- ---- one item, stored by two stores
@@ -66,6 +68,11 @@ zero-byte w e q = go (decLt q (length w))
     go : Dec (q < length w) → getD w q 0 ≡ 0
     go (yes h) = ap (λ (l : List ℕ). getD l q 0) e ∙ getD-replicate {A = ℕ} (length w) q 0 0 h
     go (no h) = List·getD-eq-default w 0 (omega arith)
+
+-- a byte outside two parts that were written, one after the other
+pub outside-both : (a b c d m n : ℕ) (w₀ w w′ : List ℕ) → m ≤ a → b ≤ n → m ≤ c → d ≤ n → Outside a b w₀ w → Outside c d w w′ → Outside m n w₀ w′
+outside-both a b c d m n w₀ w w′ x y z u f g q (inl h) = g q (inl (omega arith)) ∙ f q (inl (omega arith))
+outside-both a b c d m n w₀ w w′ x y z u f g q (inr h) = g q (inr (omega arith)) ∙ f q (inr (omega arith))
 
 -- ---- edges
 
@@ -142,12 +149,19 @@ module _ (s : Shape) (g p : List ℕ) (ready : Ready s g p) where
 
   -- ---- both chains
 
-  -- nothing stands after the chains of edges
-  pub places-none : (w₀ w : List ℕ) → w₀ ≡ replicate (length w₀) 0 → Outside 32768 (33280 + 2 * s .edges) w₀ w → Chained w 41472 41536 (uses (decode-property p)) (s .rows) 0
-  places-none w₀ w z o = chained-none w 41472 41536 (uses (decode-property p)) (s .rows) (λ q l. o q (inr (omega (arith, ready .few-edges))) ∙ zero-byte w₀ z q)
+  -- heads that were cleared
+  module _ (w ys : List ℕ) (room : 41664 ≤ length w) where
+    pub edges-none : ys ≡ replicate (length (midOf 32768 512 w)) 0 → Chained (putMid 32768 512 w ys) 32768 33280 (into (decode-graph g)) (size (decode-graph g)) 0
+    edges-none z = chained-none (putMid 32768 512 w ys) 32768 33280 (into (decode-graph g)) (size (decode-graph g))
+        (λ q a b. cleared-inside 32768 512 w ys z (omega arith) q a (omega (arith, size-is s g p ready, ready .few-nodes)))
 
-  pub edges-none : (w : List ℕ) → w ≡ replicate (length w) 0 → Chained w 32768 33280 (into (decode-graph g)) (size (decode-graph g)) 0
-  edges-none w z = chained-none w 32768 33280 (into (decode-graph g)) (size (decode-graph g)) (λ q l. zero-byte w z q)
+    pub places-none : ys ≡ replicate (length (midOf 41472 64 w)) 0 → Chained (putMid 41472 64 w ys) 41472 41536 (uses (decode-property p)) (s .rows) 0
+    places-none z = chained-none (putMid 41472 64 w ys) 41472 41536 (uses (decode-property p)) (s .rows)
+        (λ q a b. cleared-inside 41472 64 w ys z (omega arith) q a (omega (arith, ready .few-rows)))
+
+    -- places written where the heads of places were cleared
+    pub beside-places : ys ≡ replicate (length (midOf 41472 64 w)) 0 → (w′ : List ℕ) → Outside 41472 41664 (putMid 41472 64 w ys) w′ → Outside 41472 41664 w w′
+    beside-places z w′ = outside-both 41472 41536 41472 41664 41472 41664 w (putMid 41472 64 w ys) w′ (omega arith) (omega arith) (omega arith) (omega arith) (cleared-outside 41472 64 w ys z (omega arith))
 
   pub indexed : (w w′ : List ℕ) → Chained w 32768 33280 (into (decode-graph g)) (size (decode-graph g)) (length ((decode-graph g) .edges)) → Outside 41472 41664 w w′
       → Chained w′ 41472 41536 (uses (decode-property p)) (s .rows) (2 * s .rows) → Index (decode-graph g) (decode-property p) w′
@@ -155,8 +169,3 @@ module _ (s : Shape) (g p : List ℕ) (ready : Ready s g p) where
     by-node = chained-kept w w′ 32768 33280 (into (decode-graph g)) (size (decode-graph g)) (length ((decode-graph g) .edges)) 41472 41664 (omega (arith, size-is s g p ready, ready .few-nodes)) (omega (arith, edges-is s g p ready, ready .few-edges)) o c;
     by-row = subst (λ (n : ℕ). Chained w′ 41472 41536 (uses (decode-property p)) n (2 * n)) (sym (rows-is s g p ready)) d;
   }
-
--- a byte outside two parts that were written, one after the other
-pub outside-both : (a b c d m n : ℕ) (w₀ w w′ : List ℕ) → m ≤ a → b ≤ n → m ≤ c → d ≤ n → Outside a b w₀ w → Outside c d w w′ → Outside m n w₀ w′
-outside-both a b c d m n w₀ w w′ x y z u f g q (inl h) = g q (inl (omega arith)) ∙ f q (inl (omega arith))
-outside-both a b c d m n w₀ w w′ x y z u f g q (inr h) = g q (inr (omega arith)) ∙ f q (inr (omega arith))

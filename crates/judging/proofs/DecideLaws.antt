@@ -27,7 +27,7 @@ use Rattle.files.specs.declared.record.Limits.{Limits}
 use Rattle.files.specs.declared.refusal.Refusal.{Refusal}
 use Rattle.judging.specs.declared.shape.Shape.{Shape}
 use Rattle.judging.specs.Chains.{Index, Outside}
-use Rattle.judging.specs.Chains.Laws.{cell-zero}
+use Rattle.judging.specs.Chains.Laws.{cell-zero, index-kept}
 use Rattle.judging.specs.Judge.{from-verdict, GraphWithin, Strides}
 use Rattle.judging.specs.Judge.Steps.{answers-holds, answers-short, answers-sheet}
 use Rattle.judging.specs.Levels.{holds, satisfies}
@@ -40,17 +40,27 @@ use Rattle.judging.specs.Ranking.Laws.{start-finding}
 use Rattle.judging.specs.Sheets.{Settled, listed, fails-at}
 use Rattle.judging.specs.Sheets.Queue.{settled-kept, length-listed}
 use Rattle.judging.specs.Sheets.Walk.{bytes-length}
-use Rattle.judging.proofs.ChainLaws.{zero-byte}
 use Rattle.judging.proofs.ClearedLaws.{cleared-length, cleared-outside, cleared-inside, zero-bit}
 
 -- ---- before any rank is found
 
-module _ (w₀ w : List ℕ) (zeros : w₀ ≡ replicate (length w₀) 0) (beside : Outside 32768 41664 w₀ w) where
-  pub zero-ranks : (i : ℕ) → i < 8192 → cell w 0 2 i ≡ 0
-  zero-ranks i h = cell-agree w w₀ 0 2 i (λ q a b. beside q (inl (omega arith))) ∙ cell-zero w₀ 0 i (λ q a. zero-byte w₀ zeros q)
+module _ (s : Shape) (g p : List ℕ) (ready : Ready s g p) (n : ℕ) (all : n ≡ 64 * s .nodes) (w ys : List ℕ) (room : 41664 ≤ length w) (zeros : ys ≡ replicate (length (midOf 0 n w)) 0) where
+  abbrev w₀ : List ℕ
+  w₀ = putMid 0 n w ys
 
-  pub first-finding : (s : Shape) (g p : List ℕ) → Ready s g p → 41664 ≤ length w → Index (decode-graph g) (decode-property p) w → Finding (decode-graph g) (decode-property p) 0 0 w
-  first-finding s g p ready room x = start-finding (decode-graph g) (decode-property p) w room x zero-ranks (nodes-fit s g p ready) (rows-fit s g p ready)
+  fits : 0 + n ≤ length w
+  fits = omega (arith, ready .few-nodes)
+
+  beside-ranks : Outside 0 (0 + n) w w₀
+  beside-ranks = cleared-outside 0 n w ys zeros fits
+
+  zero-ranks : (i : ℕ) → i < 32 * size (decode-graph g) → cell w₀ 0 2 i ≡ 0
+  zero-ranks i = cell-zero w₀ 0 (32 * size (decode-graph g)) i (λ q a b. cleared-inside 0 n w ys zeros fits q a (omega (arith, size-is s g p ready)))
+
+  -- once the chains stand, and the ranks are cleared
+  pub first-finding : Index (decode-graph g) (decode-property p) w → Finding (decode-graph g) (decode-property p) 0 0 w₀
+  first-finding x = start-finding (decode-graph g) (decode-property p) w₀ (omega (arith, cleared-length 0 n w ys zeros))
+      (index-kept (decode-graph g) (decode-property p) w w₀ (λ base j h. cell-agree w₀ w base 2 j (λ q a b. beside-ranks q (inr (omega (arith, ready .few-nodes))))) x) zero-ranks (rows-fit s g p ready)
 
 -- ---- the marks cleared
 

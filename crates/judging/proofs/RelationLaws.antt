@@ -12,7 +12,7 @@ use Rattle.files.specs.Access.{GraphFile, node-held, edge-held}
 use Rattle.files.specs.Basics.Lists.{index-e}
 use Rattle.files.specs.Basics.Tests.{and-l, and-r, and-i, one}
 use Rattle.files.specs.Cells.{has-bit, put-bit}
-use Rattle.files.specs.Cells.Laws.{bit-byte, cell-two, cell-agree}
+use Rattle.files.specs.Cells.Laws.{bit-byte, cell-agree}
 use Rattle.files.specs.Decode.{decode-graph}
 use Rattle.files.specs.Decode.Graphs.{decoded-size, decoded-filed}
 use Rattle.files.specs.Graph.{Graph, Node, node, no-node}
@@ -21,7 +21,7 @@ use Rattle.files.specs.declared.graph.GraphEdge.{GraphEdge}
 use Rattle.files.specs.declared.graph.GraphNode.{GraphNode}
 use Rattle.judging.specs.declared.sizes.Sizes.{Sizes}
 use Rattle.judging.specs.Chains.{Chained, Outside, linked}
-use Rattle.judging.specs.Chains.Laws.{chained-same, chain-on}
+use Rattle.judging.specs.Chains.Laws.{chained-none, chained-same, chain-on}
 use Rattle.judging.specs.Refinement.{Both, rel, kind, of-kind, edge, neighbour, labelled-into, KindRows, Neighbours, Refining}
 use Rattle.judging.specs.Refinement.Files.{first-size, second-size, first-edges, second-edges, first-flow, second-flow, second-fits, first-edge-in, second-edge-in}
 use Rattle.judging.specs.Refinement.Preparing.{put-beside, kinds-none, kinds-more, kind-is, Putting, putting-none, putting-more, putting-end}
@@ -107,10 +107,7 @@ module _ (s : Sizes) (f g : List ℕ) (x : Both s f g) where
   slot-low e h = let b = first-edge-in s f g x e h in omega (arith, b .1, b .2)
 
   pub slots-start : (w : List ℕ) → ((q : ℕ) → 16960 ≤ q → q < 21568 → getD w q 0 ≡ 0) → Chained w 16960 21568 (labelled-into G) (9 * s .nodes) 0
-  slots-start w z = record {
-    heads-are = λ k h. omega (arith, cell-two w 16960 k, z (16960 + 2 * k) (omega arith) (omega (arith, x .few-first-nodes)), z (16960 + 2 * k + 1) (omega arith) (omega (arith, x .few-first-nodes)));
-    nexts-are = λ k j hk hj t. absurd (omega arith);
-  }
+  slots-start w z = chained-none w 16960 21568 (labelled-into G) (9 * s .nodes) (λ q a b. z q a (omega (arith, x .few-first-nodes)))
 
   pub may-slot : (w : List ℕ) (e k : ℕ) → e < s .edges → 165152 ≤ length w → k ≡ slot e → (16960 + 2 * k + 2 ≤ length w) × ((21568 + 2 * e + 2 ≤ length w) × (e < 65535))
   may-slot w e k h room is = (omega (arith, is, slot-low e h, x .few-first-nodes), (omega (arith, x .few-first-edges), omega (arith, x .few-first-edges)))

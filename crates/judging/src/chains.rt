@@ -1,7 +1,7 @@
 // The chains of judging: edges by the node they lead to, operands by the row they name. `index` states that both stand in the lent buffer.
 ghost use mathlib.Core.Path.{_≡_};
 ghost use Prim.Native.Nat.{_+_, _*_, _-_, _/_, _%_, _≤_, _<_};
-ghost use lib.ListN.{length, getD, replicate};
+ghost use lib.ListN.{length, getD};
 ghost use Rattle.files.specs.Access.{GraphFile};
 ghost use Rattle.files.specs.Record.{count};
 ghost use Rattle.files.specs.Refusal.{nodes-of};
@@ -11,6 +11,7 @@ ghost use Rattle.files.specs.Decode.{decode-graph, decode-property};
 ghost use Rattle.judging.specs.Chains.{Chained, Outside, linked, into, uses, named, named-or, operand-of, Index};
 ghost use Rattle.judging.specs.Ranking.{Ready};
 use crate::shape::Shape;
+use files::cells::clear;
 use files::cells::get16;
 use files::cells::put16;
 use files::graph::EdgeAt;
@@ -109,11 +110,12 @@ fn link_places(graph: &[u8], property: &[u8], s: Shape, work: &mut [u8])
     }
 }
 
-// Builds both chains in a buffer that is zero; the bytes before them stay zero.
+// Builds both chains, whatever the buffer held.
 pub(crate) fn index(graph: &[u8], property: &[u8], s: Shape, work: &mut [u8])
-    requires { ⌜ (Ready s (now graph) (now property)) × ((now work ≡ replicate (length (now work)) 0) × (41664 ≤ length (now work))) ⌝ }
-    ensures { λ _. ⌜ (Index (decode-graph (now (graph .entry))) (decode-property (now (property .entry))) (now (work .exit))) × (Outside 32768 41664 (now (work .entry)) (now (work .exit))) ⌝ }
+    requires { ⌜ (Ready s (now graph) (now property)) × (41664 ≤ length (now work)) ⌝ }
+    ensures { λ _. ⌜ Index (decode-graph (now (graph .entry))) (decode-property (now (property .entry))) (now (work .exit)) ⌝ }
 {
+    clear(&mut work[Shape::NODE_HEADS..Shape::NODE_NEXTS]);
     link_graph(
         graph,
         s.nodes,
@@ -122,5 +124,6 @@ pub(crate) fn index(graph: &[u8], property: &[u8], s: Shape, work: &mut [u8])
         Shape::NODE_HEADS,
         Shape::NODE_NEXTS,
     );
+    clear(&mut work[Shape::ROW_HEADS..Shape::ROW_NEXTS]);
     link_places(graph, property, s, work);
 }

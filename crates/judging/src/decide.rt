@@ -29,8 +29,8 @@ fn find_ranks(graph: &[u8], property: &[u8], s: Shape, work: &mut [u8])
     requires { ⌜ (Ready s (now graph) (now property)) × (41664 ≤ length (now work)) ⌝ }
     ensures { λ _. ⌜ Ranked (decode-graph (now (graph .entry))) (decode-property (now (property .entry))) (now (work .exit)) ⌝ }
 {
-    clear(work);
     index(graph, property, s, work);
+    clear(&mut work[0..2 * Shape::STRIDE * s.nodes]);
     let tail = start(graph, property, s, work);
     levels(graph, property, s, work, tail);
 }

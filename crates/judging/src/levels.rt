@@ -5,7 +5,6 @@ ghost use mathlib.Core.Bool.{not, _&&_};
 ghost use Prim.Native.Nat.{ℕ, suc, _+_, _*_, _≤_, _<_};
 ghost use lib.Dec.{T, leb};
 ghost use lib.ListN.{length, getD};
-ghost use Rattle.files.specs.Cells.{cell};
 ghost use Rattle.files.specs.Graph.{no-edge};
 ghost use Rattle.files.specs.Property.{row};
 ghost use Rattle.files.specs.Decode.{decode-graph, decode-property};
@@ -113,9 +112,9 @@ fn start_node(
     end
 }
 
-// Level 1, in a buffer of zeros and chains. The queue's end.
+// Level 1, where no pair has a rank yet. The queue's end.
 pub(crate) fn start(graph: &[u8], property: &[u8], s: Shape, work: &mut [u8]) -> usize
-    requires { ⌜ (Ready s (now graph) (now property)) × ((Finding (decode-graph (now graph)) (decode-property (now property)) 0 0 (now work)) × ((p : ℕ) → p < 8192 → cell (now work) 0 2 p ≡ 0)) ⌝ }
+    requires { ⌜ (Ready s (now graph) (now property)) × (Finding (decode-graph (now graph)) (decode-property (now property)) 0 0 (now work)) ⌝ }
     ensures { λ t. ⌜ Found (decode-graph (now (graph .entry))) (decode-property (now (property .entry))) 1 0 t (now (work .exit)) ⌝ }
 {
     let mut g = 0;

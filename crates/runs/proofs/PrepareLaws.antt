@@ -160,7 +160,7 @@ module _ (s : Regions) (g r : List ℕ) (ready : Ready s g r) where
   module _ (w₀ w₁ w₂ : List ℕ) (zeros : w₀ ≡ replicate (length w₀) 0) (one : Outside 32768 33792 w₀ w₁) (two : Outside 33792 34306 w₁ w₂) where
     -- nothing stands after the first edges
     pub groups-none : Chained w₂ 34306 34324 (opens G) 9 0
-    groups-none = chained-none w₂ 34306 34324 (opens G) 9 (λ q l. two q (inr (omega arith)) ∙ one q (inr (omega arith)) ∙ zero-byte w₀ zeros q)
+    groups-none = chained-none w₂ 34306 34324 (opens G) 9 (λ q l h. two q (inr (omega arith)) ∙ one q (inr (omega arith)) ∙ zero-byte w₀ zeros q)
 
     pub tables-are : (w₃ : List ℕ) → Stepped (watch (decode-rules r)) w₁ → Firsts G w₂ → Outside 34306 42516 w₂ w₃ → Chained w₃ 34306 34324 (opens G) 9 (length (G .edges))
         → Tables G (watch (decode-rules r)) w₃ × Outside 32768 42516 w₀ w₃

@@ -13,7 +13,9 @@ use lib.ListN.{length, getD}
 use Rattle.files.specs.Basics.Tests.{same-test, eq-eqb}
 use Rattle.files.specs.Cells.{cell, put-cell}
 use Rattle.files.specs.Cells.Laws.{length-put-cell, byte-outside, cell-same, cell-apart, cell-other, cell-agree, cell-two}
-use Rattle.judging.specs.Chains.{last-where, Chained, linked, Outside}
+use Rattle.files.specs.Graph.{Graph, size}
+use Rattle.files.specs.Property.{Row}
+use Rattle.judging.specs.Chains.{last-where, Chained, linked, Outside, into, uses, Index}
 
 -- ---- the last number that passes
 
@@ -51,13 +53,13 @@ module _ (w w′ : List ℕ) (heads nexts : ℕ) (p : ℕ → ℕ → Bool) (key
       → Chained w heads nexts p keys items → Chained w′ heads nexts p keys items
   chained-same f g c = record { heads-are = λ k h. f k h ∙ c .heads-are k h; nexts-are = λ k j hk hj t. g j hj ∙ c .nexts-are k j hk hj t }
 
--- bytes that are zero make cells that are zero
-pub cell-zero : (w : List ℕ) (base i : ℕ) → ((q : ℕ) → base ≤ q → getD w q 0 ≡ 0) → cell w base 2 i ≡ 0
-cell-zero w base i f = omega (arith, cell-two w base i, f (base + 2 * i) (omega arith), f (base + 2 * i + 1) (omega arith))
+-- bytes of n cells that are zero make cells that are zero
+pub cell-zero : (w : List ℕ) (base n i : ℕ) → ((q : ℕ) → base ≤ q → q < base + 2 * n → getD w q 0 ≡ 0) → i < n → cell w base 2 i ≡ 0
+cell-zero w base n i f h = omega (arith, cell-two w base i, f (base + 2 * i) (omega arith) (omega arith), f (base + 2 * i + 1) (omega arith) (omega arith))
 
 -- no item yet
-pub chained-none : (w : List ℕ) (heads nexts : ℕ) (p : ℕ → ℕ → Bool) (keys : ℕ) → ((q : ℕ) → heads ≤ q → getD w q 0 ≡ 0) → Chained w heads nexts p keys 0
-chained-none w heads nexts p keys f = record { heads-are = λ k h. cell-zero w heads k f; nexts-are = λ k j hk hj t. absurd (not-suc-le-zero hj) }
+pub chained-none : (w : List ℕ) (heads nexts : ℕ) (p : ℕ → ℕ → Bool) (keys : ℕ) → ((q : ℕ) → heads ≤ q → q < heads + 2 * keys → getD w q 0 ≡ 0) → Chained w heads nexts p keys 0
+chained-none w heads nexts p keys f = record { heads-are = λ k. cell-zero w heads keys k f; nexts-are = λ k j hk hj t. absurd (not-suc-le-zero hj) }
 
 -- what is written after both parts of a chain leaves it as it is
 pub chained-kept : (w w′ : List ℕ) (heads nexts : ℕ) (p : ℕ → ℕ → Bool) (keys items a b : ℕ) → heads + 2 * keys ≤ a → nexts + 2 * items ≤ a → Outside a b w w′
@@ -66,6 +68,13 @@ chained-kept w w′ heads nexts p keys items a b h n o =
     chained-same w w′ heads nexts p keys items
     (λ k l. cell-agree w′ w heads 2 k (λ q x y. o q (inl (omega arith))))
     (λ j l. cell-agree w′ w nexts 2 j (λ q x y. o q (inl (omega arith))))
+
+-- what is written before the chains of judging leaves both as they are
+pub index-kept : (G : Graph) (P : List Row) (w w′ : List ℕ) → ((base j : ℕ) → 32768 ≤ base → cell w′ base 2 j ≡ cell w base 2 j) → Index G P w → Index G P w′
+index-kept G P w w′ f x = record {
+  by-node = chained-same w w′ 32768 33280 (into G) (size G) (length (G .edges)) (λ j h. f 32768 j (omega arith)) (λ j h. f 33280 j (omega arith)) (x .by-node);
+  by-row = chained-same w w′ 41472 41536 (uses P) (length P) (2 * length P) (λ j h. f 41472 j (omega arith)) (λ j h. f 41536 j (omega arith)) (x .by-row);
+}
 
 -- ---- one item, stored
 

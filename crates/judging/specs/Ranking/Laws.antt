@@ -6,10 +6,10 @@ use mathlib.Core.List.{List}
 use mathlib.Core.Option.{Option, some}
 use Prim.Native.Nat.{ℕ, suc, _+_, _*_, _/_, _%_, _≤_, _<_}
 use native.Mathlib.Omega.{arith}
-use lib.Dec.{T, T-not, not-T, eqb, ltb, leb, ltb→lt, leb→le, le→leb}
+use lib.Dec.{T, T-not, not-T, eqb, ltb, leb, eqb→eq, ltb→lt, leb→le, le→leb}
 use lib.ListN.{length, getD}
 use Rattle.files.specs.Basics.Lists.{index-i}
-use Rattle.files.specs.Basics.Tables.{tally-is}
+use Rattle.files.specs.Basics.Tables.{tally-is, tally-more}
 use Rattle.files.specs.Basics.Tests.{decide, and-l, and-r, and-i, eq-eqb, T-eq}
 use Rattle.files.specs.Cells.{cell}
 use Rattle.files.specs.Graph.{Graph, Edge, size, no-edge, Flow}
@@ -99,16 +99,24 @@ module _ (G : Graph) (P : List Row) where
   -- ---- what a level starts with
 
   -- the ranks of zeros are those of level 0
-  pub start-finding : (w : List ℕ) → 41664 ≤ length w → Index G P w → ((p : ℕ) → p < 8192 → cell w 0 2 p ≡ 0) → size G ≤ 256 → length P ≤ 32 → Finding G P 0 0 w
-  start-finding w room x zero-ranks fn fr = record {
+  pub start-finding : (w : List ℕ) → 41664 ≤ length w → Index G P w → ((i : ℕ) → i < 32 * size G → cell w 0 2 i ≡ 0) → length P ≤ 32 → Finding G P 0 0 w
+  start-finding w room x zero-ranks fr = record {
     room = room;
     low = omega arith;
     index = x;
     ranks = λ g r hg hr. inl (zero-ranks (pair g r) (omega arith) ∙ sym (first-true G P 0 g r (level-zero G P g r)));
     queued = λ i h. absurd (omega arith);
     counted = sym (tally-is (λ (p : ℕ). not (eqb (cell w 0 2 p) 0)) 0 (32 * size G) (omega arith) (λ i h. absurd (omega arith))
-        (λ i h m. not-T (not (eqb (cell w 0 2 i) 0)) (λ t. T-not (eqb (cell w 0 2 i) 0) t (eq-eqb _ _ (zero-ranks i (omega arith))))));
+        (λ i h m. not-T (not (eqb (cell w 0 2 i) 0)) (λ t. T-not (eqb (cell w 0 2 i) 0) t (eq-eqb _ _ (zero-ranks i m)))));
   }
+
+  -- and where no pair has a rank, all ranks are zeros
+  no-rank : (w : List ℕ) → Finding G P 0 0 w → (i : ℕ) → i < 32 * size G → cell w 0 2 i ≡ 0
+  no-rank w f i h = go (decide (eqb (cell w 0 2 i) 0))
+    where
+      go : T (eqb (cell w 0 2 i) 0) ⊎ T (not (eqb (cell w 0 2 i) 0)) → cell w 0 2 i ≡ 0
+      go (inl t) = eqb→eq (cell w 0 2 i) 0 t
+      go (inr t) = absurd (omega (arith, f .counted, tally-more (λ (p : ℕ). false) (λ (p : ℕ). not (eqb (cell w 0 2 p) 0)) i (32 * size G) h tt t (λ j l x. absurd x)))
 
 module _ (G : Graph) (P : List Row) (flow : Flow G) (wf : Property P) where
   still-false : (k g r : ℕ) → g < size G → r < length P → T (not (level G P k g r)) → T (not (level G P (suc k) g r))
@@ -228,10 +236,9 @@ module _ (G : Graph) (P : List Row) (flow : Flow G) (wf : Property P) where
     }
 
   -- level 1, from what is false by itself
-  pub first-found : (tail : ℕ) (w w′ : List ℕ) → Finding G P 0 0 w → ((g r : ℕ) → g < size G → r < length P → rank-at w g r ≡ 0) → Grew G P 0 0 tail w w′
-      → ((g r : ℕ) → g < size G → r < length P → T (not (level G P 1 g r)) → Given w′ g r) → Found G P 1 0 tail w′
-  first-found tail w w′ f z x d =
-      level-found 0 0 0 tail w w′ (λ g r hg hr. z g r hg hr ∙ sym (first-true G P 0 g r (level-zero G P g r))) x (λ g r hg hr a b. d g r hg hr b) (omega arith)
+  pub first-found : (tail : ℕ) (w w′ : List ℕ) → Finding G P 0 0 w → length P ≤ 32 → Grew G P 0 0 tail w w′ → ((g r : ℕ) → g < size G → r < length P → T (not (level G P 1 g r)) → Given w′ g r) → Found G P 1 0 tail w′
+  first-found tail w w′ f fr x d =
+      level-found 0 0 0 tail w w′ (λ g r hg hr. no-rank G P w f (pair g r) (omega arith) ∙ sym (first-true G P 0 g r (level-zero G P g r))) x (λ g r hg hr a b. d g r hg hr b) (omega arith)
 
   -- and each later one, from the queue's pairs of the level before
   pub later-found : (k head tail tail′ : ℕ) (w w′ : List ℕ) → Found G P (suc k) head tail w → head < tail → Grew G P (suc k) tail tail′ w w′

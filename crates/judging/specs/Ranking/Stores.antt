@@ -15,8 +15,7 @@ use Rattle.files.specs.Cells.{cell, put-cell}
 use Rattle.files.specs.Cells.Laws.{length-put-cell, cell-same, cell-apart, cell-other}
 use Rattle.files.specs.Graph.{Graph, size, Flow}
 use Rattle.files.specs.Property.{Row, Property}
-use Rattle.judging.specs.Chains.{Index, into, uses}
-use Rattle.judging.specs.Chains.Laws.{chained-same}
+use Rattle.judging.specs.Chains.Laws.{index-kept}
 use Rattle.judging.specs.Levels.{level}
 use Rattle.judging.specs.Levels.Onward.{first-rank, rank-within}
 use Rattle.judging.specs.Ranking.{pair, rank-at, queue-at, Given, given, tail-after, ranked, Queued, RankBy, Finding, Grew}
@@ -78,12 +77,6 @@ module _ (w : List ℕ) (tail p k : ℕ) (in-ranks : p < 8192) (in-queue : tail 
   -- what stands past the queue is kept
   past-kept : (base j : ℕ) → 32768 ≤ base → cell (pushed w tail p k) base 2 j ≡ cell w base 2 j
   past-kept base j h = cell-apart once 16384 2 tail p base 2 j (inr (omega arith)) ∙ cell-apart w 0 2 p (suc k) base 2 j (inr (omega arith))
-
-  index-kept : (G : Graph) (P : List Row) → Index G P w → Index G P (pushed w tail p k)
-  index-kept G P x = record {
-    by-node = chained-same w (pushed w tail p k) 32768 33280 (into G) (size G) (length (G .edges)) (λ j h. past-kept 32768 j (omega arith)) (λ j h. past-kept 33280 j (omega arith)) (x .by-node);
-    by-row = chained-same w (pushed w tail p k) 41472 41536 (uses P) (length P) (2 * length P) (λ j h. past-kept 41472 j (omega arith)) (λ j h. past-kept 41536 j (omega arith)) (x .by-row);
-  }
 
   -- where the pair had no rank, one more has
   ranked-more : (n : ℕ) → n ≤ 256 → p < 32 * n → cell w 0 2 p ≡ 0 → ranked (pushed w tail p k) n ≡ suc (ranked w n)
@@ -192,7 +185,7 @@ module _ (G : Graph) (P : List Row) (flow : Flow G) (wf : Property P) (few-nodes
       found-after = record {
         room = omega (arith, f .room, pushed-length w tail (pair g r) k in-ranks in-queue (f .room) (f .low));
         low = f .low;
-        index = index-kept w tail (pair g r) k in-ranks in-queue (f .room) (f .low) G P (f .index);
+        index = index-kept G P w (pushed w tail (pair g r) k) (past-kept w tail (pair g r) k in-ranks in-queue (f .room) (f .low)) (f .index);
         ranks = ranks-after;
         queued = queued-after;
         counted = ap suc (f .counted) ∙ sym (ranked-more w tail (pair g r) k in-ranks in-queue (f .room) (f .low) (size G) few-nodes (omega arith) none);

@@ -1,25 +1,93 @@
+use mathlib.Core.Path.{_∙_}
+use Prim.Native.Nat.{_≤_}
 use native.Mathlib.Omega.{arith}
-use Prim.Native.Nat.{_+_, _*_}
-use Rattle.judging.proofs.ChainLaws.{edges-none, places-none, indexed, outside-both}
+use lib.ListN.{length}
+use Rattle.judging.proofs.ChainLaws.{edges-none, places-none, beside-places, indexed}
+use Rattle.judging.proofs.ClearedLaws.{cleared-length}
 use borrow.Author.Needs.{needs}
 use Rattle.judging.proofs.chains.index.Statement.{statement}
 use Rattle.judging.proofs.chains.index.Tie as tie
+use Rattle.files.proofs.cells.clear.Reads as clear-reads
+
+sub-clear : tie.Need-sub-clear
+sub-clear c = search needs
+
+part-clear-start : tie.Need-part-clear-start
+part-clear-start c = search needs
+
+part-clear-end : tie.Need-part-clear-end
+part-clear-end c = search needs
+
+clear-requires : tie.Need-clear-requires
+clear-requires c κs = search needs
 
 link-graph-requires : tie.Need-link-graph-requires
-link-graph-requires c κs = let k = c .before .before .before .before in let a = k .args in let r = k .pre .0 in (r .graph-file, (r .nodes-are, (r .edges-are, (r .few-edges, (omega (arith, r .few-nodes), (omega (arith, r .few-edges, k .pre .1 .1), edges-none (a .s) (a .graph .now) (a .property .now) r (a .work .now) (k .pre .1 .0)))))))
+link-graph-requires c κs =
+    let k = c .before .before .before .before .before .before .before .before in
+    let a = k .args in
+    let r = k .pre .0 in
+    let x = c .before .before .before .clear in
+    (r .graph-file, (r .nodes-are, (r .edges-are, (r .few-edges, (omega (arith, r .few-nodes), (omega (arith, r .few-edges, k .pre .1, cleared-length 32768 512 (a .work .now) (x .last .0) (x .ensures)), edges-none (a .s) (a .graph .now) (a .property .now) r (a .work .now) (x .last .0) (k .pre .1) (x .ensures)))))))
+
+sub-clear-2 : tie.Need-sub-clear-2
+sub-clear-2 c = search needs
+
+part-clear-start-2 : tie.Need-part-clear-start-2
+part-clear-start-2 c = search needs
+
+part-clear-end-2 : tie.Need-part-clear-end-2
+part-clear-end-2 c =
+    let k = c .before .before .before .before .before .before .before .before .before .before .before in
+    let x = c .before .before .before .before .before .before .clear in
+    omega (arith, c .before .before .link-graph .kept .1 .1 .1 .0, cleared-length 32768 512 (k .args .work .now) (x .last .0) (x .ensures), k .pre .1)
+
+clear-requires-2 : tie.Need-clear-requires-2
+clear-requires-2 c κs = search needs
 
 link-places-requires : tie.Need-link-places-requires
-link-places-requires c κs = let k = c .before .before .before .before .before .before .before .before in let a = k .args in let e = c .before .before .before .link-graph in (k .pre .0, (omega (arith, e .kept .1 .1 .1 .0, k .pre .1 .1), places-none (a .s) (a .graph .now) (a .property .now) (k .pre .0) (a .work .now) _ (k .pre .1 .0) (e .ensures .1)))
+link-places-requires c κs =
+    let k = c .before .before .before .before .before .before .before .before .before .before .before .before .before .before .before .before in
+    let a = k .args in
+    let x = c .before .before .before .before .before .before .before .before .before .before .before .clear in
+    let e = c .before .before .before .before .before .before .before .link-graph in
+    let y = c .before .before .before .clear2 in
+    let w = e .last .1 .1 .1 .0 in
+    let room : 41664 ≤ length w = omega (arith, e .kept .1 .1 .1 .0, cleared-length 32768 512 (a .work .now) (x .last .0) (x .ensures), k .pre .1) in
+    (k .pre .0, (omega (arith, room, cleared-length 41472 64 w (y .last .0) (y .ensures)), places-none (a .s) (a .graph .now) (a .property .now) (k .pre .0) w (y .last .0) room (y .ensures)))
 
 same-length : tie.Need-same-length
-same-length c = search needs
+same-length c =
+    let k = c .before .before .before .before .before .before .before .before .before .before .before .before .before .before .before .before .before .before .before in
+    let x = c .before .before .before .before .before .before .before .before .before .before .before .before .before .before .clear in
+    let e = c .before .before .before .before .before .before .before .before .before .before .link-graph in
+    let y = c .before .before .before .before .before .before .clear2 in
+    c .before .before .link-places .kept .1 .1 .1 .0 ∙ cleared-length 41472 64 (e .last .1 .1 .1 .0) (y .last .0) (y .ensures) ∙ e .kept .1 .1 .1 .0 ∙ cleared-length 32768 512 (k .args .work .now) (x .last .0) (x .ensures)
 
 returns : tie.Need-returns
-returns c = let k = c .before .before .before .before .before .before .before .before .before .before .before in
+returns c =
+    let k = c .before .before .before .before .before .before .before .before .before .before .before .before .before .before .before .before .before .before .before in
     let a = k .args in
-    let e = c .before .before .before .before .before .before .link-graph in
+    let x = c .before .before .before .before .before .before .before .before .before .before .before .before .before .before .clear in
+    let e = c .before .before .before .before .before .before .before .before .before .before .link-graph in
+    let y = c .before .before .before .before .before .before .clear2 in
     let p = c .before .before .link-places in
-    (indexed (a .s) (a .graph .now) (a .property .now) (k .pre .0) (e .last .1 .1 .1 .0) _ (e .ensures .0) (p .ensures .1) (p .ensures .0), outside-both 32768 (33280 + 2 * a .s .edges) 41472 41664 32768 41664 (a .work .now) (e .last .1 .1 .1 .0) (p .last .1 .1 .1 .0) (omega arith) (omega (arith, k .pre .0 .few-edges)) (omega arith) (omega arith) (e .ensures .1) (p .ensures .1))
+    let w = e .last .1 .1 .1 .0 in
+    let room : 41664 ≤ length w = omega (arith, e .kept .1 .1 .1 .0, cleared-length 32768 512 (a .work .now) (x .last .0) (x .ensures), k .pre .1) in
+    indexed (a .s) (a .graph .now) (a .property .now) (k .pre .0) w (p .last .1 .1 .1 .0) (e .ensures .0) (beside-places (a .s) (a .graph .now) (a .property .now) (k .pre .0) w (y .last .0) room (y .ensures) (p .last .1 .1 .1 .0) (p .ensures .1)) (p .ensures .0)
 
 pub index-spec : {M : Type 1} → statement M
-index-spec = tie.close (tie.spec link-graph-requires link-places-requires same-length returns)
+index-spec =
+    tie.close
+    (tie.spec
+    sub-clear
+    part-clear-start
+    part-clear-end
+    clear-requires
+    link-graph-requires
+    sub-clear-2
+    part-clear-start-2
+    part-clear-end-2
+    clear-requires-2
+    link-places-requires
+    same-length
+    returns)

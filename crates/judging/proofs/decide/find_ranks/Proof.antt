@@ -1,8 +1,6 @@
-use mathlib.Core.Path.{sym, ap, _∙_}
-use Prim.Native.Nat.{ℕ}
+use Prim.Native.Nat.{_*_, _-_}
 use native.Mathlib.Omega.{arith}
-use lib.ListN.{replicate}
-use Rattle.judging.proofs.DecideLaws.{zero-ranks, first-finding}
+use Rattle.judging.proofs.DecideLaws.{first-finding}
 use borrow.Author.Needs.{needs}
 use Rattle.judging.proofs.decide.find_ranks.Statement.{statement}
 use Rattle.judging.proofs.decide.find_ranks.Tie as tie
@@ -11,18 +9,34 @@ use Rattle.judging.proofs.chains.index.Reads as index-reads
 use Rattle.judging.proofs.levels.levels.Reads as levels-reads
 use Rattle.judging.proofs.levels.start.Reads as start-reads
 
+index-requires : tie.Need-index-requires
+index-requires c κs = search needs
+
+mul-clear : tie.Need-mul-clear
+mul-clear c = search needs
+
+mul-clear-2 : tie.Need-mul-clear-2
+mul-clear-2 c = search needs
+
+sub-clear : tie.Need-sub-clear
+sub-clear c = search needs
+
+part-clear-start : tie.Need-part-clear-start
+part-clear-start c = search needs
+
+part-clear-end : tie.Need-part-clear-end
+part-clear-end c = search needs
+
 clear-requires : tie.Need-clear-requires
 clear-requires c κs = search needs
 
-index-requires : tie.Need-index-requires
-index-requires c κs = let k = c .before .before .before .before .before .before .before .before in let x = c .before .before .before .clear in (k .pre .0, (x .ensures ∙ ap (λ (n : ℕ). replicate n 0) (sym (x .kept .0)), omega (arith, x .kept .0, k .pre .1)))
-
 start-requires : tie.Need-start-requires
-start-requires c κs = let k = c .before .before .before .before .before .before .before .before .before .before .before .before in
-    let x = c .before .before .before .before .before .before .before .clear in
-    let i = c .before .before .before .index in
-    let zeros = x .ensures ∙ ap (λ (n : ℕ). replicate n 0) (sym (x .kept .0)) in
-    (k .pre .0, (first-finding (x .last .0) (i .last .1 .1 .1 .0) zeros (i .ensures .1) (k .args .s) (k .args .graph .now) (k .args .property .now) (k .pre .0) (omega (arith, i .kept .1 .1 .1 .0, x .kept .0, k .pre .1)) (i .ensures .0), zero-ranks (x .last .0) (i .last .1 .1 .1 .0) zeros (i .ensures .1)))
+start-requires c κs =
+    let k = c .before .before .before .before .before .before .before .before .before .before .before .before .before in
+    let a = k .args in
+    let i = c .before .before .before .before .before .before .before .before .index in
+    let x = c .before .before .before .clear in
+    (k .pre .0, first-finding (a .s) (a .graph .now) (a .property .now) (k .pre .0) (2 * 32 * a .s .nodes - 0) (omega arith) (i .last .1 .1 .1 .0) (x .last .0) (omega (arith, i .kept .1 .1 .1 .0, k .pre .1)) (x .ensures) (i .ensures))
 
 levels-requires : tie.Need-levels-requires
 levels-requires c κs = search needs
@@ -36,4 +50,15 @@ returns c = search needs
 pub find-ranks-spec : {M : Type 1} → statement M
 find-ranks-spec =
     tie.close
-    (tie.spec clear-requires index-requires start-requires levels-requires same-length returns)
+    (tie.spec
+    index-requires
+    mul-clear
+    mul-clear-2
+    sub-clear
+    part-clear-start
+    part-clear-end
+    clear-requires
+    start-requires
+    levels-requires
+    same-length
+    returns)

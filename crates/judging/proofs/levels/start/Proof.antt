@@ -1,5 +1,5 @@
 use mathlib.Core.Path.{_≡_, refl, _∙_}
-use Prim.Native.Nat.{ℕ, _+_, _*_, _-_, _≤_, _<_}
+use Prim.Native.Nat.{ℕ, _-_, _≤_, _<_}
 use native.Mathlib.Omega.{arith}
 use mathlib.Core.Bool.{not}
 use lib.Dec.{T}
@@ -8,9 +8,9 @@ use Rattle.files.specs.Decode.{decode-graph, decode-property}
 use Rattle.judging.specs.Levels.{level}
 use Rattle.judging.specs.Ranking.{Given, Grew}
 use Rattle.judging.specs.Ranking.Stores.{grew-none, grew-on}
-use Rattle.judging.proofs.LevelLaws.{below-more, node-in, row-in, node-of, row-of, pair-fits}
+use Rattle.judging.proofs.LevelLaws.{below-more, node-in, row-in, node-of, row-of}
 use Rattle.judging.specs.Ranking.Laws.{first-found}
-use Rattle.judging.specs.Ranking.Files.{is-flow, is-property}
+use Rattle.judging.specs.Ranking.Files.{is-flow, is-property, rows-fit}
 use Rattle.judging.proofs.levels.start.Statement.{statement}
 use Rattle.judging.proofs.levels.start.Tie as tie
 
@@ -24,7 +24,7 @@ loop-holds : tie.Need-loop-holds Inv-loop μ-loop
 loop-holds c =
     let k = c .before .before .before in
     let a = k .args in
-    (omega arith, refl, grew-none (decode-graph (a .graph .now)) (decode-property (a .property .now)) 0 0 (a .work .now) (k .pre .1 .0), λ j h. absurd (omega arith))
+    (omega arith, refl, grew-none (decode-graph (a .graph .now)) (decode-property (a .property .now)) 0 0 (a .work .now) (k .pre .1), λ j h. absurd (omega arith))
 
 start-node-requires : tie.Need-start-node-requires Inv-loop μ-loop
 start-node-requires c κs =
@@ -60,8 +60,7 @@ returns c =
     let k = c .before .before .before .before .before .before in
     let a = k .args in
     let l = c .before .before .loop in
-    first-found (decode-graph (a .graph .now)) (decode-property (a .property .now)) (is-flow (a .s) (a .graph .now) (a .property .now) (k .pre .0)) (is-property (a .s) (a .graph .now) (a .property .now) (k .pre .0)) (l .end) (a .work .now) (l .work) (k .pre .1 .0)
-    (λ v r hv hr. k .pre .1 .1 (32 * v + r) (pair-fits (a .s) (a .graph .now) (a .property .now) (k .pre .0) 0 0 (a .work .now) (k .pre .1 .0) v r (node-of (a .s) (a .graph .now) (a .property .now) (k .pre .0) v hv) (row-of (a .s) (a .graph .now) (a .property .now) (k .pre .0) r hr)))
+    first-found (decode-graph (a .graph .now)) (decode-property (a .property .now)) (is-flow (a .s) (a .graph .now) (a .property .now) (k .pre .0)) (is-property (a .s) (a .graph .now) (a .property .now) (k .pre .0)) (l .end) (a .work .now) (l .work) (k .pre .1) (rows-fit (a .s) (a .graph .now) (a .property .now) (k .pre .0))
     (l .inv .2)
     (λ v r hv hr t. l .inv .3 v (omega (arith, c .if1 .left, node-of (a .s) (a .graph .now) (a .property .now) (k .pre .0) v hv)) r (row-of (a .s) (a .graph .now) (a .property .now) (k .pre .0) r hr) t)
 
