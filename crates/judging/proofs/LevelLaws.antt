@@ -116,7 +116,7 @@ module _ (s : Shape) (g p : List ℕ) (ready : Ready s g p) where
   -- ---- a rank given
 
   module _ (k tail : ℕ) (w : List ℕ) (f : Finding G P k tail w) (v r : ℕ) (hv : v < s .nodes) (hr : r < s .rows) where
-    pub pair-fits : pair v r < 8192
+    pair-fits : pair v r < 8192
     pair-fits = omega (arith, ready .few-nodes, ready .few-rows)
 
     module _ (turns : T (not (level G P (suc k) v r))) where

@@ -7,32 +7,24 @@ use mathlib.Core.Option.{Option, none, some}
 use Prim.Native.Nat.{ℕ, zero, suc, _+_, _*_, _-_, _/_, _%_, _^_, _≤_, _<_}
 use native.Mathlib.Nat.{one-mul, add-comm, pow-suc, mod-lt}
 use native.Mathlib.Numerals.{add-one}
-use native.Mathlib.Decide.{decLt}
 use native.Mathlib.Omega.{arith}
 use lib.Bits.{bitOr, or-shifted-r}
+use lib.Count.{leadingZeros, leading-top}
 use lib.Dec.{T, eqb, ltb→lt}
 use lib.ListN.{length}
-use borrow.Author.Tests.{not-false}
 use lib.Pow.{pow-pos, pow-lt, shl-exact, shr-lt, split}
 use Rattle.files.specs.Basics.Tests.{decide, one, any, upto}
 use Rattle.files.specs.Property.{Row, always, never, returns, not-returns, in-method, not-in-method, both, either, box, row, names, obliged}
 use Rattle.maximal.specs.Model.{is-some}
 use Rattle.maximal.specs.Model.Supports.{asked-is}
 use Rattle.maximal.specs.Masks.{member, untrue-at, untrue, obliged-rows, asked-of, mask, rows}
-use Rattle.maximal.specs.Masks.Laws.{member-or, member-one, member-none, member-lt, members-eq, mask-lt, rows-member, untrue-mask, asked-lt, member-asked}
+use Rattle.maximal.specs.Masks.Laws.{member-or, member-one, member-none, members-eq, mask-lt, rows-member, untrue-mask, asked-lt, member-asked}
 
 -- ---- one row, and the highest row
 
 -- the set of row r, as the code shifts it
 pub one-shifted : (r : ℕ) → r < 32 → 1 * 2 ^ r % 4294967296 ≡ 2 ^ r
 one-shifted r h = shl-exact {a = 1} 1 r 32 (omega arith) (omega arith) ∙ one-mul (2 ^ r)
-
-member-least : (u r : ℕ) → T (member u r) → 2 ^ r ≤ u
-member-least u r t = go (decLt u (2 ^ r))
-  where
-    go : Dec (u < 2 ^ r) → 2 ^ r ≤ u
-    go (yes h) = absurd (omega (arith, member-lt r u r h t))
-    go (no h) = omega arith
 
 -- a set without its highest place is below it
 without-top : (u r : ℕ) → u < 2 ^ (r + 1) → T (not (member u r)) → u < 2 ^ r
@@ -50,16 +42,13 @@ member-top u r l h = go (decide (member u r))
     go (inl t) = t
     go (inr t) = absurd (omega (arith, without-top u r h t))
 
--- one place down where the highest place is not in the set, and the highest row where it is
-pub one-down : (u r : ℕ) (b : Bool) → 0 < u → u < 2 ^ (r + 1) → b ≡ member u r → not b ≡ true → (1 ≤ r) × (u < 2 ^ (r - 1 + 1))
-one-down u r b p h e t = go r (without-top u r h (subst T (sym (ap not (sym e) ∙ t)) tt))
-  where
-    go : (r : ℕ) → u < 2 ^ r → (1 ≤ r) × (u < 2 ^ (r - 1 + 1))
-    go zero l = absurd (omega arith)
-    go (suc r) l = let e : suc r ≡ suc r - 1 + 1 = omega arith in (omega arith, subst (λ (n : ℕ). u < 2 ^ n) e l)
-
-pub top-is : (u r : ℕ) (b : Bool) → b ≡ member u r → not b ≡ false → 2 ^ r ≤ u
-top-is u r b e t = member-least u r (subst T (sym (sym e ∙ not-false b t)) tt)
+-- a set that is not empty lies between the digit of its highest row and the next; above that row all 32 digits are zero
+pub highest-is : (u : ℕ) → 0 < u → u < 2 ^ 32 → (leadingZeros 32 u ≤ 31) × (2 ^ (31 - leadingZeros 32 u) ≤ u) × (u < 2 ^ (31 - leadingZeros 32 u + 1))
+highest-is u p h =
+    let t = leading-top 32 u p h in
+    let e : t .0 ≡ 31 - leadingZeros 32 u = omega (arith, t .1) in
+    let f : suc (t .0) ≡ 31 - leadingZeros 32 u + 1 = omega (arith, t .1) in
+    (omega (arith, t .1), subst (λ (n : ℕ). 2 ^ n ≤ u) e (t .2), subst (λ (n : ℕ). u < 2 ^ n) f (t .3))
 
 -- ---- sets gathered row by row
 

@@ -31,11 +31,7 @@ fn highest(set: u32) -> usize
     requires { ⌜ 0 < set ⌝ }
     ensures { λ t. ⌜ (2 ^ t ≤ set) × (set < 2 ^ (t + 1)) ⌝ }
 {
-    let mut r = 31;
-    while !has_row(set, r) {
-        r -= 1;
-    }
-    r
+    31 - (u32::leading_zeros(set) as usize)
 }
 
 // The operands of row r as a set where it has this operator, that of an "and" or of an "or"; otherwise the set given.

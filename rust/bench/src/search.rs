@@ -11,21 +11,42 @@ use std::time::{Duration, Instant};
 const BATCHES: usize = 5;
 const BATCH: Duration = Duration::from_micros(20);
 
-/// What is shown of the inputs of a call; a ratio above three counts as slow.
+/// How many ratios are above three, and the highest.
 #[derive(Default)]
-struct Worst {
+struct Ratios {
     slow: usize,
-    slow_but_for_clearing: usize,
-    ratio: f64,
-    rest: f64,
+    worst: f64,
+}
+
+impl Ratios {
+    fn add(&mut self, ratio: f64) {
+        self.slow += usize::from(ratio > 3.0);
+        self.worst = self.worst.max(ratio);
+    }
+}
+
+/// What is shown of the inputs of a call: all of them, those that are not refused, and all without the time of clearing.
+#[derive(Default)]
+struct Found {
+    all: Ratios,
+    verdicts: Ratios,
+    rest: Ratios,
     seconds: f64,
 }
 
 /// So many inputs of each call, from a seed.
 pub fn print(seed: u64, count: usize) {
     println!(
-        "{:24} {:>7} {:>12} {:>7} {:>12} {:>7} {:>11}",
-        "random inputs", "inputs", "above three", "worst", "rest above", "worst", "slowest"
+        "{:24} {:>7} {:>12} {:>7} {:>13} {:>7} {:>11} {:>7} {:>11}",
+        "random inputs",
+        "inputs",
+        "above three",
+        "worst",
+        "with verdict",
+        "worst",
+        "rest above",
+        "worst",
+        "slowest"
     );
     let hard = Call {
         name: "compare, hard pairs",
@@ -43,36 +64,40 @@ pub fn print(seed: u64, count: usize) {
         compare::compose::CALL,
     ];
     for call in calls {
-        let worst = search(&call, &mut Random::new(seed), count);
+        let Found { all, verdicts, rest, seconds } = search(&call, &mut Random::new(seed), count);
         println!(
-            "{:24} {count:>7} {:>12} {:>7.2} {:>12} {:>7.2} {:>8.0} us",
+            "{:24} {count:>7} {:>12} {:>7.2} {:>13} {:>7.2} {:>11} {:>7.2} {:>8.0} us",
             call.name,
-            worst.slow,
-            worst.ratio,
-            worst.slow_but_for_clearing,
-            worst.rest,
-            worst.seconds * 1e6
+            all.slow,
+            all.worst,
+            verdicts.slow,
+            verdicts.worst,
+            rest.slow,
+            rest.worst,
+            seconds * 1e6
         );
     }
 }
 
-fn search(call: &Call, random: &mut Random, count: usize) -> Worst {
-    let mut worst = Worst::default();
+fn search(call: &Call, random: &mut Random, count: usize) -> Found {
+    let mut found = Found::default();
     for _ in 0..count {
-        let [proved, second, clearing] = times(call, &(call.input)(random));
-        let (ratio, rest) = (proved / second, (proved - clearing) / second);
-        worst.slow += usize::from(ratio > 3.0);
-        worst.slow_but_for_clearing += usize::from(rest > 3.0);
-        worst.ratio = worst.ratio.max(ratio);
-        worst.rest = worst.rest.max(rest);
-        worst.seconds = worst.seconds.max(proved);
+        let input = (call.input)(random);
+        let (answer, written) = call.result(&input);
+        let [proved, second, clearing] = times(call, &input, written.len());
+        found.all.add(proved / second);
+        if answer.verdict != 0 {
+            found.verdicts.add(proved / second);
+        }
+        found.rest.add((proved - clearing) / second);
+        found.seconds = found.seconds.max(proved);
     }
-    worst
+    found
 }
 
 /// Seconds of the proved call, of the second implementation and of clearing the work buffers: the fastest of some batches in turn.
-fn times(call: &Call, input: &Input) -> [f64; 3] {
-    let mut out = vec![0; call.result(input).1.len()];
+fn times(call: &Call, input: &Input, written: usize) -> [f64; 3] {
+    let mut out = vec![0; written];
     let (mut buffers, mut cleared) = (work_buffers(call), work_buffers(call));
     let mut work: Vec<&mut [u8]> = buffers.iter_mut().map(Vec::as_mut_slice).collect();
     let mut least = [f64::MAX; 3];
