@@ -1,16 +1,21 @@
--- What the boundary gives back where a call's result goes to an output of its own: its refusal, 12 where the result does not fit, or the result written.
-use mathlib.Core.Path.{_≡_, sym, ap, _∙_}
+-- What the boundary gives back where a call's result goes to an output of its own: its refusal, 12 where the result does not fit, or the result written; and what is shown at a place that was found.
+use mathlib.Core.Path.{_≡_, sym, ap, subst, _∙_}
 use mathlib.Core.Bool.{Bool, true, false, cond}
 use mathlib.Core.List.{List}
-use Prim.Native.Nat.{ℕ, _≤_, _<_}
+use Prim.Native.Nat.{ℕ, _+_, _*_, _≤_, _<_}
 use lib.Dec.{ltb}
 use lib.ListN.{length}
 use borrow.Author.Tests.{lt-ltb, le-ltb}
 use Rattle.files.specs.Cells.{put-at}
 use Rattle.files.specs.Cells.Laws.{put-front}
+use Rattle.files.specs.Limits.{desk}
 use Rattle.files.specs.Outcome.{Said, Outcome, refuses, says, refusal-at, answer, out-after}
 use Rattle.files.specs.Outcome.Laws.{refusal-leaves-output}
+use Rattle.files.specs.declared.record.Limits.{Limits}
 use Rattle.files.specs.declared.refusal.Refusal.{Refusal}
+use Rattle.runs.specs.Showing.{shown, record-said, Stands}
+use Rattle.runs.specs.declared.showing.Place.{Place}
+use Rattle.runs.specs.declared.showing.Place.the-variants.{First, Second, Refused}
 use Rattle.exports.specs.Boundary.{refused-numbers, answer-numbers, GivesOut, fitting}
 use Rattle.exports.specs.declared.Answer.{Answer}
 
@@ -20,26 +25,52 @@ refusal-given o out r a e d = record {
   out-is = sym (ap (λ (x : Outcome). out-after x out) e ∙ refusal-leaves-output r out);
 }
 
-module _ (o : Outcome) (out : List ℕ) where
-  -- the call's own refusal
-  pub refused-given : (r : Refusal) (a : Answer) → o ≡ refuses r → a ≡ refused-numbers r → GivesOut (fitting (length out) o) out out a
-  refused-given r a e d = refusal-given (fitting (length out) o) out r a (ap (fitting (length out)) e) d
+-- ---- a result
 
-  module _ (s : Said) (said : o ≡ says s) where
-    by-length : (b : Bool) → ltb (length out) (length (s .written)) ≡ b → fitting (length out) o ≡ cond b (refuses (refusal-at 12 0 0)) (says s)
-    by-length b e = ap (fitting (length out)) said ∙ ap (λ (x : Bool). cond x (refuses (refusal-at 12 0 0)) (says s)) e
+module _ (out : List ℕ) (s : Said) where
+  by-length : (b : Bool) → ltb (length out) (length (s .written)) ≡ b → fitting (length out) (says s) ≡ cond b (refuses (refusal-at 12 0 0)) (says s)
+  by-length b = ap (λ (x : Bool). cond x (refuses (refusal-at 12 0 0)) (says s))
 
-    -- the result does not fit
-    pub short-given : (r : Refusal) (a : Answer) → length out < length (s .written) → r ≡ refusal-at 12 0 0 → a ≡ refused-numbers r → GivesOut (fitting (length out) o) out out a
-    short-given r a h e d =
-        refusal-given (fitting (length out) o) out r a (by-length true (lt-ltb (length out) (length (s .written)) h) ∙ ap refuses (sym e)) d
+  -- it does not fit
+  pub short-given : (r : Refusal) (a : Answer) → length out < length (s .written) → r ≡ refusal-at 12 0 0 → a ≡ refused-numbers r → GivesOut (fitting (length out) (says s)) out out a
+  short-given r a h e =
+      refusal-given (fitting (length out) (says s)) out r a (by-length true (lt-ltb (length out) (length (s .written)) h) ∙ ap refuses (sym e))
 
-    -- the result is written
-    pub result-given : (out′ : List ℕ) (a : Answer) → length (s .written) ≤ length out → out′ ≡ put-at out 0 (s .written) → a ≡ answer-numbers (answer (says s))
-        → GivesOut (fitting (length out) o) out out′ a
-    result-given out′ a h e d =
-        let f : fitting (length out) o ≡ says s = by-length false (le-ltb (length out) (length (s .written)) h) in
-        record {
-          numbers-are = d ∙ sym (ap (λ (x : Outcome). answer-numbers (answer x)) f);
-          out-is = e ∙ put-front out (s .written) ∙ sym (ap (λ (x : Outcome). out-after x out) f);
-        }
+  -- it is written
+  pub result-given : (out′ : List ℕ) (a : Answer) → length (s .written) ≤ length out → out′ ≡ put-at out 0 (s .written) → a ≡ answer-numbers (answer (says s))
+      → GivesOut (fitting (length out) (says s)) out out′ a
+  result-given out′ a h e d =
+      let f : fitting (length out) (says s) ≡ says s = by-length false (le-ltb (length out) (length (s .written)) h) in
+      record {
+        numbers-are = d ∙ sym (ap (λ (x : Outcome). answer-numbers (answer x)) f);
+        out-is = e ∙ put-front out (s .written) ∙ sym (ap (λ (x : Outcome). out-after x out) f);
+      }
+
+-- ---- what is shown, at the place that was found within the limits of the desk
+
+module _ (L : Limits) (limits : L ≡ desk) (g1 g2 : List ℕ) (number : ℕ) (p : Place) (stands : Stands (shown L g1 g2 number) g1 g2 p) where
+  abbrev o : Outcome
+  o = shown desk g1 g2 number
+
+  at : (q : Place) → p ≡ q → Stands o g1 g2 q
+  at q e = subst (λ (M : Limits). Stands (shown M g1 g2 number) g1 g2 q) limits (subst (Stands (shown L g1 g2 number) g1 g2) e stands)
+
+  pub first-fits : (i : ℕ) → p ≡ First i → 6 * i + 6 ≤ length g1
+  first-fits i e = at (First i) e .0
+
+  pub second-fits : (i : ℕ) → p ≡ Second i → 6 * i + 6 ≤ length g2
+  second-fits i e = at (Second i) e .0
+
+  pub nowhere-given : (out : List ℕ) (r : Refusal) (a : Answer) → p ≡ Refused r → a ≡ refused-numbers r → GivesOut (fitting (length out) o) out out a
+  nowhere-given out r a e = refusal-given (fitting (length out) o) out r a (ap (fitting (length out)) (at (Refused r) e))
+
+  module _ (out out′ : List ℕ) (a : Answer) where
+    -- what is given of the record is given of the outcome that shows it
+    shown-given : (s : Said) → o ≡ says s → GivesOut (fitting (length out) (says s)) out out′ a → GivesOut (fitting (length out) o) out out′ a
+    shown-given s e = subst (λ (x : Outcome). GivesOut (fitting (length out) x) out out′ a) (sym e)
+
+    pub first-given : (i : ℕ) → p ≡ First i → GivesOut (fitting (length out) (says (record-said g1 i))) out out′ a → GivesOut (fitting (length out) o) out out′ a
+    first-given i e = shown-given (record-said g1 i) (at (First i) e .1)
+
+    pub second-given : (i : ℕ) → p ≡ Second i → GivesOut (fitting (length out) (says (record-said g2 i))) out out′ a → GivesOut (fitting (length out) o) out out′ a
+    second-given i e = shown-given (record-said g2 i) (at (Second i) e .1)

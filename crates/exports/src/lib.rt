@@ -3,13 +3,15 @@ ghost use mathlib.Core.Path.{_≡_};
 ghost use Rattle.files.specs.Limits.{desk};
 ghost use Rattle.files.specs.Refusal.{graph, property, rules, interface};
 ghost use Rattle.files.specs.Checking.{checked};
+ghost use Rattle.files.specs.Outcome.{says};
+ghost use Prim.Native.Nat.{_+_, _*_, _≤_};
 ghost use lib.ListN.{length};
 ghost use Rattle.judging.specs.Judge.{judged, judged-answer};
 ghost use Rattle.judging.specs.Compare.{compared, compared-answer};
 ghost use Rattle.maximal.specs.Modelling.{modelled, modelled-answer};
 ghost use Rattle.runs.specs.Composing.{composed};
 ghost use Rattle.runs.specs.Joining.{joined, joined-answer};
-ghost use Rattle.runs.specs.Showing.{shown};
+ghost use Rattle.runs.specs.Showing.{shown, record-said};
 ghost use Rattle.runs.specs.Answer.{watched-answer};
 ghost use Rattle.runs.specs.Watching.{watched};
 ghost use Rattle.exports.specs.Boundary.{refused-numbers, checked-numbers, answer-numbers, Gives, GivesBoth, GivesOut, fitting, work-lengths};
@@ -25,9 +27,11 @@ use judging::sizes::Sizes;
 use maximal::answers::Modelled;
 use maximal::places::Places;
 use runs::answers::Joined;
-use runs::answers::Shown;
 use runs::answers::Verdict;
 use runs::regions::Regions;
+use runs::showing::Place;
+use runs::showing::find_place;
+use runs::showing::record_at;
 
 // Verdict 0 is a refusal: its number, file (first) and record (second). Other verdicts carry their values from first on.
 #[repr(C)]
@@ -239,32 +243,39 @@ pub extern "C" fn tintboulder_join(
     joined_answer(runs::join(interface1, graph1, interface2, graph2, out))
 }
 
+// Writes record i of a file to `out`: verdict 1 shown; an output shorter than a record is refused by 12.
+fn write_record(file: &[u8], i: usize, out: &mut [u8]) -> Answer
+    requires { ⌜ 6 * i + 6 ≤ length (now file) ⌝ }
+    ensures { λ a. ⌜ GivesOut (fitting (length (now (out .entry))) (says (record-said (now (file .entry)) i))) (now (out .entry)) (now (out .exit)) a ⌝ }
+{
+    if out.len() < Record::LEN {
+        return refused(Refusal::whole(12));
+    }
+    copy_at(out, 0, record_at(file, i));
+    Answer {
+        verdict: 1,
+        number: 0,
+        first: 0,
+        second: 0,
+        third: 0,
+        fourth: 0,
+    }
+}
+
 // Shows the record of a joined node: verdict 1 shown, its six bytes written to `out`; an output shorter than them is refused by 12, after all else.
 #[no_mangle]
-pub extern "C" fn tintboulder_show<'a>(
-    graph1: &'a [u8],
-    graph2: &'a [u8],
+pub extern "C" fn tintboulder_show(
+    graph1: &[u8],
+    graph2: &[u8],
     number: u64,
     out: &mut [u8],
 ) -> Answer
     ensures { λ a. ⌜ GivesOut (fitting (length (now (out .entry))) (shown desk (now (graph1 .entry)) (now (graph2 .entry)) number)) (now (out .entry)) (now (out .exit)) a ⌝ }
 {
-    match runs::show_refusal(graph1, graph2, number as usize) {
-        Shown::Refused(r) => refused(r),
-        Shown::Part => {
-            if out.len() < Record::LEN {
-                return refused(Refusal::whole(12));
-            }
-            copy_at(out, 0, runs::show(graph1, graph2, number as usize));
-            Answer {
-                verdict: 1,
-                number: 0,
-                first: 0,
-                second: 0,
-                third: 0,
-                fourth: 0,
-            }
-        }
+    match find_place(graph1, graph2, number as usize, Limits::desk()) {
+        Place::First(i) => write_record(graph1, i, out),
+        Place::Second(i) => write_record(graph2, i, out),
+        Place::Refused(r) => refused(r),
     }
 }
 

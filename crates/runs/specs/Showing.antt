@@ -52,10 +52,14 @@ module _ (L : Limits) (g1 g2 : List ℕ) (number : ℕ) where
 abbrev pub from-second : Limits → List ℕ → List ℕ → ℕ → Outcome
 from-second L g1 g2 number = answered (file-checks L 2 graph g2 (whole-check 7 (leb (show-size L g1 g2 number) number) [])) (show-said L g1 g2 number)
 
+-- record i of a file, shown
+abbrev pub record-said : List ℕ → ℕ → Said
+record-said l i = record { verdict = 1; values = []; written = part l i 1 }
+
 -- the place that the code finds is the outcome's: a record of one of the files, which is shown, or the refusal
 abbrev pub Stands : Outcome → List ℕ → List ℕ → Place → Type 0
-Stands o g1 g2 (First i) = (6 * i + 6 ≤ length g1) × (o ≡ says (record { verdict = 1; values = []; written = part g1 i 1 }))
-Stands o g1 g2 (Second i) = (6 * i + 6 ≤ length g2) × (o ≡ says (record { verdict = 1; values = []; written = part g2 i 1 }))
+Stands o g1 g2 (First i) = (6 * i + 6 ≤ length g1) × (o ≡ says (record-said g1 i))
+Stands o g1 g2 (Second i) = (6 * i + 6 ≤ length g2) × (o ≡ says (record-said g2 i))
 Stands o g1 g2 (Refused r) = o ≡ refuses r
 
 -- what a place answers

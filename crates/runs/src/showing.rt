@@ -1,4 +1,5 @@
 // Showing: the record of a joined node, as six bytes of the file it came from. `show_within` gives the part, empty where it is refused; `show_refusal_within` says why.
+// `find_place` says both at once, for a caller that has the files at hand.
 ghost use mathlib.Core.Path.{_≡_};
 ghost use Prim.Native.Nat.{_+_, _*_, _≤_, _<_};
 ghost use lib.ListN.{length};
@@ -41,7 +42,7 @@ fn place_second(graph1: &[u8], graph2: &[u8], number: usize, limits: Limits, n: 
 }
 
 // Both graphs' refusals, in argument order, then the place.
-fn find_place(graph1: &[u8], graph2: &[u8], number: usize, limits: Limits) -> Place
+pub fn find_place(graph1: &[u8], graph2: &[u8], number: usize, limits: Limits) -> Place
     ensures { λ r. ⌜ Stands (shown limits (now (graph1 .entry)) (now (graph2 .entry)) number) (now (graph1 .entry)) (now (graph2 .entry)) r ⌝ }
 {
     match check_graph(graph1, 1, limits) {
@@ -51,7 +52,7 @@ fn find_place(graph1: &[u8], graph2: &[u8], number: usize, limits: Limits) -> Pl
 }
 
 // Record i of a file.
-fn record_at<'a>(graph: &'a [u8], i: usize) -> &'a [u8]
+pub fn record_at<'a>(graph: &'a [u8], i: usize) -> &'a [u8]
     requires { ⌜ 6 * i + 6 ≤ length (now graph) ⌝ }
     ensures { λ r. ⌜ now r ≡ part (now (graph .entry)) i 1 ⌝ }
 {

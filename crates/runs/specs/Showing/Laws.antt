@@ -3,27 +3,25 @@ use mathlib.Core.Path.{_≡_, refl, sym, ap, subst, _∙_}
 use mathlib.Core.Logic.{_↔_}
 use mathlib.Core.Bool.{Bool, true, false, not, cond}
 use mathlib.Core.List.{List, []}
-use mathlib.Core.Option.{Option, none, some}
+use mathlib.Core.Option.{none}
 use Prim.Native.Nat.{ℕ, _+_, _-_, _≤_, _<_}
 use native.Mathlib.Omega.{arith}
 use lib.Dec.{T, ltb, ltb→lt, nltb→le}
-use lib.ListN.{length, getD}
 use Rattle.files.specs.Basics.Says.{says-le}
 use Rattle.files.specs.Decode.{decode-graph, node-rec}
 use Rattle.files.specs.Decode.Canonical.{shown-node}
 use Rattle.files.specs.Graph.{size, node}
-use Rattle.files.specs.Outcome.{Said, Answer, refuses, says, refusal-at, NoneOf, FirstOf, Matches, no-lines, answer, refused-answer, first-refusal, unless}
+use Rattle.files.specs.Outcome.{Said, refuses, says, refusal-at, NoneOf, FirstOf, Matches, no-lines, answer}
 use Rattle.files.specs.Outcome.Laws.{whole-match, files-match, refused-by, accepted-by, verdict-is, file-accepted, whole-none, match-end}
 use Rattle.files.specs.Record.{part, six}
 use Rattle.files.specs.Refusal.{graph, refusal}
 use Rattle.files.specs.declared.record.Limits.{Limits}
 use Rattle.runs.specs.Join.{join}
 use Rattle.runs.specs.Join.Laws.{join-first, join-second, join-size}
-use Rattle.runs.specs.Showing.{show-size, show-part, show-said, show-checks, show-lines, shown, Shows, shown-answer}
+use Rattle.runs.specs.Showing.{show-size, show-said, show-checks, show-lines, shown, Shows, shown-answer}
 use Rattle.files.specs.Basics.Tests.{below}
 use Rattle.files.specs.Outcome.{published}
 use Rattle.files.specs.declared.refusal.Refusal.{Refusal}
-use Rattle.runs.specs.declared.answers.Shown.{Shown}
 use Rattle.runs.specs.declared.answers.Shown.the-variants.{Part, Refused}
 
 module _ (L : Limits) (g1 g2 : List ℕ) (number : ℕ) where
@@ -78,33 +76,3 @@ module _ (L : Limits) (g1 g2 : List ℕ) (number : ℕ) where
 -- each case answers what its outcome says
 pub show-answers : (ws : List ℕ) (r : Refusal) → (shown-answer Part ≡ answer (says (record { verdict = 1; values = []; written = ws }))) × (shown-answer (Refused r) ≡ answer (refuses r))
 show-answers ws r = (refl, refl)
-
--- ---- from the companion call's answer to the outcome
-
--- a refusal's answer says which refusal it is
-same-refusal : (r q : Refusal) → refused-answer r ≡ refused-answer q → r ≡ q
-same-refusal r q e =
-    let n : r .number ≡ q .number = ap (λ (a : Answer). a .number) e in
-    let f : r .file ≡ q .file = ap (λ (a : Answer). getD (a .values) 0 0) e in
-    let i : r .«record» ≡ q .«record» = ap (λ (a : Answer). getD (a .values) 1 0) e in
-    λ t. record { number = n t; file = f t; «record» = i t }
-
-part-told : (m : Option Refusal) (s : Said) → shown-answer Part ≡ answer (unless m s) → unless m s ≡ says s
-part-told none s e = refl
-part-told (some q) s e = let z : _≡_ {A = ℕ} 1 0 = ap (λ (a : Answer). a .verdict) e in absurd (omega arith)
-
-refusal-told : (m : Option Refusal) (s : Said) → s .verdict ≡ 1 → (r : Refusal) → shown-answer (Refused r) ≡ answer (unless m s) → unless m s ≡ refuses r
-refusal-told none s v r e = let z : 0 ≡ s .verdict = ap (λ (a : Answer). a .verdict) e in absurd (omega arith)
-refusal-told (some q) s v r e = ap refuses (sym (same-refusal r q e))
-
-module _ (L : Limits) (g1 g2 : List ℕ) (number : ℕ) (x : Shown) (is : shown-answer x ≡ answer (shown L g1 g2 number)) where
-  -- a part, of six bytes
-  pub part-answered : x ≡ Part → (shown L g1 g2 number ≡ says (show-said L g1 g2 number)) × (length (show-part L g1 g2 number) ≡ 6)
-  unfolding shown
-  part-answered e =
-      let o : shown L g1 g2 number ≡ says (show-said L g1 g2 number) = part-told (first-refusal (show-checks L g1 g2 number)) (show-said L g1 g2 number) (ap shown-answer (sym e) ∙ is) in
-      (o, ap length (show-says L g1 g2 number (show-said L g1 g2 number) o .part-is))
-
-  pub refusal-answered : (r : Refusal) → x ≡ Refused r → shown L g1 g2 number ≡ refuses r
-  unfolding shown
-  refusal-answered r e = refusal-told (first-refusal (show-checks L g1 g2 number)) (show-said L g1 g2 number) refl r (ap shown-answer (sym e) ∙ is)

@@ -20,7 +20,7 @@ use Rattle.files.specs.declared.check.Checked.{Checked}
 use Rattle.files.specs.declared.check.Checked.the-variants.{Accepted, Refused}
 use Rattle.files.specs.declared.record.Limits.{Limits}
 use Rattle.files.specs.declared.refusal.Refusal.{Refusal}
-use Rattle.runs.specs.Showing.{shown-answer, show-size, show-said, shown, from-second, Stands, shown-at}
+use Rattle.runs.specs.Showing.{shown-answer, show-size, show-said, shown, from-second, record-said, Stands, shown-at}
 use Rattle.judging.specs.Judge.{GraphWithin}
 use Rattle.runs.specs.declared.showing.Place.{Place}
 use Rattle.runs.specs.declared.showing.Place.the-variants as place
@@ -71,7 +71,7 @@ module _ (L : Limits) (g1 g2 : List ℕ) (number : ℕ) (within : GraphWithin L 
         below (omega arith)
             ∙ ap (λ (b : Bool). says (record { verdict = 1; values = []; written = cond b (part g1 number 1) (part g2 (number - size (decode-graph g1)) 1) }))
             (le-ltb number (size (decode-graph g1)) (omega (arith, first-size, first)))
-            ∙ ap (λ (i : ℕ). says (record { verdict = 1; values = []; written = part g2 (number - i) 1 })) (first-size ∙ sym first),
+            ∙ ap (λ (i : ℕ). says (record-said g2 (number - i))) (first-size ∙ sym first),
       )
 
       -- in neither
