@@ -23,6 +23,7 @@ use files::cells::get32;
 use files::cells::put8;
 use files::cells::put32;
 use files::encode::LINE;
+use files::interface::provided_methods;
 use files::interface::provides;
 use files::interface::requires_method;
 
@@ -149,11 +150,14 @@ fn expand(interface: &[u8], property: &[u8], s: Scope, work: &mut [u8], i: usize
     total
 }
 
-// All states. How many there are; one more than there may be where there are more.
+// All states. How many there are; one more than there may be where there are more. Where no method is provided there is none, and no row is looked at.
 pub(crate) fn explore(interface: &[u8], property: &[u8], s: Scope, work: &mut [u8]) -> usize
     requires { ⌜ (InterfaceFile (now interface)) × ((Scoped s (now property)) × (103456 ≤ length (now work))) ⌝ }
     ensures { λ t. ⌜ (t ≤ s .states → Charted (decode-interface (now (interface .entry))) (decode-property (now (property .entry))) t (now (work .exit))) × ((t ≤ s .states + 1) × (s .states < t → Crowded (decode-interface (now (interface .entry))) (decode-property (now (property .entry))) (s .states))) ⌝ }
 {
+    if provided_methods(interface) == 0 {
+        return 0;
+    }
     tabulate(property, s.rows, work);
     let mut c = enter_entries(interface, property, s, work);
     if s.states < c {

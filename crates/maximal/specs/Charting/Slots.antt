@@ -1,16 +1,17 @@
--- A slot without a label, and one that asks as an earlier one did; and that the model is found once all slots are worked.
+-- A slot without a label, and one that asks as an earlier one did; and that the model is found once all slots are worked, or at once where no method is provided.
 use mathlib.Core.Path.{_≡_, sym, ap, ap₂, subst, _∙_}
 use mathlib.Core.Logic.{_⊎_, inl, inr}
 use mathlib.Core.Bool.{Bool, false, not, _&&_}
 use mathlib.Core.List.{List}
-use Prim.Native.Nat.{ℕ, _+_, _*_, _/_, _%_, _^_, _≤_, _<_}
+use Prim.Native.Nat.{ℕ, _+_, _*_, _-_, _/_, _%_, _^_, _≤_, _<_}
+use native.Mathlib.Nat.{zero-div}
 use native.Mathlib.Decide.{decLt, ℕ-discrete}
 use native.Mathlib.Omega.{arith}
 use lib.Dec.{T, T-not, eqb, ltb, ltb→lt, lt→ltb}
 use lib.ListN.{length, getD}
 use Rattle.files.specs.Basics.Binary.{value}
 use Rattle.files.specs.Basics.Tests.{decide, T-eq, and-l, and-r, any}
-use Rattle.files.specs.Interface.{Interface}
+use Rattle.files.specs.Interface.{Interface, provides}
 use Rattle.files.specs.Property.{Row, Property}
 use Rattle.maximal.specs.Collected.{or-count, supports-of}
 use Rattle.maximal.specs.Charting.{flag-of, kind-at, set-at, state-of, stored, method-at, asked-at, target, Followed, Charting, Asking, Charted}
@@ -174,3 +175,22 @@ module _ (I : Interface) (P : List Row) where
       complete : (s : State) → Reached I P s → (i : ℕ) × (i < c) × (stored n w i ≡ s)
       complete s (at-entry e) = x .entries-there s e
       complete t (at-next {s = s} {l = l} r z) = onward s t l z (complete s r)
+
+  -- where no method is provided there is no state
+  pub charted-none : I .provided ≡ 0 → (w : List ℕ) → Charted I P 0 w
+  charted-none none w = record {
+    holds = record { few = omega arith; known = λ i h. absurd (omega arith); once = λ i j h. absurd (omega arith) };
+    complete = λ s r. absurd (no-state s r);
+    entries-are = λ t h. absurd (omega arith);
+    follows-are = λ i l t h. absurd (omega arith);
+  }
+    where
+      digit : ℕ → ℕ
+      digit m = I .provided / 2 ^ (m - 1)
+
+      no-entry : (m : ℕ) → T (provides I m) → ⊥
+      no-entry m t = subst (λ (x : ℕ). T (eqb (x % 2) 1)) (ap (λ (x : ℕ). x / 2 ^ (m - 1)) none ∙ zero-div (2 ^ (m - 1))) (and-r (ltb m 9) (eqb (digit m % 2) 1) (and-r (ltb 0 m) (ltb m 9 && eqb (digit m % 2) 1) t))
+
+      no-state : (s : State) → Reached I P s → ⊥
+      no-state s (at-entry e) = no-entry (s .method) (e .provided)
+      no-state t (at-next {s = s} r z) = no-state s r
