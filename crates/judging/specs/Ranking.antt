@@ -4,7 +4,7 @@ use mathlib.Core.Logic.{_⊎_}
 use mathlib.Core.Bool.{Bool, not, cond, _&&_, _||_}
 use mathlib.Core.List.{List}
 use Prim.Native.Nat.{ℕ, suc, _+_, _*_, _-_, _≤_, _<_}
-use lib.Dec.{T, eqb}
+use lib.Dec.{T, eqb, leb}
 use lib.ListN.{length}
 use Rattle.files.specs.Access.{GraphFile, PropertyFile}
 use Rattle.files.specs.Basics.Tables.{tally}
@@ -60,6 +60,10 @@ ranked w n = tally (λ (p : ℕ). not (eqb (cell w 0 2 p) 0)) (32 * n)
 -- whether a row without operands is false of a node, by its operator and method and the node's method and return flag
 abbrev pub leaf-false : ℕ → ℕ → ℕ → Bool → Bool
 leaf-false o a m f = eqb o 2 || (eqb o 3 && not (eqb m a)) || (eqb o 4 && eqb m a) || (eqb o 5 && not f) || (eqb o 6 && f)
+
+-- the operators of rows that may be false so
+abbrev pub may-fall : ℕ → Bool
+may-fall o = leb 2 o && leb o 6
 
 -- a row names row r
 abbrev pub Names : Row → ℕ → Type 0

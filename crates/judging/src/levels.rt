@@ -5,12 +5,14 @@ ghost use mathlib.Core.Bool.{not, _&&_};
 ghost use Prim.Native.Nat.{ℕ, suc, _+_, _*_, _≤_, _<_};
 ghost use lib.Dec.{T, leb};
 ghost use lib.ListN.{length, getD};
+ghost use Rattle.files.specs.Access.{PropertyFile, row-held};
 ghost use Rattle.files.specs.Graph.{no-edge};
 ghost use Rattle.files.specs.Property.{row};
+ghost use Rattle.files.specs.Record.{count};
 ghost use Rattle.files.specs.Decode.{decode-graph, decode-property};
 ghost use Rattle.judging.specs.Chains.{into};
 ghost use Rattle.judging.specs.Levels.{level};
-ghost use Rattle.judging.specs.Ranking.{Ready, pair, rank-at, Given, given, tail-after, Finding, Grew, RowDone, Done, Found, Ranked, Names, leaf-false};
+ghost use Rattle.judging.specs.Ranking.{Ready, pair, rank-at, Given, given, tail-after, Finding, Grew, RowDone, Done, Found, Ranked, Names, leaf-false, may-fall};
 use crate::shape::Shape;
 use files::cells::get16;
 use files::cells::put16;
@@ -91,23 +93,37 @@ fn start_pair(
     tail
 }
 
-// Gives rank 1 to each row of node g that is false by itself.
-fn start_node(
+// Whether row r may be false by itself: it has no operands, and is not "true".
+fn may_fall(property: &[u8], r: usize) -> bool
+    requires { ⌜ (PropertyFile (now property)) × (r < count (now property)) ⌝ }
+    ensures { λ b. ⌜ b ≡ may-fall ((row-held (row (decode-property (now (property .entry))) r)) .operator) ⌝ }
+{
+    let RowAt::Is(x) = row_at(property, r, 0) else {
+        return false;
+    };
+    (2 <= x.operator) & (x.operator <= 6)
+}
+
+// Gives rank 1 to row r at each node where it is false by itself.
+fn start_row(
     graph: &[u8],
     property: &[u8],
     s: Shape,
     work: &mut [u8],
     tail: usize,
-    g: usize,
+    r: usize,
 ) -> usize
-    requires { ⌜ (Ready s (now graph) (now property)) × ((g < s .nodes) × (Finding (decode-graph (now graph)) (decode-property (now property)) 0 tail (now work))) ⌝ }
-    ensures { λ t. ⌜ (Grew (decode-graph (now (graph .entry))) (decode-property (now (property .entry))) 0 tail t (now (work .entry)) (now (work .exit))) × ((r : ℕ) → r < s .rows → T (not (level (decode-graph (now (graph .entry))) (decode-property (now (property .entry))) 1 g r)) → Given (now (work .exit)) g r) ⌝ }
+    requires { ⌜ (Ready s (now graph) (now property)) × ((r < s .rows) × (Finding (decode-graph (now graph)) (decode-property (now property)) 0 tail (now work))) ⌝ }
+    ensures { λ t. ⌜ (Grew (decode-graph (now (graph .entry))) (decode-property (now (property .entry))) 0 tail t (now (work .entry)) (now (work .exit))) × ((g : ℕ) → g < s .nodes → T (not (level (decode-graph (now (graph .entry))) (decode-property (now (property .entry))) 1 g r)) → Given (now (work .exit)) g r) ⌝ }
 {
-    let mut r = 0;
+    if !may_fall(property, r) {
+        return tail;
+    }
+    let mut g = 0;
     let mut end = tail;
-    while r < s.rows {
+    while g < s.nodes {
         end = start_pair(graph, property, s, work, end, g, r);
-        r += 1;
+        g += 1;
     }
     end
 }
@@ -117,11 +133,11 @@ pub(crate) fn start(graph: &[u8], property: &[u8], s: Shape, work: &mut [u8]) ->
     requires { ⌜ (Ready s (now graph) (now property)) × (Finding (decode-graph (now graph)) (decode-property (now property)) 0 0 (now work)) ⌝ }
     ensures { λ t. ⌜ Found (decode-graph (now (graph .entry))) (decode-property (now (property .entry))) 1 0 t (now (work .exit)) ⌝ }
 {
-    let mut g = 0;
+    let mut r = 0;
     let mut end = 0;
-    while g < s.nodes {
-        end = start_node(graph, property, s, work, end, g);
-        g += 1;
+    while r < s.rows {
+        end = start_row(graph, property, s, work, end, r);
+        r += 1;
     }
     end
 }

@@ -23,7 +23,7 @@ use Rattle.judging.specs.Chains.{is-row, into}
 use Rattle.judging.specs.Levels.{truth, after, level}
 use Rattle.judging.specs.Levels.Laws.{after-i, level-zero, level-next, box-obliges}
 use Rattle.judging.specs.Levels.Onward.{box-falls}
-use Rattle.judging.specs.Ranking.{Ready, pair, rank-at, given, tail-after, leaf-false, Names}
+use Rattle.judging.specs.Ranking.{Ready, pair, rank-at, given, tail-after, leaf-false, may-fall, Names}
 
 -- ---- counts
 
@@ -102,6 +102,21 @@ leaf-level G P g r = go (row P r) (after G (level G P 0) g (row P r)) (T-eq _ (a
         truth-either true d s = refl
         truth-either false d s = absurd s
     go (box l b) w e = sym (ap not e)
+
+-- no other row is
+pub fallen-may : (G : Graph) (P : List Row) (g r : ℕ) → T (not (level G P 1 g r)) → T (may-fall ((row-held (row P r)) .operator))
+fallen-may G P g r t = go (row P r) (subst T (sym (leaf-level G P g r)) t)
+  where
+    go : (x : Row) → T (leaf-false ((row-held x) .operator) ((row-held x) .a) ((node G g) .method) ((node G g) .ret)) → T (may-fall ((row-held x) .operator))
+    go always t = absurd t
+    go never t = tt
+    go returns t = tt
+    go not-returns t = tt
+    go (in-method a) t = tt
+    go (not-in-method a) t = tt
+    go (both a b) t = absurd t
+    go (either a b) t = absurd t
+    go (box l b) t = absurd t
 
 -- ---- rows that fall with their operands
 

@@ -15,10 +15,10 @@ use Rattle.judging.proofs.levels.start.Statement.{statement}
 use Rattle.judging.proofs.levels.start.Tie as tie
 
 abbrev Inv-loop : tie.InvT-loop
-Inv-loop graph property s work₀ g₀ end₀ work g end = (g ≤ s .nodes) × (length work ≡ length work₀) × (Grew (decode-graph graph) (decode-property property) 0 0 end work₀ work) × ((v : ℕ) → v < g → (r : ℕ) → r < s .rows → T (not (level (decode-graph graph) (decode-property property) 1 v r)) → Given work v r)
+Inv-loop graph property s work₀ r₀ end₀ work r end = (r ≤ s .rows) × (length work ≡ length work₀) × (Grew (decode-graph graph) (decode-property property) 0 0 end work₀ work) × ((j : ℕ) → j < r → (v : ℕ) → v < s .nodes → T (not (level (decode-graph graph) (decode-property property) 1 v j)) → Given work v j)
 
 abbrev μ-loop : tie.MeasureT-loop
-μ-loop graph property s work₀ g₀ end₀ work g end = s .nodes - g
+μ-loop graph property s work₀ r₀ end₀ work r end = s .rows - r
 
 loop-holds : tie.Need-loop-holds Inv-loop μ-loop
 loop-holds c =
@@ -26,14 +26,14 @@ loop-holds c =
     let a = k .args in
     (omega arith, refl, grew-none (decode-graph (a .graph .now)) (decode-property (a .property .now)) 0 0 (a .work .now) (k .pre .1), λ j h. absurd (omega arith))
 
-start-node-requires : tie.Need-start-node-requires Inv-loop μ-loop
-start-node-requires c κs =
+start-row-requires : tie.Need-start-row-requires Inv-loop μ-loop
+start-row-requires c κs =
     let k = c .before .before .before .before .before .before .before in
     let l = c .before .before .before .loop in
     (k .pre .0, (c .before .if1 .taken, l .inv .2 .finding))
 
-add-g : tie.Need-add-g Inv-loop μ-loop
-add-g c = omega (arith, c .before .before .before .before .if1 .taken, c .before .before .before .before .before .before .before .before .before .before .pre .0 .few-nodes)
+add-r : tie.Need-add-r Inv-loop μ-loop
+add-r c = omega (arith, c .before .before .before .before .if1 .taken, c .before .before .before .before .before .before .before .before .before .before .pre .0 .few-rows)
 
 loop-less : tie.Need-loop-less Inv-loop μ-loop
 loop-less c = omega (arith, c .before .before .before .before .if1 .taken)
@@ -43,12 +43,12 @@ loop-again c =
     let k = c .before .before .before .before .before .before .before .before .before .before in
     let a = k .args in
     let l = c .before .before .before .before .before .before .loop in
-    let x = c .before .before .start-node in (
+    let x = c .before .before .start-row in (
       omega (arith, c .before .before .before .before .if1 .taken),
       x .kept .1 .1 .1 .0 ∙ l .inv .1,
       grew-on (decode-graph (a .graph .now)) (decode-property (a .property .now)) 0 0 (l .end) (x .result) (a .work .now) (l .work) (x .last .1 .1 .1 .0) (l .inv .2) (x .ensures .0),
-      below-more (λ (v : ℕ). (r : ℕ) → r < a .s .rows → T (not (level (decode-graph (a .graph .now)) (decode-property (a .property .now)) 1 v r)) → Given (x .last .1 .1 .1 .0) v r) (l .g)
-          (λ v h r hr t. x .ensures .0 .given-kept v r (node-in (a .s) (a .graph .now) (a .property .now) (k .pre .0) v (omega (arith, h, c .before .before .before .before .if1 .taken))) (row-in (a .s) (a .graph .now) (a .property .now) (k .pre .0) r hr) (l .inv .3 v h r hr t))
+      below-more (λ (j : ℕ). (v : ℕ) → v < a .s .nodes → T (not (level (decode-graph (a .graph .now)) (decode-property (a .property .now)) 1 v j)) → Given (x .last .1 .1 .1 .0) v j) (l .r)
+          (λ j h v hv t. x .ensures .0 .given-kept v j (node-in (a .s) (a .graph .now) (a .property .now) (k .pre .0) v hv) (row-in (a .s) (a .graph .now) (a .property .now) (k .pre .0) j (omega (arith, h, c .before .before .before .before .if1 .taken))) (l .inv .3 j h v hv t))
           (x .ensures .1),
     )
 
@@ -62,7 +62,7 @@ returns c =
     let l = c .before .before .loop in
     first-found (decode-graph (a .graph .now)) (decode-property (a .property .now)) (is-flow (a .s) (a .graph .now) (a .property .now) (k .pre .0)) (is-property (a .s) (a .graph .now) (a .property .now) (k .pre .0)) (l .end) (a .work .now) (l .work) (k .pre .1) (rows-fit (a .s) (a .graph .now) (a .property .now) (k .pre .0))
     (l .inv .2)
-    (λ v r hv hr t. l .inv .3 v (omega (arith, c .if1 .left, node-of (a .s) (a .graph .now) (a .property .now) (k .pre .0) v hv)) r (row-of (a .s) (a .graph .now) (a .property .now) (k .pre .0) r hr) t)
+    (λ v r hv hr t. l .inv .3 r (omega (arith, c .if1 .left, row-of (a .s) (a .graph .now) (a .property .now) (k .pre .0) r hr)) v (node-of (a .s) (a .graph .now) (a .property .now) (k .pre .0) v hv) t)
 
 pub start-spec : {M : Type 1} → statement M
 start-spec =
@@ -71,8 +71,8 @@ start-spec =
     Inv-loop
     μ-loop
     loop-holds
-    start-node-requires
-    add-g
+    start-row-requires
+    add-r
     loop-less
     loop-again
     same-length
