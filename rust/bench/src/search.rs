@@ -84,7 +84,13 @@ fn search(call: &Call, random: &mut Random, count: usize) -> Found {
     for _ in 0..count {
         let input = (call.input)(random);
         let (answer, written) = call.result(&input);
-        let [proved, second, clearing] = times(call, &input, written.len());
+        let mut least = times(call, &input, written.len());
+        // Whatever else the machine does may fall on one of the three: what is above three is timed again.
+        if least[0] > 3.0 * least[1] {
+            let again = times(call, &input, written.len());
+            least.iter_mut().zip(again).for_each(|(least, time)| *least = least.min(time));
+        }
+        let [proved, second, clearing] = least;
         found.all.add(proved / second);
         if answer.verdict != 0 {
             found.verdicts.add(proved / second);
