@@ -56,13 +56,13 @@ module _ (L : Limits) (limits : L ≡ desk) (g1 g2 : List ℕ) (number : ℕ) (p
   at q e = subst (λ (M : Limits). Stands (shown M g1 g2 number) g1 g2 q) limits (subst (Stands (shown L g1 g2 number) g1 g2) e stands)
 
   pub first-fits : (i : ℕ) → p ≡ First i → 6 * i + 6 ≤ length g1
-  first-fits i e = at (First i) e .0
+  first-fits i e = at (First i) e .1
 
   pub second-fits : (i : ℕ) → p ≡ Second i → 6 * i + 6 ≤ length g2
-  second-fits i e = at (Second i) e .0
+  second-fits i e = at (Second i) e .1
 
   pub nowhere-given : (out : List ℕ) (r : Refusal) (a : Answer) → p ≡ Refused r → a ≡ refused-numbers r → GivesOut (fitting (length out) o) out out a
-  nowhere-given out r a e = refusal-given (fitting (length out) o) out r a (ap (fitting (length out)) (at (Refused r) e))
+  nowhere-given out r a e = refusal-given (fitting (length out) o) out r a (ap (fitting (length out)) (at (Refused r) e .0))
 
   module _ (out out′ : List ℕ) (a : Answer) where
     -- what is given of the record is given of the outcome that shows it
@@ -70,7 +70,7 @@ module _ (L : Limits) (limits : L ≡ desk) (g1 g2 : List ℕ) (number : ℕ) (p
     shown-given s e = subst (λ (x : Outcome). GivesOut (fitting (length out) x) out out′ a) (sym e)
 
     pub first-given : (i : ℕ) → p ≡ First i → GivesOut (fitting (length out) (says (record-said g1 i))) out out′ a → GivesOut (fitting (length out) o) out out′ a
-    first-given i e = shown-given (record-said g1 i) (at (First i) e .1)
+    first-given i e = shown-given (record-said g1 i) (at (First i) e .0)
 
     pub second-given : (i : ℕ) → p ≡ Second i → GivesOut (fitting (length out) (says (record-said g2 i))) out out′ a → GivesOut (fitting (length out) o) out out′ a
-    second-given i e = shown-given (record-said g2 i) (at (Second i) e .1)
+    second-given i e = shown-given (record-said g2 i) (at (Second i) e .0)

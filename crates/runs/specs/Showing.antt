@@ -56,11 +56,21 @@ from-second L g1 g2 number = answered (file-checks L 2 graph g2 (whole-check 7 (
 abbrev pub record-said : List ℕ → ℕ → Said
 record-said l i = record { verdict = 1; values = []; written = part l i 1 }
 
--- the place that the code finds is the outcome's: a record of one of the files, which is shown, or the refusal
+-- what is shown at a place, or why nothing is
+abbrev pub outcome-at : List ℕ → List ℕ → Place → Outcome
+outcome-at g1 g2 (First i) = says (record-said g1 i)
+outcome-at g1 g2 (Second i) = says (record-said g2 i)
+outcome-at g1 g2 (Refused r) = refuses r
+
+-- the record of a place stands in its file
+abbrev pub InFile : List ℕ → List ℕ → Place → Type 0
+InFile g1 g2 (First i) = 6 * i + 6 ≤ length g1
+InFile g1 g2 (Second i) = 6 * i + 6 ≤ length g2
+InFile g1 g2 (Refused r) = Unit {0}
+
+-- the place that the code finds is the outcome's
 abbrev pub Stands : Outcome → List ℕ → List ℕ → Place → Type 0
-Stands o g1 g2 (First i) = (6 * i + 6 ≤ length g1) × (o ≡ says (record-said g1 i))
-Stands o g1 g2 (Second i) = (6 * i + 6 ≤ length g2) × (o ≡ says (record-said g2 i))
-Stands o g1 g2 (Refused r) = o ≡ refuses r
+Stands o g1 g2 p = (o ≡ outcome-at g1 g2 p) × InFile g1 g2 p
 
 -- what a place answers
 abbrev pub shown-at : Place → Shown

@@ -6,7 +6,7 @@ ghost use lib.ListN.{length};
 ghost use Rattle.files.specs.Outcome.{answer, written-of};
 ghost use Rattle.files.specs.Record.{part};
 ghost use Rattle.files.specs.Refusal.{nodes-of};
-ghost use Rattle.runs.specs.Showing.{shown, shown-answer, from-second, Stands, shown-at};
+ghost use Rattle.runs.specs.Showing.{shown, shown-answer, from-second, outcome-at, InFile, Stands, shown-at};
 ghost use Rattle.judging.specs.Judge.{GraphWithin};
 use crate::answers::Shown;
 use files::check::Checked;
@@ -43,7 +43,7 @@ fn place_second(graph1: &[u8], graph2: &[u8], number: usize, limits: Limits, n: 
 
 // Both graphs' refusals, in argument order, then the place.
 pub fn find_place(graph1: &[u8], graph2: &[u8], number: usize, limits: Limits) -> Place
-    ensures { λ r. ⌜ Stands (shown limits (now (graph1 .entry)) (now (graph2 .entry)) number) (now (graph1 .entry)) (now (graph2 .entry)) r ⌝ }
+    ensures { λ r. ⌜ (shown limits (now (graph1 .entry)) (now (graph2 .entry)) number ≡ outcome-at (now (graph1 .entry)) (now (graph2 .entry)) r) × (InFile (now (graph1 .entry)) (now (graph2 .entry)) r) ⌝ }
 {
     match check_graph(graph1, 1, limits) {
         Checked::Refused(refusal) => Place::Refused(refusal),
