@@ -2,7 +2,7 @@
 use mathlib.Core.Path.{_≡_, sym, ap, subst, _∙_}
 use mathlib.Core.Bool.{Bool, true, false, cond}
 use mathlib.Core.List.{List}
-use Prim.Native.Nat.{ℕ, _+_, _*_, _≤_, _<_}
+use Prim.Native.Nat.{ℕ, _≤_, _<_}
 use lib.Dec.{ltb}
 use lib.ListN.{length}
 use borrow.Author.Tests.{lt-ltb, le-ltb}
@@ -13,9 +13,9 @@ use Rattle.files.specs.Outcome.{Said, Outcome, refuses, says, refusal-at, answe
 use Rattle.files.specs.Outcome.Laws.{refusal-leaves-output}
 use Rattle.files.specs.declared.record.Limits.{Limits}
 use Rattle.files.specs.declared.refusal.Refusal.{Refusal}
-use Rattle.runs.specs.Showing.{shown, record-said, Stands}
+use Rattle.runs.specs.Showing.{part-said, shown, outcome-at, InFile, Stands}
 use Rattle.runs.specs.declared.showing.Place.{Place}
-use Rattle.runs.specs.declared.showing.Place.the-variants.{First, Second, Refused}
+use Rattle.runs.specs.declared.showing.Place.the-variants.{Refused}
 use Rattle.exports.specs.Boundary.{refused-numbers, answer-numbers, GivesOut, fitting}
 use Rattle.exports.specs.declared.Answer.{Answer}
 
@@ -55,22 +55,13 @@ module _ (L : Limits) (limits : L ≡ desk) (g1 g2 : List ℕ) (number : ℕ) (p
   at : (q : Place) → p ≡ q → Stands o g1 g2 q
   at q e = subst (λ (M : Limits). Stands (shown M g1 g2 number) g1 g2 q) limits (subst (Stands (shown L g1 g2 number) g1 g2) e stands)
 
-  pub first-fits : (i : ℕ) → p ≡ First i → 6 * i + 6 ≤ length g1
-  first-fits i e = at (First i) e .1
-
-  pub second-fits : (i : ℕ) → p ≡ Second i → 6 * i + 6 ≤ length g2
-  second-fits i e = at (Second i) e .1
+  pub in-file : (q : Place) → p ≡ q → InFile g1 g2 q
+  in-file q e = at q e .1
 
   pub nowhere-given : (out : List ℕ) (r : Refusal) (a : Answer) → p ≡ Refused r → a ≡ refused-numbers r → GivesOut (fitting (length out) o) out out a
   nowhere-given out r a e = refusal-given (fitting (length out) o) out r a (ap (fitting (length out)) (at (Refused r) e .0))
 
-  module _ (out out′ : List ℕ) (a : Answer) where
-    -- what is given of the record is given of the outcome that shows it
-    shown-given : (s : Said) → o ≡ says s → GivesOut (fitting (length out) (says s)) out out′ a → GivesOut (fitting (length out) o) out out′ a
-    shown-given s e = subst (λ (x : Outcome). GivesOut (fitting (length out) x) out out′ a) (sym e)
-
-    pub first-given : (i : ℕ) → p ≡ First i → GivesOut (fitting (length out) (says (record-said g1 i))) out out′ a → GivesOut (fitting (length out) o) out out′ a
-    first-given i e = shown-given (record-said g1 i) (at (First i) e .0)
-
-    pub second-given : (i : ℕ) → p ≡ Second i → GivesOut (fitting (length out) (says (record-said g2 i))) out out′ a → GivesOut (fitting (length out) o) out out′ a
-    second-given i e = shown-given (record-said g2 i) (at (Second i) e .0)
+  -- what is given of the bytes that stand there is given of the outcome
+  pub shown-given : (q : Place) (bytes out out′ : List ℕ) (a : Answer) → p ≡ q → outcome-at g1 g2 q ≡ says (part-said bytes)
+      → GivesOut (fitting (length out) (says (part-said bytes))) out out′ a → GivesOut (fitting (length out) o) out out′ a
+  shown-given q bytes out out′ a e d = subst (λ (x : Outcome). GivesOut (fitting (length out) x) out out′ a) (sym (at q e .0 ∙ d))

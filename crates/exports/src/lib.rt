@@ -4,21 +4,19 @@ ghost use Rattle.files.specs.Limits.{desk};
 ghost use Rattle.files.specs.Refusal.{graph, property, rules, interface};
 ghost use Rattle.files.specs.Checking.{checked};
 ghost use Rattle.files.specs.Outcome.{says};
-ghost use Prim.Native.Nat.{_+_, _*_, _≤_};
 ghost use lib.ListN.{length};
 ghost use Rattle.judging.specs.Judge.{judged, judged-answer};
 ghost use Rattle.judging.specs.Compare.{compared, compared-answer};
 ghost use Rattle.maximal.specs.Modelling.{modelled, modelled-answer};
 ghost use Rattle.runs.specs.Composing.{composed};
 ghost use Rattle.runs.specs.Joining.{joined, joined-answer};
-ghost use Rattle.runs.specs.Showing.{shown, record-said};
+ghost use Rattle.runs.specs.Showing.{shown, part-said};
 ghost use Rattle.runs.specs.Answer.{watched-answer};
 ghost use Rattle.runs.specs.Watching.{watched};
 ghost use Rattle.exports.specs.Boundary.{refused-numbers, checked-numbers, answer-numbers, Gives, GivesBoth, GivesOut, fitting, work-lengths};
 use files::cells::copy_at;
 use files::check::Checked;
 use files::record::Limits;
-use files::record::Record;
 use files::refusal::Refusal;
 use judging::answers::Compared;
 use judging::answers::Judged;
@@ -243,15 +241,14 @@ pub extern "C" fn tintboulder_join(
     joined_answer(runs::join(interface1, graph1, interface2, graph2, out))
 }
 
-// Writes record i of a file to `out`: verdict 1 shown; an output shorter than a record is refused by 12.
-fn write_record(file: &[u8], i: usize, out: &mut [u8]) -> Answer
-    requires { ⌜ 6 * i + 6 ≤ length (now file) ⌝ }
-    ensures { λ a. ⌜ GivesOut (fitting (length (now (out .entry))) (says (record-said (now (file .entry)) i))) (now (out .entry)) (now (out .exit)) a ⌝ }
+// Writes what is shown to `out`: verdict 1 shown; an output shorter than it is refused by 12.
+fn write_part(part: &[u8], out: &mut [u8]) -> Answer
+    ensures { λ a. ⌜ GivesOut (fitting (length (now (out .entry))) (says (part-said (now (part .entry))))) (now (out .entry)) (now (out .exit)) a ⌝ }
 {
-    if out.len() < Record::LEN {
+    if out.len() < part.len() {
         return refused(Refusal::whole(12));
     }
-    copy_at(out, 0, record_at(file, i));
+    copy_at(out, 0, part);
     Answer {
         verdict: 1,
         number: 0,
@@ -273,8 +270,8 @@ pub extern "C" fn tintboulder_show(
     ensures { λ a. ⌜ GivesOut (fitting (length (now (out .entry))) (shown desk (now (graph1 .entry)) (now (graph2 .entry)) number)) (now (out .entry)) (now (out .exit)) a ⌝ }
 {
     match find_place(graph1, graph2, number as usize, Limits::desk()) {
-        Place::First(i) => write_record(graph1, i, out),
-        Place::Second(i) => write_record(graph2, i, out),
+        Place::First(i) => write_part(record_at(graph1, i), out),
+        Place::Second(i) => write_part(record_at(graph2, i), out),
         Place::Refused(r) => refused(r),
     }
 }

@@ -25,6 +25,10 @@ abbrev pub shown-answer : Shown → Answer
 shown-answer Part = verdict-answer 1 []
 shown-answer (shown-variants.Refused r) = refused-answer r
 
+-- what is said where these bytes are shown
+abbrev pub part-said : List ℕ → Said
+part-said bytes = record { verdict = 1; values = []; written = bytes }
+
 -- "Showing takes two graphs and a number."
 module _ (L : Limits) (g1 g2 : List ℕ) (number : ℕ) where
   abbrev pub show-size : ℕ
@@ -35,7 +39,7 @@ module _ (L : Limits) (g1 g2 : List ℕ) (number : ℕ) where
   show-part = cond (ltb number (size (decode-graph g1))) (part g1 number 1) (part g2 (number - size (decode-graph g1)) 1)
 
   abbrev pub show-said : Said
-  show-said = record { verdict = 1; values = []; written = show-part }
+  show-said = part-said show-part
 
   -- "It refuses by 1 to 8, graphs in order, then by 7 with file 0 and record 0 when the number isn't below both node counts together"
   abbrev pub show-checks : List Check
@@ -52,14 +56,10 @@ module _ (L : Limits) (g1 g2 : List ℕ) (number : ℕ) where
 abbrev pub from-second : Limits → List ℕ → List ℕ → ℕ → Outcome
 from-second L g1 g2 number = answered (file-checks L 2 graph g2 (whole-check 7 (leb (show-size L g1 g2 number) number) [])) (show-said L g1 g2 number)
 
--- record i of a file, shown
-abbrev pub record-said : List ℕ → ℕ → Said
-record-said l i = record { verdict = 1; values = []; written = part l i 1 }
-
 -- what is shown at a place, or why nothing is
 abbrev pub outcome-at : List ℕ → List ℕ → Place → Outcome
-outcome-at g1 g2 (First i) = says (record-said g1 i)
-outcome-at g1 g2 (Second i) = says (record-said g2 i)
+outcome-at g1 g2 (First i) = says (part-said (part g1 i 1))
+outcome-at g1 g2 (Second i) = says (part-said (part g2 i 1))
 outcome-at g1 g2 (Refused r) = refuses r
 
 -- the record of a place stands in its file

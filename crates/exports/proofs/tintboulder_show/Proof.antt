@@ -1,4 +1,10 @@
-use Rattle.exports.proofs.ShowLaws.{first-fits, first-given, second-fits, second-given, nowhere-given}
+use mathlib.Core.Path.{sym, ap}
+use mathlib.Core.List.{List}
+use Prim.Native.Nat.{ℕ}
+use Rattle.files.specs.Outcome.{says}
+use Rattle.runs.specs.Showing.{part-said}
+use Rattle.runs.specs.declared.showing.Place.the-variants.{First, Second}
+use Rattle.exports.proofs.ShowLaws.{in-file, shown-given, nowhere-given}
 use borrow.Author.Needs.{needs}
 use Rattle.exports.proofs.tintboulder_show.Statement.{statement}
 use Rattle.exports.proofs.tintboulder_show.Tie as tie
@@ -12,24 +18,30 @@ find-place-requires c κs = search needs
 enum-known-i : tie.Need-enum-known-i
 enum-known-i c = search needs
 
-write-record-requires : tie.Need-write-record-requires
-write-record-requires c κs =
-    let a = c .before .before .before .before .before .before .before .before .before .args in
-    let d = c .before .before .before .before .before .desk in
-    let f = c .before .before .before .before .find-place in
-    let x = c .before .before .i .given in
-    first-fits (d .result) (d .ensures) (a .graph1 .now) (a .graph2 .now) (a .number) (f .result) (f .ensures) (x .0 .0) (x .1)
+record-at-requires : tie.Need-record-at-requires
+record-at-requires c κs =
+    let a = c .before .before .before .before .before .before .before .before .args in
+    let d = c .before .before .before .before .desk in
+    let f = c .before .before .before .find-place in
+    let x = c .before .i .given in
+    in-file (d .result) (d .ensures) (a .graph1 .now) (a .graph2 .now) (a .number) (f .result) (f .ensures) (First (x .0 .0)) (x .1)
+
+write-part-requires : tie.Need-write-part-requires
+write-part-requires c κs = search needs
 
 enum-known-i-2 : tie.Need-enum-known-i-2
 enum-known-i-2 c = search needs
 
-write-record-requires-2 : tie.Need-write-record-requires-2
-write-record-requires-2 c κs =
-    let a = c .before .before .before .before .before .before .before .before .before .args in
-    let d = c .before .before .before .before .before .desk in
-    let f = c .before .before .before .before .find-place in
-    let x = c .before .before .i2 .given in
-    second-fits (d .result) (d .ensures) (a .graph1 .now) (a .graph2 .now) (a .number) (f .result) (f .ensures) (x .0 .0) (x .1)
+record-at-requires-2 : tie.Need-record-at-requires-2
+record-at-requires-2 c κs =
+    let a = c .before .before .before .before .before .before .before .before .args in
+    let d = c .before .before .before .before .desk in
+    let f = c .before .before .before .find-place in
+    let x = c .before .i2 .given in
+    in-file (d .result) (d .ensures) (a .graph1 .now) (a .graph2 .now) (a .number) (f .result) (f .ensures) (Second (x .0 .0)) (x .1)
+
+write-part-requires-2 : tie.Need-write-part-requires-2
+write-part-requires-2 c κs = search needs
 
 enum-known-r : tie.Need-enum-known-r
 enum-known-r c = search needs
@@ -42,24 +54,26 @@ same-length c = search needs
 
 returns : tie.Need-returns
 returns c =
-    let a = c .before .before .before .before .before .before .before .before .before .before .before .before .args in
-    let d = c .before .before .before .before .before .before .before .before .desk in
-    let f = c .before .before .before .before .before .before .before .find-place in
-    let x = c .before .before .before .before .before .i .given in
-    let w = c .before .before .write-record in
-    first-given (d .result) (d .ensures) (a .graph1 .now) (a .graph2 .now) (a .number) (f .result) (f .ensures) (a .out .now) (w .last .1 .1 .0) (w .result) (x .0 .0) (x .1) (w .ensures)
+    let a = c .before .before .before .before .before .before .before .before .before .before .before .before .before .args in
+    let d = c .before .before .before .before .before .before .before .before .before .desk in
+    let f = c .before .before .before .before .before .before .before .before .find-place in
+    let x = c .before .before .before .before .before .before .i .given in
+    let r = c .before .before .before .before .record-at in
+    let w = c .before .before .write-part in
+    shown-given (d .result) (d .ensures) (a .graph1 .now) (a .graph2 .now) (a .number) (f .result) (f .ensures) (First (x .0 .0)) _ (a .out .now) (w .last .1 .0) (w .result) (x .1) (ap (λ (l : List ℕ). says (part-said l)) (sym (r .ensures))) (w .ensures)
 
 same-length-2 : tie.Need-same-length-2
 same-length-2 c = search needs
 
 returns-2 : tie.Need-returns-2
 returns-2 c =
-    let a = c .before .before .before .before .before .before .before .before .before .before .before .before .args in
-    let d = c .before .before .before .before .before .before .before .before .desk in
-    let f = c .before .before .before .before .before .before .before .find-place in
-    let x = c .before .before .before .before .before .i2 .given in
-    let w = c .before .before .write-record2 in
-    second-given (d .result) (d .ensures) (a .graph1 .now) (a .graph2 .now) (a .number) (f .result) (f .ensures) (a .out .now) (w .last .1 .1 .0) (w .result) (x .0 .0) (x .1) (w .ensures)
+    let a = c .before .before .before .before .before .before .before .before .before .before .before .before .before .args in
+    let d = c .before .before .before .before .before .before .before .before .before .desk in
+    let f = c .before .before .before .before .before .before .before .before .find-place in
+    let x = c .before .before .before .before .before .before .i2 .given in
+    let r = c .before .before .before .before .record-at2 in
+    let w = c .before .before .write-part2 in
+    shown-given (d .result) (d .ensures) (a .graph1 .now) (a .graph2 .now) (a .number) (f .result) (f .ensures) (Second (x .0 .0)) _ (a .out .now) (w .last .1 .0) (w .result) (x .1) (ap (λ (l : List ℕ). says (part-said l)) (sym (r .ensures))) (w .ensures)
 
 returns-3 : tie.Need-returns-3
 returns-3 c =
@@ -76,9 +90,11 @@ tintboulder-show-spec =
     desk-requires
     find-place-requires
     enum-known-i
-    write-record-requires
+    record-at-requires
+    write-part-requires
     enum-known-i-2
-    write-record-requires-2
+    record-at-requires-2
+    write-part-requires-2
     enum-known-r
     refused-requires
     same-length

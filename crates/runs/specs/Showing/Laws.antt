@@ -18,7 +18,7 @@ use Rattle.files.specs.Refusal.{graph, refusal}
 use Rattle.files.specs.declared.record.Limits.{Limits}
 use Rattle.runs.specs.Join.{join}
 use Rattle.runs.specs.Join.Laws.{join-first, join-second, join-size}
-use Rattle.runs.specs.Showing.{show-size, show-said, show-checks, show-lines, shown, Shows, shown-answer}
+use Rattle.runs.specs.Showing.{part-said, show-size, show-said, show-checks, show-lines, shown, Shows, shown-answer}
 use Rattle.files.specs.Basics.Tests.{below}
 use Rattle.files.specs.Outcome.{published}
 use Rattle.files.specs.declared.refusal.Refusal.{Refusal}
@@ -74,5 +74,5 @@ module _ (L : Limits) (g1 g2 : List ℕ) (number : ℕ) where
 -- ---- the answer enum
 
 -- each case answers what its outcome says
-pub show-answers : (ws : List ℕ) (r : Refusal) → (shown-answer Part ≡ answer (says (record { verdict = 1; values = []; written = ws }))) × (shown-answer (Refused r) ≡ answer (refuses r))
+pub show-answers : (ws : List ℕ) (r : Refusal) → (shown-answer Part ≡ answer (says (part-said ws))) × (shown-answer (Refused r) ≡ answer (refuses r))
 show-answers ws r = (refl, refl)

@@ -20,7 +20,7 @@ use Rattle.files.specs.declared.check.Checked.{Checked}
 use Rattle.files.specs.declared.check.Checked.the-variants.{Accepted, Refused}
 use Rattle.files.specs.declared.record.Limits.{Limits}
 use Rattle.files.specs.declared.refusal.Refusal.{Refusal}
-use Rattle.runs.specs.Showing.{shown-answer, show-size, show-said, shown, from-second, record-said, outcome-at, Stands, shown-at}
+use Rattle.runs.specs.Showing.{shown-answer, show-size, show-said, shown, part-said, from-second, outcome-at, Stands, shown-at}
 use Rattle.judging.specs.Judge.{GraphWithin}
 use Rattle.runs.specs.declared.showing.Place.{Place}
 use Rattle.runs.specs.declared.showing.Place.the-variants as place
@@ -59,7 +59,7 @@ module _ (L : Limits) (g1 g2 : List ℕ) (number : ℕ) (within : GraphWithin L 
       -- in the first file
       pub stands-first : number < n → Stands (from-second L g1 g2 number) g1 g2 (place.First number)
       stands-first h = (
-        below (omega arith) ∙ ap (λ (b : Bool). says (record { verdict = 1; values = []; written = cond b (part g1 number 1) (part g2 (number - size (decode-graph g1)) 1) }))
+        below (omega arith) ∙ ap (λ (b : Bool). says (part-said (cond b (part g1 number 1) (part g2 (number - size (decode-graph g1)) 1))))
             (lt-ltb number (size (decode-graph g1)) (omega (arith, first-size, first))),
         record-in g1 number (omega (arith, first, few L g1 within)),
       )
@@ -68,9 +68,9 @@ module _ (L : Limits) (g1 g2 : List ℕ) (number : ℕ) (within : GraphWithin L 
       pub stands-second : n ≤ number → number - n < m → Stands (from-second L g1 g2 number) g1 g2 (place.Second (number - n))
       stands-second h k = (
         below (omega arith)
-            ∙ ap (λ (b : Bool). says (record { verdict = 1; values = []; written = cond b (part g1 number 1) (part g2 (number - size (decode-graph g1)) 1) }))
+            ∙ ap (λ (b : Bool). says (part-said (cond b (part g1 number 1) (part g2 (number - size (decode-graph g1)) 1))))
             (le-ltb number (size (decode-graph g1)) (omega (arith, first-size, first)))
-            ∙ ap (λ (i : ℕ). says (record-said g2 (number - i))) (first-size ∙ sym first),
+            ∙ ap (λ (i : ℕ). says (part-said (part g2 (number - i) 1))) (first-size ∙ sym first),
         record-in g2 (number - n) (omega (arith, counts .1, few L g2 (counts .0))),
       )
 
