@@ -1,5 +1,5 @@
 -- What the six numbers of showing mean at the C boundary, where the part goes to an output of its own and 12 is one more line of the call's row.
-use mathlib.Core.Path.{_≡_, refl, sym, ap, ap₂, subst, _∙_}
+use mathlib.Core.Path.{_≡_, refl, sym, ap, subst, _∙_}
 use mathlib.Core.Logic.{_↔_}
 use mathlib.Core.Bool.{Bool, true, false, cond}
 use mathlib.Core.List.{List, [], _∷_, _++_}
@@ -10,13 +10,13 @@ use lib.ListN.{length, take, drop}
 use Rattle.files.specs.Basics.First.{whole}
 use Rattle.files.specs.Basics.Says.{says-le}
 use Rattle.files.specs.Limits.{desk}
-use Rattle.files.specs.Outcome.{Said, Outcome, refuses, says, answer, out-after, refusal-at, Check, whole-check, file-checks, out-check, or-next, first-refusal, unless, answered, Lines, line, no-lines, whole-line, file-lines, out-line, NoneOf, published, Matches}
+use Rattle.files.specs.Outcome.{Said, Outcome, refuses, says, answer, out-after, refusal-at, Check, whole-check, file-checks, out-check, or-next, first-refusal, unless, answered, Lines, no-lines, whole-line, file-lines, out-line, NoneOf, published, Matches}
 use Rattle.files.specs.Outcome.Calls as calls
 use Rattle.files.specs.Outcome.Laws.{files-match, whole-match, out-match, refused-by, accepted-by, file-accepted, file-none, file-or, file-first, whole-none, whole-none-i, none-end}
 use Rattle.files.specs.Outcome.Meaning.{Decided, Refuses, Wrote, Heard, only-verdict, outcome-case, said-iff, refuses-by, wrote-by}
 use Rattle.files.specs.Refusal.{graph, refusal}
 use Rattle.files.specs.declared.refusal.Refusal.{Refusal}
-use Rattle.runs.specs.Showing.{shown-answer, show-size, show-said, show-checks, show-lines, shown}
+use Rattle.runs.specs.Showing.{shown-answer, show-size, show-said, show-lines, shown}
 use Rattle.runs.specs.Showing.Laws.{show-accepted, show-says, shown-is}
 use Rattle.runs.specs.Showing.Meaning.{PartShown, shown-of, shown-enum}
 use Rattle.runs.specs.declared.answers.Shown.{Shown}
@@ -73,11 +73,11 @@ module _ (g1 g2 : List ℕ) (number out : ℕ) where
   fitting-is =
       let b = whole (leb (show-size desk g1 g2 number) number) in
       let first : (m : Option Refusal) (cs : List Check) → m ≡ first-refusal cs
-          → file-or 1 (refusal desk graph g1) (file-or 2 (refusal desk graph g2) m) ≡ first-refusal (file-checks desk 1 graph g1 (file-checks desk 2 graph g2 cs)) =
-          λ m cs e.
-              ap (λ (z : Option Refusal). file-or 1 (refusal desk graph g1) (file-or 2 (refusal desk graph g2) z)) e
-              ∙ ap (file-or 1 (refusal desk graph g1)) (sym (file-first desk 2 graph g2 cs))
-              ∙ sym (file-first desk 1 graph g1 (file-checks desk 2 graph g2 cs))
+      → file-or 1 (refusal desk graph g1) (file-or 2 (refusal desk graph g2) m) ≡ first-refusal (file-checks desk 1 graph g1 (file-checks desk 2 graph g2 cs)) =
+      λ m cs e.
+      ap (λ (z : Option Refusal). file-or 1 (refusal desk graph g1) (file-or 2 (refusal desk graph g2) z)) e
+      ∙ ap (file-or 1 (refusal desk graph g1)) (sym (file-first desk 2 graph g2 cs))
+      ∙ sym (file-first desk 1 graph g1 (file-checks desk 2 graph g2 cs))
       in
       ap (fitting out) (shown-is desk g1 g2 number ∙ ap (λ (z : Option Refusal). unless z said) (sym (first (or-next 7 0 b none) _ refl)))
       ∙ fits (refusal desk graph g1) (refusal desk graph g2) b
@@ -117,7 +117,7 @@ module _ (g1 g2 : List ℕ) (number : ℕ) (out out′ : List ℕ) where
   d = exported-decided g1 g2 number (length out)
 
   module _ (c : Shown) (is-answer : shown-answer c ≡ answer o) (out-is : out′ ≡ out-after o out) where
-    is-part : (shown-numbers c ≡ shown-numbers Part) ↔ (NoneOf ls × (1 ≡ 1) × ([] ≡ []))
+    is-part : (shown-numbers c ≡ shown-numbers Part) ↔ (NoneOf ls × ((show-said desk g1 g2 number) .verdict ≡ 1) × ((show-said desk g1 g2 number) .values ≡ []))
     is-part = said-iff shown-enum shown-numbers shown-heard o (show-said desk g1 g2 number) ls d c is-answer Part 1 [] (lit< tt) refl
 
     wrote : NoneOf ls → Wrote 6 (show-said desk g1 g2 number .written) out out′

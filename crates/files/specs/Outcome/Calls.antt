@@ -3,7 +3,7 @@
 use mathlib.Core.Path.{_≡_}
 use mathlib.Core.Bool.{Bool, true, false, cond, _&&_}
 use mathlib.Core.List.{List, [], _∷_, _++_}
-use Prim.Native.Nat.{ℕ, zero, suc}
+use Prim.Native.Nat.{ℕ, suc}
 use lib.Dec.{leb}
 use Rattle.files.specs.Outcome.{Lines, no-lines, line, file-lines}
 use Rattle.files.specs.Refusal.{Kind, graph, property, rules, interface}

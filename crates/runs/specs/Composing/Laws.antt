@@ -118,9 +118,9 @@ module _ (L : Limits) (ki kg oi p r : List ℕ) (m out store work : ℕ) where
   pub compose-own : Of (decode-interface ki) (decode-graph kg) → (k : ℕ) → FirstOf (compose-lines L ki kg oi p r m out store work) 9 2 k → ⊥
   compose-own of k x =
       let start =
-          whole-line 3 (NoStart m) (line 9 2 (ForeignAt (decode-interface ki) kg) (whole-line 9 (Shares (decode-interface ki) (decode-interface oi))
-          (whole-line 10 (Unprovided (compose-sides L ki kg oi p r m out) m)
-          (whole-line 11 (TooLarge L (gives (other-side L ki kg oi p r m out)) ⊎ TooLarge L (compose-graph L ki kg oi p r m out)) (out-line out said)))))
+      whole-line 3 (NoStart m) (line 9 2 (ForeignAt (decode-interface ki) kg) (whole-line 9 (Shares (decode-interface ki) (decode-interface oi))
+      (whole-line 10 (Unprovided (compose-sides L ki kg oi p r m out) m)
+      (whole-line 11 (TooLarge L (gives (other-side L ki kg oi p r m out)) ⊎ TooLarge L (compose-graph L ki kg oi p r m out)) (out-line out said)))))
       in
       let other = file-lines L 3 interface oi (file-lines L 4 property p (file-lines L 5 rules r start)) in
       let a0 = past-line (λ y. omega (arith, y .0)) x in
