@@ -17,15 +17,18 @@ pub mod AnyFile
 pub mod Graphs
 pub mod Properties
 pub mod RuleFiles
+pub mod Followed
 pub mod Interfaces
 pub mod Written
 pub mod Accepted
+pub mod Crowded
 pub mod Canonical
 pub mod Listed
 pub mod Values
 pub mod Order
 pub mod Bytes
 pub mod Examples
+pub mod LimitExamples
 
 -- ---- graphs
 

@@ -15,8 +15,10 @@ use Rattle.files.specs.Graph.{Graph, size}
 use Rattle.files.specs.Refusal.{Kind, findings}
 use Rattle.files.specs.Table.{Applies}
 use Rattle.files.specs.Decode.{graph-bytes}
+pub mod Calls
 pub mod Laws
 pub mod Steps
+pub mod Meaning
 
 -- "A refusal carries number, file position from 1 and first offending record from 0."
 abbrev pub refusal-at : ℕ → ℕ → ℕ → Refusal

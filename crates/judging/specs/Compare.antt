@@ -12,12 +12,13 @@ use Rattle.files.specs.Decode.{decode-graph}
 use Rattle.files.specs.Outcome.{Said, Outcome, Answer, refused-answer, verdict-answer, Check, whole-check, file-checks, out-check, answered, Lines, whole-line, file-lines, out-line, short}
 use Rattle.judging.specs.declared.answers.Compared.{Compared}
 use Rattle.judging.specs.declared.answers.Compared.the-variants.{Yes, No, Refused}
-use Rattle.judging.specs.Simulation.{Simulation, Simulates, covered, simulates, uncovered, relation-bytes, related}
+use Rattle.judging.specs.Simulation.{Simulation, Covered, Simulates, simulates, uncovered, relation-bytes, related}
 use Rattle.files.specs.Basics.Tests.{one}
 use Rattle.files.specs.Basics.Binary.{bit}
 use lib.ListN.{getD}
 pub mod Laws
 pub mod Steps
+pub mod Meaning
 pub mod Examples
 
 -- the published length of the work buffer
@@ -56,17 +57,24 @@ from-first L f g out = let s = compare-said (decode-graph f) (decode-graph g) in
 abbrev pub from-relation : List ℕ → List ℕ → ℕ → Outcome
 from-relation f g out = let s = compare-said (decode-graph f) (decode-graph g) in answered (out-check out s) s
 
+-- 'A "no" names the lowest uncovered entry': n is an entry of the first graph that no simulation gives a related entry of the second, and each entry below it is given
+-- one by some simulation.
+pub record Lowest (G H : Graph) (n : ℕ) : Type 1 where
+  pub is-node : n < size G
+  pub is-entry : T ((node G n) .entry)
+  pub uncovered-by : (R : ℕ → ℕ → Type 0) → Simulation G H R → Covered H R n → ⊥
+  pub lowest : (k : ℕ) → k < n → T ((node G k) .entry) → (R : ℕ → ℕ → Type 0) × Simulation G H R × Covered H R k
+
 -- What a verdict of comparing says: 1 exactly where the second graph simulates the first, which is where the largest simulation covers every entry; 2 otherwise,
--- with the lowest entry of the first that no simulation gives a related entry of the second; and the bytes of the largest simulation, under either verdict.
+-- with the lowest uncovered entry; and the bytes of the largest simulation, under either verdict.
 pub record Compares (G H : Graph) (s : Said) : Type 1 where
   pub first-flow : Flow G
   pub second-flow : Flow H
   pub yes-iff : (s .verdict ≡ 1) ↔ Simulates G H
   pub no-iff : (s .verdict ≡ 2) ↔ (Simulates G H → ⊥)
-  pub yes-covers : (s .verdict ≡ 1) ↔ ((g : ℕ) → g < size G → T ((node G g) .entry) → T (covered G H g))
-  pub no-entry : s .verdict ≡ 2 → (s .values ≡ uncovered G H ∷ []) × (uncovered G H < size G) × T ((node G (uncovered G H)) .entry)
-      × ((R : ℕ → ℕ → Type 0) → Simulation G H R → (h : ℕ) → T ((node H h) .entry) → R (uncovered G H) h → ⊥)
-  pub lowest-entry : (g : ℕ) → g < uncovered G H → T ((node G g) .entry) → T (covered G H g)
+  pub yes-covers : (s .verdict ≡ 1) ↔ ((g : ℕ) → g < size G → T ((node G g) .entry) → Covered H (λ g h. T (related G H g h)) g)
+  pub yes-silent : s .verdict ≡ 1 → s .values ≡ []
+  pub no-names : s .verdict ≡ 2 → (s .values ≡ uncovered G H ∷ []) × Lowest G H (uncovered G H)
   pub is-simulation : Simulation G H (λ g h. T (related G H g h))
   pub is-largest : (R : ℕ → ℕ → Type 0) → Simulation G H R → (g h : ℕ) → R g h → T (related G H g h)
   pub writes : s .written ≡ relation-bytes G H

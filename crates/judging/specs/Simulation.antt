@@ -22,11 +22,15 @@ pub record Simulation (G H : Graph) (R : ℕ → ℕ → Type 0) : Type 0 where
   pub matched : (g h : ℕ) → R g h → (e : Edge) → List·Memᴰ e (G .edges) → e .from ≡ g
       → (d : Edge) × List·Memᴰ d (H .edges) × (d .from ≡ h) × (d .label ≡ e .label) × R (e .to) (d .to)
 
+-- R gives node g "a related entry of the second"
+abbrev pub Covered : Graph → (ℕ → ℕ → Type 0) → ℕ → Type 0
+Covered H R g = (h : ℕ) × T ((node H h) .entry) × R g h
+
 -- "The second simulates the first when some such relation gives every entry of the first a related entry of the second."
 pub record Simulates (G H : Graph) : Type 1 where
   pub rel : ℕ → ℕ → Type 0
   pub simulation : Simulation G H rel
-  pub covers : (g : ℕ) → g < size G → T ((node G g) .entry) → (h : ℕ) × T ((node H h) .entry) × rel g h
+  pub covers : (g : ℕ) → g < size G → T ((node G g) .entry) → Covered H rel g
 
 -- ---- the largest, by refinement
 
@@ -49,7 +53,7 @@ refined G H (suc k) g h = keeps G H (refined G H k) g h
 pub related : Graph → Graph → ℕ → ℕ → Bool
 related G H g h = ltb g (size G) && (ltb h (size H) && refined G H (size G * size H) g h)
 
--- an entry of the second is related to g
+-- the same, computed: an entry of the second is related to g by the largest simulation (Laws, `covered-e` and `covered-i`)
 pub covered : Graph → Graph → ℕ → Bool
 covered G H g = any (λ (h : ℕ). (node H h) .entry && related G H g h) (upto (size H))
 

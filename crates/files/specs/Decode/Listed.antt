@@ -1,15 +1,15 @@
 -- The file of a list of values, a record each: what stands in it, that it decodes to the list, and when a file is such a one. Assumes nothing.
-use mathlib.Core.Path.{_≡_, ap, _∙_}
+use mathlib.Core.Path.{_≡_, ap, subst, _∙_}
 use mathlib.Core.List.{List, map}
 use Prim.Native.Nat.{ℕ, _*_, _<_}
 use native.Mathlib.Nat.{zero-add}
 use native.Mathlib.Omega.{arith}
 use lib.ListN.{length, getD, length-map}
-use Rattle.files.specs.Basics.Lists.{getD-map}
+use Rattle.files.specs.Basics.Lists.{each, each-map, getD-map}
 use Rattle.files.specs.Basics.Tables.{table, table-is}
 use Rattle.files.specs.Decode.Canonical.{table-same, map-table, write-recs}
 use Rattle.files.specs.Decode.Written.{length-write, count-write, record-at-write}
-use Rattle.files.specs.Record.{record-at, count, write}
+use Rattle.files.specs.Record.{record-at, count, six, write}
 use Rattle.files.specs.declared.record.Record.{Record}
 
 module _ {A : Type 0} (enc : A → Record) (xs : List A) where
@@ -30,6 +30,11 @@ module _ {A : Type 0} (enc : A → Record) (dec : Record → A) where
     where
       value : ℕ → A
       value i = dec (record-at (write (map enc xs)) i)
+
+  -- the same of the six bytes of each value one after the other, as results are written
+  pub decode-each : (d : A) → ((x : A) → dec (enc x) ≡ x) → (xs : List A)
+      → let l = each (λ (x : A). six (enc x)) xs in table (λ i. dec (record-at l i)) 0 (count l) ≡ xs
+  decode-each d back xs = subst (λ (l : List ℕ). table (λ i. dec (record-at l i)) 0 (count l) ≡ xs) (each-map six enc xs) (decode-values d back xs)
 
   -- a file whose records are those of their values is the bytes of its list
   pub values-decode : (l : List ℕ) → length l ≡ 6 * count l → ((i : ℕ) → i < count l → enc (dec (record-at l i)) ≡ record-at l i)

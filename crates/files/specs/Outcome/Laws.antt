@@ -1,6 +1,6 @@
 -- A call is refused exactly where some line of its published order applies, by the first that does; otherwise it is accepted. One law for all calls.
 use mathlib.Core.Path.{_≡_, refl, sym, ap, subst, _∙_}
-use mathlib.Core.Logic.{inl, inr, _↔_}
+use mathlib.Core.Logic.{_⊎_, inl, inr, _↔_}
 use mathlib.Core.Bool.{Bool, true, false}
 use mathlib.Core.List.{List, [], _∷_, _++_}
 use mathlib.Core.Option.{Option, none, some}
@@ -201,6 +201,25 @@ file-accepted L f k l ls (a1, (a2, (a3, (a4, (a5, (a6, (a7, (a8, rest)))))))) = 
     nothing (suc (suc (suc (suc (suc (suc (suc zero))))))) i x = a7 i x
     nothing (suc (suc (suc (suc (suc (suc (suc (suc zero)))))))) i x = a8 i x
     nothing (suc (suc (suc (suc (suc (suc (suc (suc (suc n))))))))) i x = x
+
+-- a number that comes first and is not that of a line stands in what follows, and the line does not apply
+pub past-line : {A B : Type 0} → (A → ⊥) → A ⊎ B → B
+past-line f (inl x) = absurd (f x)
+past-line f (inr y) = y
+
+-- so a file is accepted where a number past 8 comes first
+pub past-file : (L : Limits) (h : ℕ) (k : Kind) (l : List ℕ) (ls : Lines) (n f i : ℕ) → 8 < n → FirstOf (file-lines L h k l ls) n f i → (refusal L k l ≡ none) × FirstOf ls n f i
+unfolding NoneOf
+past-file L h k l ls n f i m x =
+    let a1 = past-line (λ y. omega (arith, m, y .0)) x in
+    let a2 = past-line (λ y. omega (arith, m, y .0)) (a1 .1) in
+    let a3 = past-line (λ y. omega (arith, m, y .0)) (a2 .1) in
+    let a4 = past-line (λ y. omega (arith, m, y .0)) (a3 .1) in
+    let a5 = past-line (λ y. omega (arith, m, y .0)) (a4 .1) in
+    let a6 = past-line (λ y. omega (arith, m, y .0)) (a5 .1) in
+    let a7 = past-line (λ y. omega (arith, m, y .0)) (a6 .1) in
+    let a8 = past-line (λ y. omega (arith, m, y .0)) (a7 .1) in
+    (file-accepted L h k l no-lines (a1 .0, (a2 .0, (a3 .0, (a4 .0, (a5 .0, (a6 .0, (a7 .0, (a8 .0, tt)))))))) .0, a8 .1)
 
 -- and where it is accepted its lines do not apply
 pub file-none : (L : Limits) (f : ℕ) (k : Kind) (l : List ℕ) (ls : Lines) → refusal L k l ≡ none → NoneOf ls → NoneOf (file-lines L f k l ls)

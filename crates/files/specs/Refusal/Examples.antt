@@ -42,13 +42,13 @@ pub four-order : (refusal desk graph (nd 1 ++ ed 0 0 0 ++ ed 0 0 0) ∷ refusal 
 unfolding refusal findings
 four-order = refl
 
--- 5: 257 nodes, 33 rows, 13 operator-8 rows; one fewer is accepted
+-- 5: 33 rows, 13 operator-8 rows; one fewer is accepted (256 and 257 nodes, 4,096 and 4,097 edges: Decode/LimitExamples)
 pub five-limit : (refusal desk property (times 32 (rec6 3 1 0 0 0 0)) ∷ refusal desk property (times 33 (rec6 3 1 0 0 0 0))
     ∷ refusal desk property (times 12 (rec6 3 8 0 0 0 0)) ∷ refusal desk property (times 13 (rec6 3 8 0 0 0 0)) ∷ []) ≡ none ∷ some (5, 0) ∷ none ∷ some (5, 0) ∷ []
 unfolding refusal findings
 five-limit = refl
 
--- the same of nodes and edges, under smaller limits
+-- nodes and edges under smaller limits, computed
 abbrev two-one : Limits
 two-one = record { nodes = 2; edges = 1; rows = 1; ors = 0 }
 

@@ -12,13 +12,14 @@ use Rattle.files.specs.Decode.{decode-graph}
 use Rattle.files.specs.Decode.Graphs.{decoded-flow}
 use Rattle.files.specs.Graph.{Graph, Flow, node, size}
 use Rattle.files.specs.Outcome.{Said, refuses, says, refusal-at, NoneOf, FirstOf, Matches, answer}
+use Rattle.files.specs.Outcome.Calls as calls
 use Rattle.files.specs.Outcome.Laws.{refused-by, accepted-by}
 use Rattle.files.specs.Refusal.{graph, refusal}
 use Rattle.files.specs.declared.record.Limits.{Limits}
 use Rattle.judging.specs.TwoFiles.{two-match, two-given, two-say}
-use Rattle.judging.specs.Compare.{compare-room, compare-said, compare-verdict, compare-checks, compare-lines, compared, Compares, compared-answer}
-use Rattle.judging.specs.Simulation.{Simulation, Simulates, covered, simulates, uncovered, relation-bytes, related}
-use Rattle.judging.specs.Simulation.Laws.{verdict, largest, covered-i, uncovered-is, uncovered-lowest, simulates-covers, related-simulation, relation-bit}
+use Rattle.judging.specs.Compare.{compare-room, compare-said, compare-verdict, compare-checks, compare-lines, compared, Lowest, Compares, compared-answer}
+use Rattle.judging.specs.Simulation.{Covered, Simulates, covered, simulates, uncovered, relation-bytes, related}
+use Rattle.judging.specs.Simulation.Laws.{verdict, largest, covered-e, covered-i, uncovered-is, uncovered-lowest, simulates-covers, related-simulation, relation-bit}
 use Rattle.files.specs.Outcome.{published}
 use Rattle.files.specs.Basics.Tests.{one}
 use Rattle.files.specs.Basics.Binary.{bit}
@@ -32,6 +33,10 @@ module _ (L : Limits) (g h : List ℕ) (out work : ℕ) where
   -- the lines stand in the published order
   pub compare-order : published (compare-lines L g h out work) ≡ true
   compare-order = refl
+
+  -- and are the call's row of the table
+  pub compare-row : calls.Row L calls.compare (g ∷ h ∷ []) (compare-lines L g h out work)
+  compare-row = record { numbers-are = refl; files-are = refl }
 
   -- refused, by number, file and record, exactly where that comes first in the published order
   pub compare-refused : (n f i : ℕ) → (compared L g h out work ≡ refuses (refusal-at n f i)) ↔ FirstOf (compare-lines L g h out work) n f i
@@ -54,14 +59,21 @@ compare-cases : (G H : Graph) (s : Said) → Flow G → Flow H → s ≡ compare
 unfolding compare-said
 compare-cases G H s fg fh e = go (simulates G H) refl (verdict G H fg fh) e
   where
-    entry-is : T (not (simulates G H)) → (uncovered G H < size G) × T ((node G (uncovered G H)) .entry)
-        × ((R : ℕ → ℕ → Type 0) → Simulation G H R → (h : ℕ) → T ((node H h) .entry) → R (uncovered G H) h → ⊥)
+    entry-is : T (not (simulates G H)) → Lowest G H (uncovered G H)
     entry-is t =
         let a = uncovered-is G H t in
-        (a .0, a .1, λ R s h x r. T-not (covered G H (uncovered G H)) (a .2) (covered-i G H fg fh (uncovered G H) h x (largest G H fg fh R s (uncovered G H) h r)))
+        record {
+          is-node = a .0;
+          is-entry = a .1;
+          uncovered-by = λ R s c. T-not (covered G H (uncovered G H)) (a .2) (covered-i G H fg fh (uncovered G H) (c .0) (c .1) (largest G H fg fh R s (uncovered G H) (c .0) (c .2)));
+          lowest = λ k h x. ((λ g h. T (related G H g h)), related-simulation G H fg fh, covered-e G H fg fh k (uncovered-lowest G H k h x));
+        }
 
-    covers-iff : T (simulates G H) ↔ ((g : ℕ) → g < size G → T ((node G g) .entry) → T (covered G H g))
-    covers-iff = simulates-covers G H
+    covers-iff : T (simulates G H) ↔ ((g : ℕ) → g < size G → T ((node G g) .entry) → Covered H (λ g h. T (related G H g h)) g)
+    covers-iff = (
+      λ t g h x. covered-e G H fg fh g (simulates-covers G H .0 t g h x),
+      λ f. simulates-covers G H .1 (λ g h x. let c = f g h x in covered-i G H fg fh g (c .0) (c .1) (c .2)),
+    )
 
     bits : s .written ≡ relation-bytes G H → (g h : ℕ) → g < size G → h < 256 → bit (getD (s .written) (32 * g + h / 8) 0) (h % 8) ≡ one (related G H g h)
     bits w g h hg hh = ap (λ (l : List ℕ). bit (getD l (32 * g + h / 8) 0) (h % 8)) w ∙ relation-bit G H g h hg hh
@@ -76,9 +88,9 @@ compare-cases G H s fg fh e = go (simulates G H) refl (verdict G H fg fh) e
           second-flow = fh;
           yes-iff = (λ x. i .0 tt, λ x. v);
           no-iff = (λ x. absurd (omega arith), λ f. absurd (f (i .0 tt)));
-          no-entry = λ x. absurd (omega arith);
+          yes-silent = λ x. ap (λ (x : Said). x .values) q;
+          no-names = λ x. absurd (omega arith);
           yes-covers = (λ x. covers-iff .0 (subst T (sym c) tt), λ x. v);
-          lowest-entry = uncovered-lowest G H;
           is-simulation = related-simulation G H fg fh;
           is-largest = largest G H fg fh;
           writes = ap (λ (x : Said). x .written) q;
@@ -92,9 +104,9 @@ compare-cases G H s fg fh e = go (simulates G H) refl (verdict G H fg fh) e
           second-flow = fh;
           yes-iff = (λ x. absurd (omega arith), λ f. absurd (i .1 f));
           no-iff = (λ x f. i .1 f, λ f. v);
-          no-entry = λ x. (ap (λ (x : Said). x .values) q, a .0, a .1, a .2);
+          yes-silent = λ x. absurd (omega arith);
+          no-names = λ x. (ap (λ (x : Said). x .values) q, a);
           yes-covers = (λ x. absurd (omega arith), λ f. absurd (subst T c (covers-iff .1 f)));
-          lowest-entry = uncovered-lowest G H;
           is-simulation = related-simulation G H fg fh;
           is-largest = largest G H fg fh;
           writes = ap (λ (x : Said). x .written) q;

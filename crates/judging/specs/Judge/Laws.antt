@@ -13,6 +13,7 @@ use Rattle.files.specs.Decode.Graphs.{decoded-flow}
 use Rattle.files.specs.Decode.Properties.{decoded-property}
 use Rattle.files.specs.Graph.{Graph, Flow}
 use Rattle.files.specs.Outcome.{Said, refuses, says, refusal-at, NoneOf, FirstOf, Matches, answer}
+use Rattle.files.specs.Outcome.Calls as calls
 use Rattle.files.specs.Outcome.Laws.{refused-by, accepted-by}
 use Rattle.files.specs.Property.{Row, Property}
 use Rattle.files.specs.Refusal.{graph, property, refusal}
@@ -21,6 +22,7 @@ use Rattle.judging.specs.TwoFiles.{two-match, two-given, two-say}
 use Rattle.judging.specs.Judge.{judge-room, judge-said, judge-verdict, judge-checks, judge-lines, judged, Judges, judged-answer}
 use Rattle.judging.specs.Levels.{Satisfies, satisfies}
 use Rattle.judging.specs.Levels.Laws.{satisfies-agrees}
+use Rattle.judging.specs.Levels.Greatest.{greatest-solution, holds-solves}
 use Rattle.judging.specs.Levels.Sheet.{sheet, sheet-bytes}
 use Rattle.files.specs.Outcome.{published}
 use Rattle.judging.specs.Levels.Sheet.Laws.{sheet-shows}
@@ -34,6 +36,10 @@ module _ (L : Limits) (g p : List ℕ) (out work : ℕ) where
   -- the lines stand in the published order
   pub judge-order : published (judge-lines L g p out work) ≡ true
   judge-order = refl
+
+  -- and are the call's row of the table
+  pub judge-row : calls.Row L calls.judge (g ∷ p ∷ []) (judge-lines L g p out work)
+  judge-row = record { numbers-are = refl; files-are = refl }
 
   -- refused, by number, file and record, exactly where that comes first in the published order
   pub judge-refused : (n f i : ℕ) → (judged L g p out work ≡ refuses (refusal-at n f i)) ↔ FirstOf (judge-lines L g p out work) n f i
@@ -64,6 +70,8 @@ judge-cases G P s flow wf e = go (satisfies G P) refl (satisfies-agrees G P flow
         record {
           is-flow = flow;
           is-property = wf;
+          solves = holds-solves G P flow wf;
+          greatest = greatest-solution G P flow wf;
           holds-iff = (λ x. i .0 tt, λ x. v);
           fails-iff = (λ x. absurd (omega arith), λ f. absurd (f (i .0 tt)));
           holds-writes = λ x. (ap (λ (x : Said). x .values) q, ap (λ (x : Said). x .written) q);
@@ -75,6 +83,8 @@ judge-cases G P s flow wf e = go (satisfies G P) refl (satisfies-agrees G P flow
         record {
           is-flow = flow;
           is-property = wf;
+          solves = holds-solves G P flow wf;
+          greatest = greatest-solution G P flow wf;
           holds-iff = (λ x. absurd (omega arith), λ f. absurd (i .1 f));
           fails-iff = (λ x f. i .1 f, λ f. v);
           holds-writes = λ x. absurd (omega arith);

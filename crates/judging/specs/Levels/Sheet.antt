@@ -8,8 +8,11 @@ use lib.ListN.{length, getD}
 use Rattle.files.specs.Basics.Lists.{keep, each}
 use Rattle.files.specs.Basics.Least.{least}
 use Rattle.files.specs.Basics.Queue.{breadth-first}
+use Rattle.files.specs.Basics.Tables.{table}
 use Rattle.files.specs.Graph.{Graph, Edge, size, node}
 use Rattle.files.specs.Property.{Row, always, never, returns, not-returns, in-method, not-in-method, both, either, box, row, obliged}
+use Rattle.files.specs.Record.{record-at, count}
+use Rattle.files.specs.declared.record.Record.{Record}
 use Rattle.judging.specs.Levels.{holds, satisfies, rank}
 pub mod Meaning
 pub mod Causes
@@ -28,6 +31,17 @@ pub record Fault : Type 0 where
 -- "A record is node, row, first cause's node and row, second cause's node and row."
 abbrev pub fault-bytes : Fault → List ℕ
 fault-bytes f = f .pair .0 ∷ f .pair .1 ∷ f .first .0 ∷ f .first .1 ∷ f .second .0 ∷ f .second .1 ∷ []
+
+-- the six bytes as a record: its first is called kind, whatever they say
+abbrev pub fault-record : Fault → Record
+fault-record f = record { kind = f .pair .0; first = f .pair .1; second = f .first .0; third = f .first .1; fourth = f .second .0; fifth = f .second .1 }
+
+abbrev pub fault-of : Record → Fault
+fault-of r = record { pair = (r .kind, r .first); first = (r .second, r .third); second = (r .fourth, r .fifth) }
+
+-- the sheet that bytes hold
+pub read-sheet : List ℕ → List Fault
+read-sheet l = table (λ i. fault-of (record-at l i)) 0 (count l)
 
 -- "No cause is node 0, row 255."
 abbrev pub no-cause : ℕ × ℕ

@@ -85,15 +85,16 @@ module _ (G H : Graph) (l : List ℕ) (fg : Flow G) (fh : Flow H) (few : size H 
             matched = λ e m p. let a = c .is-simulation .matched g h x e m p in (a .0, a .1, a .2, a .3, a .4 .2);
           }))
 
--- what compare writes under "yes" is a simulation that covers every entry
-module _ (G H : Graph) (fg : Flow G) (fh : Flow H) (few : size H < 257) where
-  bit-says : (g h : ℕ) → g < size G → h < 256 → has (relation-bytes G H) g h ≡ related G H g h
-  bit-says g h hg hh = ap (λ (n : ℕ). eqb n 1) (relation-bit G H g h hg hh) ∙ flag (related G H g h)
-    where
-      flag : (b : Bool) → eqb (one b) 1 ≡ b
-      flag true = refl
-      flag false = refl
+-- what compare writes has bit h of node g's line where the largest simulation relates the two
+pub bit-says : (G H : Graph) (g h : ℕ) → g < size G → h < 256 → has (relation-bytes G H) g h ≡ related G H g h
+bit-says G H g h hg hh = ap (λ (n : ℕ). eqb n 1) (relation-bit G H g h hg hh) ∙ flag (related G H g h)
+  where
+    flag : (b : Bool) → eqb (one b) 1 ≡ b
+    flag true = refl
+    flag false = refl
 
+-- under "yes" it is a simulation that covers every entry
+module _ (G H : Graph) (fg : Flow G) (fh : Flow H) (few : size H < 257) where
   pub written-covering : T (simulates G H) → Covering G H (relation-bytes G H)
   written-covering t = record {
     is-simulation = record {
@@ -115,7 +116,7 @@ module _ (G H : Graph) (fg : Flow G) (fh : Flow H) (few : size H < 257) where
       s = related-simulation G H fg fh
 
       down : (g h : ℕ) → Says G (relation-bytes G H) g h → T (related G H g h)
-      down g h x = subst T (bit-says g h (x .0) (x .1)) (x .2)
+      down g h x = subst T (bit-says G H g h (x .0) (x .1)) (x .2)
 
       up : (g h : ℕ) → g < size G → h < size H → T (related G H g h) → Says G (relation-bytes G H) g h
-      up g h hg hh r = let k : h < 256 = omega arith in (hg, k, subst T (sym (bit-says g h hg k)) r)
+      up g h hg hh r = let k : h < 256 = omega arith in (hg, k, subst T (sym (bit-says G H g h hg k)) r)

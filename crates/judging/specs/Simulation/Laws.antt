@@ -19,7 +19,7 @@ use Rattle.files.specs.Graph.{Node, Edge, Graph, size, node, Flow}
 use Rattle.files.specs.Line.{relation-line}
 use Rattle.files.specs.Line.Laws.{line-size}
 use Rattle.judging.specs.Sheets.Laws.{least-at, least-none}
-use Rattle.judging.specs.Simulation.{Simulation, Simulates, alike, matching, keeps, refined, related, covered, simulates, uncovered, relation-bytes}
+use Rattle.judging.specs.Simulation.{Simulation, Covered, Simulates, alike, matching, keeps, refined, related, covered, simulates, uncovered, relation-bytes}
 
 pub alike-e : (a b : Node) → T (alike a b) → (b .method ≡ a .method) × (b .ret ≡ a .ret)
 unfolding alike
@@ -161,7 +161,7 @@ module _ (G H : Graph) (fg : Flow G) (fh : Flow H) where
   pub largest : (R : ℕ → ℕ → Type 0) → Simulation G H R → (g h : ℕ) → R g h → T (related G H g h)
   largest R s g h r = related-i g h (s .of-first g h r) (s .of-second g h r) (sim-refined R s (size G * size H) g h r)
 
-  pub covered-e : (g : ℕ) → T (covered G H g) → (h : ℕ) × T ((node H h) .entry) × T (related G H g h)
+  pub covered-e : (g : ℕ) → T (covered G H g) → Covered H (λ g h. T (related G H g h)) g
   unfolding covered
   covered-e g t =
       let r = any-e (λ (h : ℕ). (node H h) .entry && related G H g h) (upto (size H)) t in

@@ -4,6 +4,7 @@ use mathlib.Core.Logic.{_↔_}
 use mathlib.Core.List.{List, [], _∷_}
 use mathlib.Core.Option.{none}
 use Prim.Native.Nat.{ℕ, _≤_, _<_}
+use native.Mathlib.Decide.{decLt}
 use native.Mathlib.Omega.{arith}
 use lib.ListN.{length}
 use Rattle.files.specs.Basics.Says.{says-lt}
@@ -14,6 +15,7 @@ use Rattle.files.specs.Decode.Written.{decode-bytes}
 use Rattle.files.specs.Graph.{Graph, Flow, size}
 use Rattle.files.specs.Interface.{Interface, Of}
 use Rattle.files.specs.Outcome.{Said, refuses, says, refusal-at, NoneOf, FirstOf, Matches, TooLarge, graph-said, answer, answered}
+use Rattle.files.specs.Outcome.Calls as calls
 use Rattle.files.specs.Outcome.Laws.{whole-match, files-match, out-match, refused-by, accepted-by, verdict-is, file-accepted, whole-none, says-too-large, small-enough, whole-none-i, file-none, none-end}
 use Rattle.files.specs.Property.{Row, Property}
 use Rattle.files.specs.Refusal.{graph, property, interface, refusal}
@@ -21,7 +23,8 @@ use Rattle.files.specs.declared.record.Limits.{Limits}
 use Rattle.judging.specs.Levels.{Satisfies}
 use Rattle.judging.specs.Levels.Laws.{satisfies-agrees}
 use Rattle.judging.specs.Simulation.{Simulates}
-use Rattle.maximal.specs.Model.{model, state-at}
+use Rattle.maximal.specs.Model.{State, IsModel, model, state-at}
+use Rattle.maximal.specs.Model.Ordered.{Earlier, earlier-not, state-order}
 use Rattle.maximal.specs.Model.Computed.{is-model}
 use Rattle.maximal.specs.Model.Filed.{model-is-of, model-filed}
 use Rattle.maximal.specs.Model.Maximal.{maximal}
@@ -43,6 +46,10 @@ module _ (L : Limits) (i p : List ℕ) (out work : ℕ) where
   -- the lines stand in the published order
   pub model-order : published (model-lines L i p out work) ≡ true
   model-order = refl
+
+  -- and are the call's row of the table
+  pub model-row : calls.Row L calls.model (i ∷ p ∷ []) (model-lines L i p out work)
+  model-row = record { numbers-are = refl; files-are = refl }
 
   -- refused, by number, file and record, exactly where that comes first in the published order
   pub model-refused : (n f r : ℕ) → (modelled L i p out work ≡ refuses (refusal-at n f r)) ↔ FirstOf (model-lines L i p out work) n f r
@@ -86,11 +93,19 @@ model-cases L I P s wf small e =
       is-the-model = d;
       counted = ap (λ (x : Said). x .values) e ∙ ap (λ (G : Graph). size G ∷ length (G .edges) ∷ []) (sym d);
       of-interface = subst (Of I) (sym d) (model-is-of I P wf);
+      is-model = subst (IsModel I P (state-at I P)) (sym d) (is-model I P wf);
+      ascending = λ i j h k. state-order I P i j h (subst (λ (G : Graph). j < size G) d k);
+      each-once = λ i j h k q. once i j (subst (λ (G : Graph). i < size G) d h) (subst (λ (G : Graph). j < size G) d k) q (decLt i j) (decLt j i);
       simulates-iff = λ G flow of.
           let a = model-simulates-iff I P wf G flow of in
           (λ x. a .0 (subst1 G (decode-graph (s .written)) (model I P) d x), λ f. subst1 G (model I P) (decode-graph (s .written)) (sym d) (a .1 f));
     }
   where
+    once : (i j : ℕ) → i < size (model I P) → j < size (model I P) → state-at I P i ≡ state-at I P j → Dec (i < j) → Dec (j < i) → i ≡ j
+    once i j hi hj q (yes a) b = absurd (earlier-not (state-at I P j) (subst (λ (x : State). Earlier x (state-at I P j)) q (state-order I P i j a hj)))
+    once i j hi hj q (no a) (yes b) = absurd (earlier-not (state-at I P i) (subst (λ (x : State). Earlier x (state-at I P i)) (sym q) (state-order I P j i b hi)))
+    once i j hi hj q (no a) (no b) = omega arith
+
     subst1 : (G H K : Graph) → H ≡ K → Simulates G H → Simulates G K
     subst1 G H K q x = subst (λ (X : Graph). Simulates G X) q x
 

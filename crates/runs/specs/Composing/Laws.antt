@@ -2,22 +2,26 @@
 -- the known graph joined with the model.
 use mathlib.Core.Path.{_≡_, refl, sym, subst}
 use mathlib.Core.Logic.{_⊎_, _↔_}
-use mathlib.Core.List.{List}
+use mathlib.Core.List.{List, [], _∷_}
 use Prim.Native.Nat.{ℕ, _<_}
+use native.Mathlib.Omega.{arith}
 use Rattle.files.specs.Basics.Says.{says-lt, says-or}
 use Rattle.files.specs.Decode.{decode-graph, decode-property, decode-interface, decode-rules}
 use Rattle.files.specs.Decode.Graphs.{decoded-filed}
 use Rattle.files.specs.Decode.Properties.{decoded-property}
 use Rattle.files.specs.Decode.RuleFiles.{decoded-rules}
 use Rattle.files.specs.Graph.{Graph, Flow}
-use Rattle.files.specs.Interface.{Interface}
+use Rattle.files.specs.Interface.{Interface, Of}
 use Rattle.files.specs.Interface.Laws.{labelled-small}
-use Rattle.files.specs.Outcome.{Said, refuses, says, refusal-at, NoneOf, FirstOf, Matches}
-use Rattle.files.specs.Outcome.Laws.{whole-match, scan-match, files-match, out-match, refused-by, accepted-by, verdict-is, file-accepted, whole-none, says-no-start, says-too-large}
+use Rattle.files.specs.Outcome.{Said, refuses, says, refusal-at, line, whole-line, file-lines, out-line, NoneOf, FirstOf, Matches, NoStart, TooLarge}
+use Rattle.files.specs.Outcome.Calls as calls
+use Rattle.files.specs.Outcome.Laws.{whole-match, scan-match, files-match, out-match, refused-by, accepted-by, verdict-is, file-accepted, whole-none, says-no-start, says-too-large, past-line, past-file}
 use Rattle.files.specs.Property.{Row, Property}
 use Rattle.files.specs.Refusal.{graph, property, rules, interface}
 use Rattle.files.specs.Rules.{Monitor, watch}
+use Rattle.files.specs.Sides.{ForeignAt, Shares, Unprovided}
 use Rattle.files.specs.Sides.Laws.{foreign-finds, says-shares, says-unprovided}
+use Rattle.files.specs.Sides.OfInterface.{of-foreign}
 use Rattle.files.specs.declared.record.Limits.{Limits}
 use Rattle.judging.specs.Simulation.{Simulates}
 use Rattle.judging.specs.Simulation.Laws.{simulates-refl}
@@ -101,10 +105,36 @@ module _ (L : Limits) (ki kg oi p r : List ℕ) (m out store work : ℕ) where
   pub compose-order : published (compose-lines L ki kg oi p r m out store work) ≡ true
   compose-order = refl
 
+  -- and are the call's row of the table
+  pub compose-row : calls.Row L calls.compose (ki ∷ kg ∷ oi ∷ p ∷ r ∷ []) (compose-lines L ki kg oi p r m out store work)
+  compose-row = record { numbers-are = refl; files-are = refl }
+
   -- refused, by number, file and record, exactly where that comes first in the published order
   pub compose-refused : (n f k : ℕ) → (composed L ki kg oi p r m out store work ≡ refuses (refusal-at n f k)) ↔ FirstOf (compose-lines L ki kg oi p r m out store work) n f k
   unfolding composed
   compose-refused = refused-by _ _ compose-match said
+
+  -- a known graph of its interface is never refused by 9
+  pub compose-own : Of (decode-interface ki) (decode-graph kg) → (k : ℕ) → FirstOf (compose-lines L ki kg oi p r m out store work) 9 2 k → ⊥
+  compose-own of k x =
+      let start =
+      whole-line 3 (NoStart m) (line 9 2 (ForeignAt (decode-interface ki) kg) (whole-line 9 (Shares (decode-interface ki) (decode-interface oi))
+      (whole-line 10 (Unprovided (compose-sides L ki kg oi p r m out) m)
+      (whole-line 11 (TooLarge L (gives (other-side L ki kg oi p r m out)) ⊎ TooLarge L (compose-graph L ki kg oi p r m out)) (out-line out said)))))
+      in
+      let other = file-lines L 3 interface oi (file-lines L 4 property p (file-lines L 5 rules r start)) in
+      let a0 = past-line (λ y. omega (arith, y .0)) x in
+      let a1 = past-file L 1 interface ki (file-lines L 2 graph kg other) 9 2 k (omega arith) (a0 .1) in
+      let a2 = past-file L 2 graph kg other 9 2 k (omega arith) (a1 .1) in
+      let a3 = past-file L 3 interface oi (file-lines L 4 property p (file-lines L 5 rules r start)) 9 2 k (omega arith) (a2 .1) in
+      let a4 = past-file L 4 property p (file-lines L 5 rules r start) 9 2 k (omega arith) (a3 .1) in
+      let a5 = past-file L 5 rules r start 9 2 k (omega arith) (a4 .1) in
+      let a6 = past-line (λ y. omega (arith, y .0)) (a5 .1) in
+      let a7 = past-line (λ y. of-foreign L (decode-interface ki) kg (a2 .0) of k (y .1 .1 .0)) (a6 .1) in
+      let a8 = past-line (λ y. omega (arith, y .1 .0)) (a7 .1) in
+      let a9 = past-line (λ y. omega (arith, y .0)) (a8 .1) in
+      let a10 = past-line (λ y. omega (arith, y .0)) (a9 .1) in
+      past-line (λ y. omega (arith, y .0)) (a10 .1) .1
 
   -- accepted exactly where nothing applies
   pub compose-accepted : (composed L ki kg oi p r m out store work ≡ says said) ↔ NoneOf (compose-lines L ki kg oi p r m out store work)

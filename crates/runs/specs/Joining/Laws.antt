@@ -2,17 +2,21 @@
 use mathlib.Core.Path.{_≡_, sym, ap, subst, _∙_, refl}
 use mathlib.Core.Logic.{_↔_}
 use mathlib.Core.List.{List, [], _∷_}
-use Prim.Native.Nat.{ℕ}
+use mathlib.Core.Option.{none}
+use Prim.Native.Nat.{ℕ, _<_}
+use native.Mathlib.Omega.{arith}
 use Rattle.files.specs.Decode.{decode-graph, decode-interface, graph-bytes}
 use Rattle.files.specs.Decode.Accepted.{accepted-bytes}
 use Rattle.files.specs.Decode.Graphs.{decoded-filed}
 use Rattle.files.specs.Decode.Written.{decode-bytes}
 use Rattle.files.specs.Interface.{Of}
-use Rattle.files.specs.Outcome.{Said, refuses, says, refusal-at, NoneOf, FirstOf, Matches, answer, graph-said}
-use Rattle.files.specs.Outcome.Laws.{whole-match, scan-match, files-match, out-match, refused-by, accepted-by, verdict-is, file-accepted, whole-none, none-e, says-too-large, small-enough}
+use Rattle.files.specs.Outcome.{Said, refuses, says, refusal-at, Lines, line, whole-line, file-lines, out-line, NoneOf, FirstOf, Matches, TooLarge, answer, graph-said}
+use Rattle.files.specs.Outcome.Calls as calls
+use Rattle.files.specs.Outcome.Laws.{whole-match, scan-match, files-match, out-match, refused-by, accepted-by, verdict-is, file-accepted, whole-none, none-e, says-too-large, small-enough, past-line, past-file}
 use Rattle.files.specs.Refusal.{graph, interface, refusal}
-use Rattle.files.specs.Sides.{ForeignAt}
+use Rattle.files.specs.Sides.{ForeignAt, Shares}
 use Rattle.files.specs.Sides.Laws.{foreign-finds, says-shares, none-foreign}
+use Rattle.files.specs.Sides.OfInterface.{of-foreign}
 use Rattle.files.specs.declared.record.Limits.{Limits}
 use Rattle.runs.specs.Join.Laws.{join-filed, join-of}
 use Rattle.runs.specs.Joining.{join-graph, join-sides, join-said, join-checks, join-lines, joined, Joins, joined-answer}
@@ -27,6 +31,12 @@ module _ (L : Limits) (i1 g1 i2 g2 : List ℕ) (out : ℕ) where
   abbrev said : Said
   said = join-said L i1 g1 i2 g2 out
 
+  -- the lines from 9 on
+  abbrev sides : Lines
+  sides =
+      line 9 2 (ForeignAt (decode-interface i1) g1) (line 9 4 (ForeignAt (decode-interface i2) g2) (whole-line 9 (Shares (decode-interface i1) (decode-interface i2))
+      (whole-line 11 (TooLarge L (join-graph L i1 g1 i2 g2 out)) (out-line out said))))
+
   join-match : Matches (join-checks L i1 g1 i2 g2 out) (join-lines L i1 g1 i2 g2 out)
   join-match =
       files-match L 1 interface i1 _ _ (files-match L 2 graph g1 _ _ (files-match L 3 interface i2 _ _ (files-match L 4 graph g2 _ _
@@ -38,10 +48,44 @@ module _ (L : Limits) (i1 g1 i2 g2 : List ℕ) (out : ℕ) where
   pub join-order : published (join-lines L i1 g1 i2 g2 out) ≡ true
   join-order = refl
 
+  -- and are the call's row of the table
+  pub join-row : calls.Row L calls.join (i1 ∷ g1 ∷ i2 ∷ g2 ∷ []) (join-lines L i1 g1 i2 g2 out)
+  join-row = record { numbers-are = refl; files-are = refl }
+
   -- refused, by number, file and record, exactly where that comes first in the published order
   pub join-refused : (n f r : ℕ) → (joined L i1 g1 i2 g2 out ≡ refuses (refusal-at n f r)) ↔ FirstOf (join-lines L i1 g1 i2 g2 out) n f r
   unfolding joined
   join-refused = refused-by _ _ join-match said
+
+  -- where 9 comes first both graph files are accepted
+  at-sides : (f k : ℕ) → FirstOf (join-lines L i1 g1 i2 g2 out) 9 f k → (refusal L graph g1 ≡ none) × (refusal L graph g2 ≡ none) × FirstOf sides 9 f k
+  at-sides f k x =
+      let a1 = past-file L 1 interface i1 (file-lines L 2 graph g1 (file-lines L 3 interface i2 (file-lines L 4 graph g2 sides))) 9 f k (omega arith) x in
+      let a2 = past-file L 2 graph g1 (file-lines L 3 interface i2 (file-lines L 4 graph g2 sides)) 9 f k (omega arith) (a1 .1) in
+      let a3 = past-file L 3 interface i2 (file-lines L 4 graph g2 sides) 9 f k (omega arith) (a2 .1) in
+      let a4 = past-file L 4 graph g2 sides 9 f k (omega arith) (a3 .1) in
+      (a2 .0, a4 .0, a4 .1)
+
+  -- past 9 of a graph nothing is 9 of a file
+  shared-on : (f k : ℕ) → 0 < f → FirstOf (whole-line 9 (Shares (decode-interface i1) (decode-interface i2)) (whole-line 11 (TooLarge L (join-graph L i1 g1 i2 g2 out)) (out-line out said))) 9 f k → ⊥
+  shared-on f k h x =
+      let a = past-line (λ y. omega (arith, h, y .1 .0)) x in
+      let b = past-line (λ y. omega (arith, y .0)) (a .1) in
+      past-line (λ y. omega (arith, y .0)) (b .1) .1
+
+  -- a graph of its interface is never refused by 9: the first side's ..
+  pub join-own : Of (decode-interface i1) (decode-graph g1) → (k : ℕ) → FirstOf (join-lines L i1 g1 i2 g2 out) 9 2 k → ⊥
+  join-own of k x =
+      let a = at-sides 2 k x in
+      let b = past-line (λ y. of-foreign L (decode-interface i1) g1 (a .0) of k (y .1 .1 .0)) (a .2) in
+      shared-on 2 k (omega arith) (past-line (λ y. omega (arith, y .1 .0)) (b .1) .1)
+
+  -- .. and the second side's
+  pub join-own-second : Of (decode-interface i2) (decode-graph g2) → (k : ℕ) → FirstOf (join-lines L i1 g1 i2 g2 out) 9 4 k → ⊥
+  join-own-second of k x =
+      let a = at-sides 4 k x in
+      let b = past-line (λ y. omega (arith, y .1 .0)) (a .2) in
+      shared-on 4 k (omega arith) (past-line (λ y. of-foreign L (decode-interface i2) g2 (a .1) of k (y .1 .1 .0)) (b .1) .1)
 
   -- accepted exactly where nothing applies
   pub join-accepted : (joined L i1 g1 i2 g2 out ≡ says said) ↔ NoneOf (join-lines L i1 g1 i2 g2 out)

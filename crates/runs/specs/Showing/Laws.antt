@@ -2,7 +2,7 @@
 use mathlib.Core.Path.{_≡_, refl, sym, ap, subst, _∙_}
 use mathlib.Core.Logic.{_↔_}
 use mathlib.Core.Bool.{Bool, true, false, not, cond}
-use mathlib.Core.List.{List, []}
+use mathlib.Core.List.{List, [], _∷_}
 use mathlib.Core.Option.{none}
 use Prim.Native.Nat.{ℕ, _+_, _-_, _≤_, _<_}
 use native.Mathlib.Omega.{arith}
@@ -11,7 +11,8 @@ use Rattle.files.specs.Basics.Says.{says-le}
 use Rattle.files.specs.Decode.{decode-graph, node-rec}
 use Rattle.files.specs.Decode.Canonical.{shown-node}
 use Rattle.files.specs.Graph.{size, node}
-use Rattle.files.specs.Outcome.{Said, refuses, says, refusal-at, NoneOf, FirstOf, Matches, no-lines, answer}
+use Rattle.files.specs.Outcome.{Said, refuses, says, refusal-at, answered, NoneOf, FirstOf, Matches, no-lines, answer}
+use Rattle.files.specs.Outcome.Calls as calls
 use Rattle.files.specs.Outcome.Laws.{whole-match, files-match, refused-by, accepted-by, verdict-is, file-accepted, whole-none, match-end}
 use Rattle.files.specs.Record.{part, six}
 use Rattle.files.specs.Refusal.{graph, refusal}
@@ -35,6 +36,10 @@ module _ (L : Limits) (g1 g2 : List ℕ) (number : ℕ) where
   pub show-order : published (show-lines L g1 g2 number) ≡ true
   show-order = refl
 
+  -- and are the call's row of the table
+  pub show-row : calls.Row L calls.show (g1 ∷ g2 ∷ []) (show-lines L g1 g2 number)
+  show-row = record { numbers-are = refl; files-are = refl }
+
   -- refused, by number, file and record, exactly where that comes first in the published order
   pub show-refused : (n f r : ℕ) → (shown L g1 g2 number ≡ refuses (refusal-at n f r)) ↔ FirstOf (show-lines L g1 g2 number) n f r
   unfolding shown
@@ -44,6 +49,11 @@ module _ (L : Limits) (g1 g2 : List ℕ) (number : ℕ) where
   pub show-accepted : (shown L g1 g2 number ≡ says said) ↔ NoneOf (show-lines L g1 g2 number)
   unfolding shown
   show-accepted = accepted-by _ _ show-match said
+
+  -- the outcome by its checks
+  pub shown-is : shown L g1 g2 number ≡ answered (show-checks L g1 g2 number) said
+  unfolding shown
+  shown-is = refl
 
   -- Whatever the bytes and the number: what showing says where it is not refused.
   pub show-says : (s : Said) → shown L g1 g2 number ≡ says s → Shows (decode-graph g1) (decode-graph g2) number s

@@ -7,13 +7,18 @@ use lib.Dec.{eqb, ltb}
 use lib.ListN.{length}
 use Rattle.files.specs.Basics.Lists.{keep, each, span}
 use Rattle.files.specs.Basics.Shortest.{best}
+use Rattle.files.specs.Basics.Tables.{table}
 use Rattle.files.specs.Basics.Tests.{any}
 use Rattle.files.specs.Graph.{Graph, Edge, size, node}
+use Rattle.files.specs.Record.{record-at, count}
 use Rattle.files.specs.Rules.{calls, Monitor}
+use Rattle.files.specs.declared.record.Record.{Record}
 use Rattle.runs.specs.Runs.{meth}
 use Rattle.runs.specs.Summary.{Place, is-entry-of, callee, spots, all-places}
 pub mod Laws
 pub mod Behind
+pub mod Kinds
+pub mod AnyRun
 pub mod OneRun
 pub mod Examples
 
@@ -29,6 +34,17 @@ pub record Rec : Type 0 where
 -- its bytes, by which trails are compared
 abbrev pub trail-rec-bytes : Rec → List ℕ
 trail-rec-bytes r = r .at ∷ r .state ∷ r .step ∷ r .label ∷ r .to ∷ r .now ∷ []
+
+-- the six bytes as a record: its first is called kind, whatever they say
+abbrev pub trail-record : Rec → Record
+trail-record r = record { kind = r .at; first = r .state; second = r .step; third = r .label; fourth = r .to; fifth = r .now }
+
+abbrev pub rec-of : Record → Rec
+rec-of r = record { at = r .kind; state = r .first; step = r .second; label = r .third; to = r .fourth; now = r .fifth }
+
+-- the trail that bytes hold
+pub read-trail : List ℕ → List Rec
+read-trail l = table (λ i. rec-of (record-at l i)) 0 (count l)
 
 -- before the first record, or at a place
 pub data Where : Type 0 where

@@ -13,14 +13,16 @@ use Rattle.files.specs.Decode.{Filed, decode-graph, decode-interface, decode-ru
 use Rattle.files.specs.Decode.Graphs.{decoded-filed}
 use Rattle.files.specs.Decode.RuleFiles.{decoded-rules}
 use Rattle.files.specs.Graph.{Graph, Edge, Flow}
-use Rattle.files.specs.Outcome.{Said, refuses, says, refusal-at, NoneOf, FirstOf, Matches, NoStart}
+use Rattle.files.specs.Outcome.{Said, refuses, says, refusal-at, line, whole-line, file-lines, out-line, NoneOf, FirstOf, Matches, NoStart}
+use Rattle.files.specs.Outcome.Calls as calls
 use Rattle.files.specs.Outcome.Laws.{whole-match, scan-match, files-match, out-match, refused-by, accepted-by, verdict-is, file-accepted, whole-none, says-no-start, whole-none-i, file-none}
-use Rattle.files.specs.Outcome.Laws.{none-i, none-end}
+use Rattle.files.specs.Outcome.Laws.{none-i, none-end, past-line, past-file}
 use Rattle.files.specs.Refusal.{graph, rules, interface, refusal}
 use Rattle.files.specs.Rules.{Rule, Event, Monitor, watch}
 use Rattle.files.specs.Rules.Laws.{watch-small}
 use Rattle.files.specs.Sides.{ForeignAt, Unprovided, first-foreign, unprovided}
 use Rattle.files.specs.Sides.Laws.{foreign-finds, says-unprovided}
+use Rattle.files.specs.Sides.OfInterface.{of-foreign}
 use Rattle.files.specs.declared.record.Limits.{Limits}
 use Rattle.runs.specs.Prepared.{watch-room}
 use Rattle.runs.specs.Runs.{Bad, Clean}
@@ -29,7 +31,7 @@ use Rattle.runs.specs.Summary.Places.{not-clean-bad, clean-no-bad}
 use Rattle.runs.specs.Summary.Trails.{trail, trail-bytes}
 use Rattle.runs.specs.Summary.Trails.OneRun.{trail-shows}
 use Rattle.runs.specs.Watching.{watch-said, watch-verdict, watch-checks, watch-lines, watched, Watches}
-use Rattle.files.specs.Interface.{Interface}
+use Rattle.files.specs.Interface.{Interface, Of}
 use Rattle.files.specs.Basics.First.{Finds}
 use Rattle.files.specs.Outcome.{published}
 
@@ -88,10 +90,27 @@ module _ (L : Limits) (i g r : List ℕ) (m out work : ℕ) where
   pub watch-order : published (watch-lines L i g r m out work) ≡ true
   watch-order = refl
 
+  -- and are the call's row of the table
+  pub watch-row : calls.Row L calls.watch (i ∷ g ∷ r ∷ []) (watch-lines L i g r m out work)
+  watch-row = record { numbers-are = refl; files-are = refl }
+
   -- refused, by number, file and record, exactly where that comes first in the published order
   pub watch-refused : (n f k : ℕ) → (watched L i g r m out work ≡ refuses (refusal-at n f k)) ↔ FirstOf (watch-lines L i g r m out work) n f k
   unfolding watched
   watch-refused = refused-by _ _ watch-match said
+
+  -- a graph of its interface is never refused by 9
+  pub watch-own : Of (decode-interface i) (decode-graph g) → (k : ℕ) → FirstOf (watch-lines L i g r m out work) 9 2 k → ⊥
+  watch-own of k x =
+      let start = whole-line 3 (NoStart m) (line 9 2 (ForeignAt (decode-interface i) g) (whole-line 10 (Unprovided (decode-interface i) m) (out-line out said))) in
+      let a0 = past-line (λ y. omega (arith, y .0)) x in
+      let a1 = past-file L 1 interface i (file-lines L 2 graph g (file-lines L 3 rules r start)) 9 2 k (omega arith) (a0 .1) in
+      let a2 = past-file L 2 graph g (file-lines L 3 rules r start) 9 2 k (omega arith) (a1 .1) in
+      let a3 = past-file L 3 rules r start 9 2 k (omega arith) (a2 .1) in
+      let a4 = past-line (λ y. omega (arith, y .0)) (a3 .1) in
+      let a5 = past-line (λ y. of-foreign L (decode-interface i) g (a2 .0) of k (y .1 .1 .0)) (a4 .1) in
+      let a6 = past-line (λ y. omega (arith, y .0)) (a5 .1) in
+      past-line (λ y. omega (arith, y .0)) (a6 .1) .1
 
   -- accepted exactly where nothing applies
   pub watch-accepted : (watched L i g r m out work ≡ says said) ↔ NoneOf (watch-lines L i g r m out work)

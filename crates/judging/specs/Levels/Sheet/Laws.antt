@@ -3,22 +3,24 @@
 use mathlib.Core.Path.{_≡_, refl, sym, ap, ap₂, subst, _∙_}
 use mathlib.Core.Logic.{_⊎_, inl, inr}
 use mathlib.Core.Bool.{Bool, true, false, not, cond, _&&_, _||_}
-use mathlib.Core.List.{List, [], _∷_, _++_, map, List·Memᴰ, List·Memᴰ·head, Memᴰ·map, Memᴰ·of-map}
+use mathlib.Core.List.{List, [], _∷_, map, List·Memᴰ, List·Memᴰ·head, Memᴰ·map, Memᴰ·of-map}
 use Prim.Native.Nat.{ℕ, suc, _*_, _<_}
 use lib.Dec.{T, eqb, ltb, leb, eqb→eq, eqb-refl, T-not}
 use lib.ListN.{length, getD, length-map}
 use Rattle.files.specs.Basics.Breadth.{Nearer, in-order}
+use Rattle.files.specs.Basics.InTurn.{InTurn, in-turn, only-in-turn}
 use Rattle.files.specs.Access.{row-held}
 use Rattle.files.specs.Basics.Least.{least, least-passes, least-before, least-lt}
-use Rattle.files.specs.Basics.Lists.{keep, each}
+use Rattle.files.specs.Basics.Lists.{keep, each, each-map, length-each}
 use Rattle.files.specs.Basics.Order.{Ascends}
 use Rattle.files.specs.Basics.Queue.{breadth-first, From, itself, listed, starts-with, onward}
 use Rattle.files.specs.Basics.Tests.{and-l, and-r, and-i, any, any-e, any-i, upto, upto-i, upto-e, grid, grid-i, length-grid, decide, not-not, not-and}
+use Rattle.files.specs.Decode.Listed.{decode-each}
 use Rattle.files.specs.Graph.{Graph, Edge, size, node, Flow}
 use Rattle.files.specs.Property.{Row, always, never, returns, not-returns, in-method, not-in-method, both, either, box, row, obliged, Property}
 use Rattle.judging.specs.Levels.{level, holds, satisfies, rank}
 use Rattle.judging.specs.Levels.Laws.{satisfies-iff}
-use Rattle.judging.specs.Levels.Sheet.{same-pair, Fault, no-cause, obliged-pair, targets, lower, ahead, foremost, box-causes, row-causes, causes, failing, pairs, fault, sheet, fault-bytes, sheet-bytes}
+use Rattle.judging.specs.Levels.Sheet.{same-pair, Fault, no-cause, obliged-pair, targets, lower, ahead, foremost, box-causes, row-causes, causes, failing, pairs, fault, sheet, fault-bytes, fault-record, fault-of, read-sheet, sheet-bytes}
 use Rattle.judging.specs.Levels.Sheet.Causes.{cause-false, reason, cause-lower}
 use Rattle.judging.specs.Levels.Sheet.Meaning.{Wrong, Caused, Lists, SheetShows}
 
@@ -127,6 +129,17 @@ module _ (G : Graph) (P : List Row) (flow : Flow G) (wf : Property P) where
         subst (Ascends (Nearer (causes G P) (failing G P, 0))) walked
         (in-order same-pair same-pair-e same-pair-refl (causes G P) (failing G P, 0) (grid (size G) (length P)) met-in)
 
+    -- strictly: the causes of each pair in turn, each where it is first named ..
+    pub pairs-in-turn : InTurn same-pair (causes G P) (failing G P, 0) (pairs G P)
+    pairs-in-turn =
+        subst (InTurn same-pair (causes G P) (failing G P, 0)) walked
+        (in-turn same-pair same-pair-e same-pair-refl (causes G P) (failing G P, 0) (grid (size G) (length P)) met-in)
+
+    -- .. and no other list of what is reached from the first pair stands in that order
+    pub sheet-order : (xs : List (ℕ × ℕ)) → InTurn same-pair (causes G P) (failing G P, 0) xs → ((x : ℕ × ℕ) → List·Memᴰ x xs → Caused G P x) → xs ≡ pairs G P
+    sheet-order xs t f =
+        only-in-turn same-pair same-pair-e same-pair-refl (causes G P) (failing G P, 0) (grid (size G) (length P)) met-in xs t f ∙ walked
+
   -- ---- the records
 
   sheet-pairs : map (λ (f : Fault). f .pair) (sheet G P) ≡ pairs G P
@@ -149,6 +162,7 @@ module _ (G : Graph) (P : List Row) (flow : Flow G) (wf : Property P) where
     lists = subst (Lists G P) (sym sheet-pairs) (pairs-are bad);
     first-entry = failing-entry bad;
     first-lowest = failing-lowest;
+    in-turn = subst (InTurn same-pair (causes G P) (failing G P, 0)) (sym sheet-pairs) (pairs-in-turn bad);
     breadth-first = subst (Ascends (Nearer (causes G P) (failing G P, 0))) (sym sheet-pairs) (pairs-breadth-first bad);
     names-causes = sheet-causes;
     justified = λ f m. reason G P flow wf (f .pair) (is-wrong bad f m);
@@ -235,10 +249,6 @@ pub fault-is : (G : Graph) (P : List Row) (x : ℕ × ℕ) → fault G P x ≡ r
 unfolding fault
 fault-is G P x = refl
 
-each-map : {A B C : Type 0} (h : B → List C) (f : A → B) (xs : List A) → each h (map f xs) ≡ each (λ (x : A). h (f x)) xs
-each-map h f [] = refl
-each-map h f (x ∷ xs) = ap (λ (ys : List _). h (f x) ++ ys) (each-map h f xs)
-
 pub sheet-bytes-are : (G : Graph) (P : List Row) → sheet-bytes G P ≡ each (λ (x : ℕ × ℕ). fault-bytes (fault G P x)) (pairs G P)
 unfolding sheet-bytes sheet
 sheet-bytes-are G P = each-map fault-bytes (fault G P) (pairs G P)
@@ -247,3 +257,13 @@ sheet-bytes-are G P = each-map fault-bytes (fault G P) (pairs G P)
 pub sheet-length : (G : Graph) (P : List Row) → length (sheet G P) ≡ length (pairs G P)
 unfolding sheet
 sheet-length G P = length-map (pairs G P) (fault G P)
+
+-- six bytes a record
+pub sheet-bytes-length : (G : Graph) (P : List Row) → length (sheet-bytes G P) ≡ 6 * length (sheet G P)
+unfolding sheet-bytes
+sheet-bytes-length G P = length-each 6 fault-bytes (λ f. refl) (sheet G P)
+
+-- the bytes hold the sheet
+pub sheet-read : (G : Graph) (P : List Row) → read-sheet (sheet-bytes G P) ≡ sheet G P
+unfolding sheet-bytes read-sheet
+sheet-read G P = decode-each fault-record fault-of (record { pair = no-cause; first = no-cause; second = no-cause }) (λ f. refl) (sheet G P)

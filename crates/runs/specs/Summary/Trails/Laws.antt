@@ -3,13 +3,14 @@ use mathlib.Core.Path.{_≡_, refl, sym, ap, ap₂, subst, _∙_}
 use mathlib.Core.Logic.{_⊎_, inl, inr, _↔_}
 use mathlib.Core.Bool.{Bool, true, false, not, _&&_}
 use mathlib.Core.List.{List, [], _∷_, _++_, map, List·Memᴰ, List·Memᴰ·head, List·Memᴰ·tail, List·Memᴰ·append-cases, List·Memᴰ·cases-cons, List·Memᴰ·eq-of-singleton, Memᴰ·append-left, Memᴰ·append-right, Memᴰ·map, Memᴰ·of-map}
-use Prim.Native.Nat.{ℕ, suc, _≤_, _<_}
+use Prim.Native.Nat.{ℕ, suc, _≤_, _*_, _<_}
 use native.Mathlib.Omega.{arith}
 use lib.Dec.{T, eqb, eqb→eq, ltb, ltb→lt, lt→ltb, lit<}
 use Rattle.files.specs.Basics.Lexical.{Before}
-use Rattle.files.specs.Basics.Lists.{put, keep, keep-i, keep-e, each, each-i, each-e, span, span-i, span-e}
+use Rattle.files.specs.Basics.Lists.{put, keep, keep-i, keep-e, each, each-i, each-e, length-each, span, span-i, span-e}
 use Rattle.files.specs.Basics.Shortest.{To, there, by, ways, to-ways, short-way, best-to, best-fewest, best-first}
 use Rattle.files.specs.Basics.Tests.{any, any-i, and-i, and-e, eq-eqb}
+use Rattle.files.specs.Decode.Listed.{decode-each}
 use Rattle.files.specs.Graph.{Graph, Edge, size, node, Flow}
 use Rattle.files.specs.Rules.{Event, calls, Monitor}
 use Rattle.runs.specs.Runs.{meth, EntryOf, Runs, Bad}
@@ -18,7 +19,7 @@ use Rattle.runs.specs.Summary.Exact.{exact}
 use Rattle.runs.specs.Summary.Moves.{passes-e, callee-i, no-ret, entry-e, entry-i, into-is, out}
 use Rattle.runs.specs.Summary.Places.{trail-moves, trail-now, places-i}
 use Rattle.runs.specs.Summary.Spots.{spot, spots-sound, spots-complete}
-use Rattle.runs.specs.Summary.Trails.{Rec, trail-rec-bytes, Where, before, here, end, is-bad, started, internal-rec, entered-rec, passed-rec, recs, leaving, trail, trail-bytes}
+use Rattle.runs.specs.Summary.Trails.{Rec, trail-rec-bytes, trail-record, rec-of, read-trail, Where, before, here, end, is-bad, started, internal-rec, entered-rec, passed-rec, recs, leaving, trail, trail-bytes}
 use lib.ListN.{length, getD, length-map}
 
 module _ (G : Graph) (mon : Monitor) (flow : Flow G) (labels-small : (e : Edge) → List·Memᴰ e (G .edges) → e .label < 9)
@@ -255,3 +256,13 @@ leaving-return G mon m x t = ap (each (recs G mon x)) (none (G .edges))
 pub trail-bytes-is : (G : Graph) (mon : Monitor) (m : ℕ) → trail-bytes G mon m ≡ each trail-rec-bytes (trail G mon m)
 unfolding trail-bytes
 trail-bytes-is G mon m = refl
+
+-- six bytes a record
+pub trail-bytes-length : (G : Graph) (mon : Monitor) (m : ℕ) → length (trail-bytes G mon m) ≡ 6 * length (trail G mon m)
+unfolding trail-bytes
+trail-bytes-length G mon m = length-each 6 trail-rec-bytes (λ r. refl) (trail G mon m)
+
+-- the bytes hold the trail
+pub trail-read : (G : Graph) (mon : Monitor) (m : ℕ) → read-trail (trail-bytes G mon m) ≡ trail G mon m
+unfolding trail-bytes read-trail
+trail-read G mon m = decode-each trail-record rec-of (started G mon 0) (λ r. refl) (trail G mon m)
