@@ -150,3 +150,45 @@ fn mutated_files_meet_every_number_but_the_limits() {
     }
     assert!(met.iter().enumerate().all(|(number, &times)| number == 5 || times > 0), "{met:?}");
 }
+
+/// The rows of a property with operator 10.
+fn wide_boxes(property: &[u8]) -> usize {
+    property.chunks(6).filter(|row| row[1] == 10).count()
+}
+
+#[test]
+fn some_properties_have_boxes_over_every_label() {
+    let mut random = Random::new(10);
+    let sources: [fn(&mut Random) -> Vec<u8>; 4] = [
+        |random| generate::property(random, Size::Small),
+        |random| generate::property(random, Size::Large),
+        |random| generate::graded(random, Size::Small).1,
+        |random| generate::composition(random).0[3].clone(),
+    ];
+    for property in sources {
+        let met = (0..2_000).filter(|_| wide_boxes(&property(&mut random)) > 0).count();
+        assert!((400..=1_100).contains(&met), "{met}");
+    }
+}
+
+#[test]
+fn a_box_over_every_label_is_written_out_as_nine() {
+    let mut random = Random::new(11);
+    let ends = [[3, 10, 1, 0, 0, 0], [3, 5, 0, 0, 0, 0]];
+    let boxes = (0..9).map(|label| [3, 9, label, 1, 0, 0]);
+    let ands = (3..10).map(|of| [3, 7, of, if of < 9 { of + 9 } else { 10 }, 0, 0]);
+    let expected: Vec<u8> =
+        [[3, 7, 2, 11, 0, 0], ends[1]].into_iter().chain(boxes).chain(ands).flatten().collect();
+    assert_eq!(generate::written_out(&mut random, &ends.concat()), Some(expected));
+    for rows in 1..=32 {
+        let property = [3, 10, 0, 0, 0, 0].repeat(rows);
+        let Some(written_out) = generate::written_out(&mut random, &property) else {
+            assert!(rows > 16, "{rows}");
+            continue;
+        };
+        assert_eq!(Kind::Property.number(&written_out), 0, "{written_out:?}");
+        assert_eq!(written_out.len(), property.len() + 16 * 6);
+        assert_eq!(wide_boxes(&written_out), rows - 1);
+    }
+    assert_eq!(generate::written_out(&mut random, &ends[1]), None);
+}
