@@ -9,7 +9,7 @@ use native.Mathlib.Nat.{eq-or-lt-of-le, mul-le-mul}
 use native.Mathlib.Numerals.{add-one}
 use native.Mathlib.Decide.{ℕ-discrete}
 use native.Mathlib.Omega.{arith}
-use lib.Dec.{T, T-not, not-T, eqb, ltb, leb, eqb→eq, ltb→lt}
+use lib.Dec.{T, eqb, ltb, leb, ltb→lt}
 use lib.ListN.{length, getD}
 use borrow.Author.Tests.{le-leb, lt-leb}
 use Rattle.files.specs.Access.{row-held, edge-held, first-edge}
@@ -17,7 +17,7 @@ use Rattle.files.specs.Access.Boxes.{looks-obliged, boxed-if, boxed-operator, b
 use Rattle.files.specs.Access.Laws.{first-edge-le, leaves-in, in-leaves, scan-starts}
 use Rattle.files.specs.Basics.First.{first-or}
 use Rattle.files.specs.Basics.Lists.{index-e}
-use Rattle.files.specs.Basics.Tests.{and-l, and-r, or-e, decide}
+use Rattle.files.specs.Basics.Tests.{and-l, and-r}
 use Rattle.files.specs.Cells.{cell, put-cell}
 use Rattle.files.specs.Cells.Laws.{cells-on, cell-apart}
 use Rattle.files.specs.Decode.{decode-graph, decode-property, row-of, Filed}

@@ -155,14 +155,7 @@ fn better(
 }
 
 // The foremost target at node g of box x, or the number of nodes.
-fn foremost(
-    graph: &[u8],
-    property: &[u8],
-    s: Shape,
-    work: &[u8],
-    g: usize,
-    x: PropertyRow,
-) -> usize
+fn foremost(graph: &[u8], property: &[u8], s: Shape, work: &[u8], g: usize, x: PropertyRow) -> usize
     requires { ⌜ (Ready s (now graph) (now property)) × ((g < s .nodes) × ((box-row (x .operator) (x .a) (x .b) < s .rows) × (Settled (decode-graph (now graph)) (decode-property (now property)) (now work)))) ⌝ }
     ensures { λ t. ⌜ t ≡ first-or (best-target (decode-graph (now (graph .entry))) (decode-property (now (property .entry))) g (aims (x .operator) (x .a)) (box-row (x .operator) (x .a) (x .b)) (s .edges)) (s .nodes) ⌝ }
 {
@@ -191,7 +184,10 @@ fn box_cause(
     let t = foremost(graph, property, s, work, g, x);
     let on = obliged(x, 0);
     if t < s.nodes {
-        return Cause { node: t, row: on.at as usize };
+        return Cause {
+            node: t,
+            row: on.at as usize,
+        };
     }
     Cause {
         node: 0,

@@ -1,10 +1,12 @@
 //! What the generator promises.
 
-use generator::extremes::{longest_passing_trail, longest_trail};
+use generator::extremes::{
+    any_label_cycle, dense_line, longest_passing_trail, longest_trail, never_a_return,
+};
 use generator::generate::{self, Kind, Random, Size};
 use generator::relations;
 use second::record::Limits;
-use second::{files, join, watch, Outcome};
+use second::{files, join, judge, watch, Outcome};
 
 #[test]
 fn valid_files_are_accepted() {
@@ -191,4 +193,27 @@ fn a_box_over_every_label_is_written_out_as_nine() {
         assert_eq!(wide_boxes(&written_out), rows - 1);
     }
     assert_eq!(generate::written_out(&mut random, &ends[1]), None);
+}
+
+#[test]
+fn the_dense_line_fails_from_its_end_to_its_entry() {
+    let records = |property: Vec<u8>| match judge(
+        &Limits::DESK,
+        &dense_line(),
+        &property,
+        usize::MAX,
+        0,
+        0,
+    ) {
+        Outcome::Said { verdict: 2, values, .. } => values[0],
+        outcome => panic!("{outcome:?}"),
+    };
+    let written_out = generate::written_out(&mut Random::new(0), &never_a_return());
+    let nine_boxes = written_out.expect("a box over every label, and room");
+    // For each step a box and an "and" row; the literal.
+    assert_eq!(records(never_a_return()), 2 * 255 + 1);
+    // The box of a label has one to eight "and" rows above it, one more with each label: 53 pairs in nine steps.
+    assert_eq!(records(nine_boxes), 28 * 53 + (2 + 3 + 4) + 255 + 1);
+    // Rounds of 30 boxes and an "and" row, until all steps are taken.
+    assert_eq!(records(any_label_cycle()), 9 * 31 + 1);
 }

@@ -1,7 +1,6 @@
 use mathlib.Core.Path.{ap, _∙_}
 use Rattle.files.specs.Property.{aims, box-row}
 use Rattle.files.specs.declared.property.Looks.{Looks}
-use Rattle.judging.specs.declared.causes.Cause.{Cause}
 use Rattle.judging.proofs.CauseLaws.{box-found, box-not-found}
 use borrow.Author.Needs.{needs}
 use Rattle.judging.proofs.causes.box_cause.Statement.{statement}

@@ -18,7 +18,7 @@ use Rattle.files.specs.Property.{Row, always, never, returns, not-returns, in-m
 use Rattle.judging.specs.Levels.{truth, after, level, Holds, holds, Satisfies}
 use Rattle.judging.specs.Levels.Laws.{obliged-named, obliged-box, truth-mono, after-e, after-i, level-next, holds-truth, holds-agrees}
 use Rattle.judging.specs.Levels.Greatest.{greatest-tests}
-use Rattle.judging.specs.Levels.Nine.{NineLabels, Joined, itself, by-first, by-second, New, JoinsNew, Spells, SpellsOut, as-is, one-more}
+use Rattle.judging.specs.Levels.Nine.{NineLabels, Joined, itself, by-first, by-second, JoinsNew, Spells, SpellsOut, as-is, one-more}
 
 -- "row a after each edge, whatever its label"
 pub after-all : (G : Graph) (v : ℕ → ℕ → Bool) (g a : ℕ) → T (after G v g (box-all a)) ↔ ((e : Edge) → List·Memᴰ e (G .edges) → e .from ≡ g → T (v (e .to) a))
