@@ -59,9 +59,10 @@ fn say_operands(op: u8, a: u8, b: u8) {
     say_field(b);
 }
 
-fn say_method(words: &[u8], method: u8) {
+// Words about one method or one row.
+fn say_about(words: &[u8], number: u8) {
     say(words);
-    say_field(method);
+    say_field(number);
 }
 
 fn say_row(i: usize, op: u8, a: u8, b: u8) {
@@ -71,13 +72,14 @@ fn say_row(i: usize, op: u8, a: u8, b: u8) {
     match op {
         1 => say(b"true"),
         2 => say(b"false"),
-        3 => say_method(b"in method", a),
-        4 => say_method(b"not in method", a),
+        3 => say_about(b"in method", a),
+        4 => say_about(b"not in method", a),
         5 => say(b"return"),
         6 => say(b"not return"),
         7 => say_operands(op, a, b),
         8 => say_operands(op, a, b),
         9 => say_operands(op, a, b),
+        10 => say_about(b"after every edge, row", a),
         _ => say(b"no operator of this number"),
     }
 }

@@ -7,16 +7,18 @@ use lib.Dec.{ltb}
 use lib.ListN.{length, getD}
 use Rattle.files.specs.Basics.Tables.{tally}
 use Rattle.files.specs.Graph.{Node, Edge, Graph, no-edge}
-use Rattle.files.specs.Property.{Row}
+use Rattle.files.specs.Property.{Row, aims, box-row}
 use Rattle.files.specs.Rules.{Rule}
 use Rattle.files.specs.Decode.{row-rec}
 use Rattle.files.specs.Refusal.{Kind, graph, property, rules, interface, refusal}
 use Rattle.files.specs.declared.record.Limits.{Limits}
 use Rattle.files.specs.declared.graph.GraphNode.{GraphNode}
 use Rattle.files.specs.declared.graph.GraphEdge.{GraphEdge}
+use Rattle.files.specs.declared.property.Looks.{Looks}
 use Rattle.files.specs.declared.property.PropertyRow.{PropertyRow}
 use Rattle.files.specs.declared.rules.MonitorRule.{MonitorRule}
 pub mod Laws
+pub mod Boxes
 
 -- a file that some limits accept
 pub record AcceptedAs (k : Kind) (l : List ℕ) : Type 0 where
@@ -46,6 +48,10 @@ edge-held e = record { from = e .from; label = e .label; to = e .to }
 -- the operator and its operands, as they stand in the row's record
 abbrev pub row-held : Row → PropertyRow
 row-held x = record { operator = (row-rec x) .first; a = (row-rec x) .second; b = (row-rec x) .third }
+
+-- whether a row as it is read looks along a label, and at which row (Boxes, `looks-obliged`: what the row obliges to)
+abbrev pub looks : PropertyRow → ℕ → Looks
+looks x l = record { along = aims (x .operator) (x .a) l; at = box-row (x .operator) (x .a) (x .b) }
 
 abbrev pub rule-held : Rule → MonitorRule
 rule-held u = record { state = u .state; event = u .event .kind; m1 = u .event .m1; m2 = u .event .m2; next = u .next }

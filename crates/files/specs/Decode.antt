@@ -9,7 +9,7 @@ use Rattle.files.specs.declared.record.Record.{Record}
 use Rattle.files.specs.declared.record.Limits.{Limits}
 use Rattle.files.specs.Record.{record-at, count, node-record, edge-record, row-record, rule-record, interface-record, write}
 use Rattle.files.specs.Graph.{Node, Edge, Graph, no-edge, Flow}
-use Rattle.files.specs.Property.{Row, always, never, returns, not-returns, in-method, not-in-method, both, either, box, row, Property, is-either}
+use Rattle.files.specs.Property.{Row, always, never, returns, not-returns, in-method, not-in-method, both, either, box, box-all, row, Property, is-either}
 use Rattle.files.specs.Rules.{Rule, no-rule}
 use Rattle.files.specs.Interface.{Interface}
 use Rattle.files.specs.Refusal.{nodes-of}
@@ -56,7 +56,7 @@ graph-bytes G = write (graph-recs G)
 
 -- ---- properties
 
--- by operator, a and b
+-- by operator, a and b; there is no operator 0 and none past 10
 abbrev pub row-of : ℕ → ℕ → ℕ → Row
 row-of zero a b = never
 row-of (suc zero) a b = always
@@ -67,7 +67,9 @@ row-of (suc (suc (suc (suc (suc zero))))) a b = returns
 row-of (suc (suc (suc (suc (suc (suc zero)))))) a b = not-returns
 row-of (suc (suc (suc (suc (suc (suc (suc zero))))))) a b = both a b
 row-of (suc (suc (suc (suc (suc (suc (suc (suc zero)))))))) a b = either a b
-row-of (suc (suc (suc (suc (suc (suc (suc (suc (suc n))))))))) a b = box a b
+row-of (suc (suc (suc (suc (suc (suc (suc (suc (suc zero))))))))) a b = box a b
+row-of (suc (suc (suc (suc (suc (suc (suc (suc (suc (suc zero)))))))))) a b = box-all a
+row-of (suc (suc (suc (suc (suc (suc (suc (suc (suc (suc (suc n))))))))))) a b = never
 
 abbrev pub to-row : Record → Row
 to-row r = row-of (r .first) (r .second) (r .third)
@@ -85,6 +87,7 @@ row-rec not-returns = row-record 6 0 0
 row-rec (both a b) = row-record 7 a b
 row-rec (either a b) = row-record 8 a b
 row-rec (box l b) = row-record 9 l b
+row-rec (box-all a) = row-record 10 a 0
 
 pub property-bytes : List Row → List ℕ
 property-bytes P = write (map row-rec P)
@@ -136,6 +139,7 @@ RowIn (not-in-method a) = (1 ≤ a) × (a ≤ 8)
 RowIn (both a b) = Unit {0}
 RowIn (either a b) = Unit {0}
 RowIn (box l b) = l ≤ 8
+RowIn (box-all a) = Unit {0}
 
 pub record FiledRows (L : Limits) (P : List Row) : Type 0 where
   pub rows-named : Property P

@@ -168,7 +168,8 @@ fn row_past(p: Parsed, n: usize) -> bool
     };
     let named_a = n <= (a as usize);
     let named_b = n <= (b as usize);
-    (((operator == 7) | (operator == 8)) & (named_a | named_b)) | ((operator == 9) & named_b)
+    (((operator == 7) | (operator == 8)) & (named_a | named_b))
+        | (((operator == 9) & named_b) | ((operator == 10) & named_a))
 }
 
 // 7: an edge names a node, or a row a row, that is not below n.

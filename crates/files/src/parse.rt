@@ -51,9 +51,10 @@ fn row_wrong(r: Record) -> bool
     let method = (x == 3) | (x == 4);
     let spare = !(r.fourth == 0) | !(r.fifth == 0);
     let method_out = ((r.second < 1) | (8 < r.second)) | !(r.third == 0);
-    ((x < 1) | (9 < x))
+    ((x < 1) | (10 < x))
         | ((none & (!(r.second == 0) | !(r.third == 0)))
-            | ((method & method_out) | (((x == 9) & (8 < r.second)) | spare)))
+            | ((method & method_out)
+                | (((x == 9) & (8 < r.second)) | (((x == 10) & !(r.third == 0)) | spare))))
 }
 
 fn rule_wrong(r: Record) -> bool

@@ -1,7 +1,7 @@
 -- For the code that finds causes: ranks and first edges as their cells hold them, targets as numbers, and causes by a row's operator.
 use mathlib.Core.Path.{_≡_, refl, sym, ap, ap₂, subst, _∙_}
 use mathlib.Core.Logic.{_⊎_, inl, inr}
-use mathlib.Core.Bool.{Bool, false, not, cond, _&&_, _||_}
+use mathlib.Core.Bool.{Bool, true, false, not, cond, _&&_, _||_}
 use mathlib.Core.List.{List, [], _∷_}
 use mathlib.Core.Option.{Option, none, some}
 use Prim.Native.Nat.{ℕ, suc, _+_, _*_, _≤_, _<_}
@@ -13,6 +13,7 @@ use lib.Dec.{T, eqb, ltb, leb, ltb→lt}
 use lib.ListN.{length, getD}
 use borrow.Author.Tests.{le-leb, lt-leb}
 use Rattle.files.specs.Access.{row-held, edge-held, first-edge}
+use Rattle.files.specs.Access.Boxes.{looks-obliged, boxed-if, boxed-operator, box-row-named}
 use Rattle.files.specs.Access.Laws.{first-edge-le, leaves-in, in-leaves, scan-starts}
 use Rattle.files.specs.Basics.First.{first-or}
 use Rattle.files.specs.Basics.Lists.{index-e}
@@ -23,7 +24,7 @@ use Rattle.files.specs.Decode.{decode-graph, decode-property, row-of, Filed}
 use Rattle.files.specs.Decode.Graphs.{decoded-filed}
 use Rattle.files.specs.Decode.Values.{row-written}
 use Rattle.files.specs.Graph.{Graph, size, node, no-edge}
-use Rattle.files.specs.Property.{Row, both, either, box, row, names}
+use Rattle.files.specs.Property.{Row, both, either, row, names, obliged, Boxed, is-box, aims, box-row}
 use Rattle.files.specs.declared.graph.GraphEdge.{GraphEdge}
 use Rattle.files.specs.declared.property.PropertyRow.{PropertyRow}
 use Rattle.judging.specs.declared.causes.Cause.{Cause}
@@ -34,8 +35,8 @@ use Rattle.judging.specs.Levels.Sheet.Laws.{lower-is, ahead-is, box-none
 use Rattle.judging.specs.Ranking.{Ready, rank-at, Ranked}
 use Rattle.judging.specs.Ranking.Files.{size-is, edges-is, rows-is, is-flow, is-property, nodes-fit, rows-fit}
 use Rattle.judging.specs.Ranking.Laws.{ranked-e, ranked-i}
-use Rattle.judging.specs.Sheets.{cause-held, best-target, better}
-use Rattle.judging.specs.Sheets.Laws.{zero-holds, rank-zero, rank-found, within, as-causes, best-none, best-still, best-within, best-on, box-causes-are}
+use Rattle.judging.specs.Sheets.{cause-held, as-causes, best-target, better}
+use Rattle.judging.specs.Sheets.Laws.{zero-holds, rank-zero, rank-found, within, best-none, best-still, best-within, best-on, box-causes-are}
 
 -- ---- scans
 
@@ -111,7 +112,7 @@ module _ (s : Shape) (g p : List ℕ) (ready : Ready s g p) where
       let q : u .to ≡ (getD (G .edges) j no-edge) .to = ap (λ (x : GraphEdge). x .to) e in
       omega (arith, t, q, size-is s g p ready)
 
-  module _ (v l b : ℕ) where
+  module _ (v : ℕ) (l : ℕ → Bool) (b : ℕ) where
     next-is : first-edge G (v + 1) ≡ first-edge G (suc v)
     next-is = ap (first-edge G) (add-one v)
 
@@ -157,29 +158,18 @@ module _ (s : Shape) (g p : List ℕ) (ready : Ready s g p) where
 
     -- ---- the cause of a box
 
-    cause-of : Option ℕ → Cause
-    cause-of o = cause-held (getD (as-causes G P v l b o) 0 no-cause)
-
-    box-is : cause-of (best-target G P v l b (s .edges)) ≡ cause-held (getD (box-causes G P (targets G v (box l b))) 0 no-cause)
-    unfolding cause-of
-    box-is =
-        ap (λ (xs : List (ℕ × ℕ)). cause-held (getD xs 0 no-cause))
-        (ap (λ (n : ℕ). as-causes G P v l b (best-target G P v l b n)) (sym (edges-is s g p ready)) ∙ sym (box-causes-are G P v l b))
-
     module _ (t : ℕ) (is : t ≡ first-or (best-target G P v l b (s .edges)) (s .nodes)) where
-      pub box-found : t < s .nodes → record { node = t; row = b } ≡ cause-held (getD (box-causes G P (targets G v (box l b))) 0 no-cause)
-      unfolding cause-of
-      box-found h = go (best-target G P v l b (s .edges)) is ∙ box-is
+      pub box-found : t < s .nodes → record { node = t; row = b } ≡ cause-held (getD (as-causes b (best-target G P v l b (s .edges))) 0 no-cause)
+      box-found h = go (best-target G P v l b (s .edges)) is
         where
-          go : (o : Option ℕ) → t ≡ first-or o (s .nodes) → record { node = t; row = b } ≡ cause-of o
+          go : (o : Option ℕ) → t ≡ first-or o (s .nodes) → record { node = t; row = b } ≡ cause-held (getD (as-causes b o) 0 no-cause)
           go none e = absurd (omega arith)
           go (some x) e = ap (λ (n : ℕ). record { node = n; row = b }) e
 
-      pub box-not-found : s .nodes ≤ t → record { node = 0; row = 255 } ≡ cause-held (getD (box-causes G P (targets G v (box l b))) 0 no-cause)
-      unfolding cause-of
-      box-not-found h = go (best-target G P v l b (s .edges)) is (is-within (s .edges) (omega arith)) ∙ box-is
+      pub box-not-found : s .nodes ≤ t → record { node = 0; row = 255 } ≡ cause-held (getD (as-causes b (best-target G P v l b (s .edges))) 0 no-cause)
+      box-not-found h = go (best-target G P v l b (s .edges)) is (is-within (s .edges) (omega arith))
         where
-          go : (o : Option ℕ) → t ≡ first-or o (s .nodes) → T (within (s .nodes) o) → record { node = 0; row = 255 } ≡ cause-of o
+          go : (o : Option ℕ) → t ≡ first-or o (s .nodes) → T (within (s .nodes) o) → record { node = 0; row = 255 } ≡ cause-held (getD (as-causes b o) 0 no-cause)
           go none e m = refl
           go (some x) e m = absurd (omega (arith, e, ltb→lt x (s .nodes) m))
 
@@ -197,13 +187,13 @@ module _ (G : Graph) (P : List Row) where
   ahead-by x t b m n d e = ap₂ (λ (i j : ℕ). ltb i j || (eqb i j && leb x t)) d e ∙ sym (ahead-is G P (x, b) (t, b))
 
   -- edge j, read as u, by the three tests on it
-  pub better-is : (u : GraphEdge) (l b n best j : ℕ) (c d a : Bool) → u ≡ edge-held (getD (G .edges) j no-edge) → eqb (u .label) l ≡ c → ltb best n ≡ d → ahead G P (best, b) (u .to, b) ≡ a
+  pub better-is : (u : GraphEdge) (l : ℕ → Bool) (b n best j : ℕ) (c d a : Bool) → u ≡ edge-held (getD (G .edges) j no-edge) → l (u .label) ≡ c → ltb best n ≡ d → ahead G P (best, b) (u .to, b) ≡ a
       → cond c (cond (d && a) best (u .to)) best ≡ better G P l b n best j
   better-is u l b n best j c d a q x y z =
       sym (ap (λ (i : Bool). cond i (cond (ltb best n && ahead G P (best, b) (u .to, b)) best (u .to)) best) x
       ∙ ap (λ (i : Bool). cond c (cond (i && ahead G P (best, b) (u .to, b)) best (u .to)) best) y
       ∙ ap (λ (i : Bool). cond c (cond (d && i) best (u .to)) best) z)
-      ∙ ap (λ (i : GraphEdge). cond (eqb (i .label) l) (cond (ltb best n && ahead G P (best, b) (i .to, b)) best (i .to)) best) q
+      ∙ ap (λ (i : GraphEdge). cond (l (i .label)) (cond (ltb best n && ahead G P (best, b) (i .to, b)) best (i .to)) best) q
 
 -- ---- a row by its operator
 
@@ -221,9 +211,6 @@ module _ (s : Shape) (g p : List ℕ) (ready : Ready s g p) (v r : ℕ) (hr : r 
   either-read : u .operator ≡ 8 → row (decode-property p) r ≡ either (u .a) (u .b)
   either-read = by-operator 8
 
-  box-read : u .operator ≡ 9 → row (decode-property p) r ≡ box (u .a) (u .b)
-  box-read = by-operator 9
-
   named-rows : T (names (s .rows) (row (decode-property p) r))
   named-rows =
       subst (λ (n : ℕ). T (names n (row (decode-property p) r))) (rows-is s g p ready)
@@ -234,8 +221,16 @@ module _ (s : Shape) (g p : List ℕ) (ready : Ready s g p) (v r : ℕ) (hr : r 
       let t : T (ltb (u .a) (s .rows) && ltb (u .b) (s .rows)) = subst (λ (x : Row). T (names (s .rows) x)) (both-read e) named-rows in
       (ltb→lt (u .a) (s .rows) (and-l (ltb (u .a) (s .rows)) (ltb (u .b) (s .rows)) t), ltb→lt (u .b) (s .rows) (and-r (ltb (u .a) (s .rows)) (ltb (u .b) (s .rows)) t))
 
-  pub box-row : u .operator ≡ 9 → u .b < s .rows
-  box-row e = ltb→lt (u .b) (s .rows) (subst (λ (x : Row). T (names (s .rows) x)) (box-read e) named-rows)
+  -- a box, of one label or of all: its operand is a row, and it obliges to it where the code says that it looks along the edge
+  module _ (e : is-box (u .operator) ≡ true) where
+    boxed : Boxed (row (decode-property p) r)
+    boxed = boxed-if (row (decode-property p) r) (subst T (sym e ∙ ap (λ (y : PropertyRow). is-box (y .operator)) is) tt)
+
+    pub box-row-in : box-row (u .operator) (u .a) (u .b) < s .rows
+    box-row-in = subst (λ (y : PropertyRow). box-row (y .operator) (y .a) (y .b) < s .rows) (sym is) (box-row-named (s .rows) (row (decode-property p) r) boxed named-rows)
+
+    box-only : (l : ℕ) → obliged (row (decode-property p) r) l ≡ cond (aims (u .operator) (u .a) l) (some (box-row (u .operator) (u .a) (u .b))) none
+    box-only l = subst (λ (y : PropertyRow). obliged (row (decode-property p) r) l ≡ cond (aims (y .operator) (y .a) l) (some (box-row (y .operator) (y .a) (y .b))) none) (sym is) (looks-obliged (row (decode-property p) r) l)
 
   -- what the code answers as cause i
   abbrev Answers : Cause → ℕ → Type 0
@@ -255,26 +250,33 @@ module _ (s : Shape) (g p : List ℕ) (ready : Ready s g p) (v r : ℕ) (hr : r 
   pub second-either : u .operator ≡ 8 → Answers (record { node = v; row = u .b }) 1
   second-either e = as-listed ((v, u .a) ∷ (v, u .b) ∷ []) 1 (causes-either (decode-graph g) (decode-property p) v r (u .a) (u .b) (either-read e))
 
-  pub first-box : (c : Cause) → u .operator ≡ 9
-      → c ≡ cause-held (getD (box-causes (decode-graph g) (decode-property p) (targets (decode-graph g) v (box (u .a) (u .b)))) 0 no-cause) → Answers c 0
-  first-box c e q = q ∙ as-listed _ 0 (causes-box (decode-graph g) (decode-property p) v r (u .a) (u .b) (box-read e))
+  pub first-box : (c : Cause) → is-box (u .operator) ≡ true
+      → c ≡ cause-held (getD (as-causes (box-row (u .operator) (u .a) (u .b)) (best-target (decode-graph g) (decode-property p) v (aims (u .operator) (u .a)) (box-row (u .operator) (u .a) (u .b)) (s .edges))) 0 no-cause) → Answers c 0
+  first-box c e q =
+      let b = box-row (u .operator) (u .a) (u .b) in
+      q
+      ∙ ap (λ (n : ℕ). cause-held (getD (as-causes b (best-target (decode-graph g) (decode-property p) v (aims (u .operator) (u .a)) b n)) 0 no-cause)) (sym (edges-is s g p ready))
+      ∙ ap (λ (xs : List (ℕ × ℕ)). cause-held (getD xs 0 no-cause))
+      (sym (box-causes-are (decode-graph g) (decode-property p) v (aims (u .operator) (u .a)) b (row (decode-property p) r) (box-only e)))
+      ∙ as-listed _ 0 (causes-box (decode-graph g) (decode-property p) v r (boxed e))
 
-  pub first-rest : (u .operator ≡ 7 → ⊥) → (u .operator ≡ 8 → ⊥) → (u .operator ≡ 9 → ⊥) → Answers (record { node = 0; row = 255 }) 0
-  first-rest d e f =
-      as-listed [] 0 (causes-rest (decode-graph g) (decode-property p) v r (λ q. d (operator-is ∙ q)) (λ q. e (operator-is ∙ q)) (λ q. f (operator-is ∙ q)))
+  no-box : is-box (u .operator) ≡ false → Boxed (row (decode-property p) r) → ⊥
+  no-box n b = subst T (ap (λ (y : PropertyRow). is-box (y .operator)) (sym is) ∙ n) (boxed-operator (row (decode-property p) r) b)
+
+  pub first-rest : (u .operator ≡ 7 → ⊥) → (u .operator ≡ 8 → ⊥) → is-box (u .operator) ≡ false → Answers (record { node = 0; row = 255 }) 0
+  first-rest d e f = as-listed [] 0 (causes-rest (decode-graph g) (decode-property p) v r (λ q. d (operator-is ∙ q)) (λ q. e (operator-is ∙ q)) (no-box f))
 
   pub second-rest : (u .operator ≡ 8 → ⊥) → Answers (record { node = 0; row = 255 }) 1
-  second-rest e = go (ℕ-discrete (u .operator) 7) (ℕ-discrete (u .operator) 9)
+  second-rest e = go (ℕ-discrete (u .operator) 7) (is-box (u .operator)) refl
     where
       one-at-most : (xs : List (ℕ × ℕ)) → no-cause ≡ getD (box-causes (decode-graph g) (decode-property p) xs) 1 no-cause
       one-at-most [] = ap (λ (ys : List (ℕ × ℕ)). getD ys 1 no-cause) (sym (box-none (decode-graph g) (decode-property p)))
       one-at-most (x ∷ xs) = ap (λ (ys : List (ℕ × ℕ)). getD ys 1 no-cause) (sym (box-some (decode-graph g) (decode-property p) x xs))
 
-      go : Dec (u .operator ≡ 7) → Dec (u .operator ≡ 9) → Answers (record { node = 0; row = 255 }) 1
-      go (yes q) d =
+      go : Dec (u .operator ≡ 7) → (t : Bool) → is-box (u .operator) ≡ t → Answers (record { node = 0; row = 255 }) 1
+      go (yes q) t d =
           as-listed ((v, lower (decode-graph g) (decode-property p) v (u .a) (u .b)) ∷ []) 1 (causes-both (decode-graph g) (decode-property p) v r (u .a) (u .b) (both-read q))
-      go (no q) (yes b) =
-          ap cause-held (one-at-most (targets (decode-graph g) v (box (u .a) (u .b))))
-          ∙ as-listed (box-causes (decode-graph g) (decode-property p) (targets (decode-graph g) v (box (u .a) (u .b)))) 1 (causes-box (decode-graph g) (decode-property p) v r (u .a) (u .b) (box-read b))
-      go (no q) (no b) =
-          as-listed [] 1 (causes-rest (decode-graph g) (decode-property p) v r (λ d. q (operator-is ∙ d)) (λ d. e (operator-is ∙ d)) (λ d. b (operator-is ∙ d)))
+      go (no q) true b =
+          ap cause-held (one-at-most (targets (decode-graph g) v (row (decode-property p) r)))
+          ∙ as-listed (box-causes (decode-graph g) (decode-property p) (targets (decode-graph g) v (row (decode-property p) r))) 1 (causes-box (decode-graph g) (decode-property p) v r (boxed b))
+      go (no q) false n = as-listed [] 1 (causes-rest (decode-graph g) (decode-property p) v r (λ d. q (operator-is ∙ d)) (λ d. e (operator-is ∙ d)) (no-box n))

@@ -14,7 +14,7 @@ use borrow.Rule.Slice.PartMut.{midOf, putMid}
 use borrow.Author.Tests.{ne-eqb}
 use Rattle.files.specs.Basics.Lists.{index-e}
 use Rattle.files.specs.Graph.{Graph, size, no-edge}
-use Rattle.files.specs.Property.{Row, always, never, returns, not-returns, in-method, not-in-method, both, either, box, row}
+use Rattle.files.specs.Property.{Row, always, never, returns, not-returns, in-method, not-in-method, both, either, box, box-all, row}
 use Rattle.files.specs.Access.{GraphFile, row-held}
 use Rattle.files.specs.Cells.{cell, put-cell}
 use Rattle.files.specs.Decode.{decode-graph, decode-property}
@@ -52,6 +52,11 @@ operand-is (either a b) i n = refl
 operand-is (box l b) i n = go (eqb i 0)
   where
     go : (c : Bool) → cond (not c) b n ≡ named-or (cond c none (some b)) n
+    go true = refl
+    go false = refl
+operand-is (box-all a) i n = go (eqb i 0)
+  where
+    go : (c : Bool) → cond c a n ≡ named-or (cond c (some a) none) n
     go true = refl
     go false = refl
 

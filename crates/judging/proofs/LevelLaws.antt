@@ -1,8 +1,9 @@
 -- For the code that finds the levels: a rank given, a walk along a chain, a row that leans on a popped pair, and the places of the queue.
 use mathlib.Core.Path.{_≡_, refl, sym, ap, subst, _∙_}
 use mathlib.Core.Logic.{_⊎_, inl, inr}
-use mathlib.Core.Bool.{Bool, true, false, not, _&&_, _||_}
+use mathlib.Core.Bool.{Bool, true, false, not, cond, _&&_, _||_}
 use mathlib.Core.List.{List}
+use mathlib.Core.Option.{none, some, Option·none-ne-some}
 use Prim.Native.Nat.{ℕ, zero, suc, _+_, _*_, _-_, _/_, _%_, _≤_, _<_}
 use native.Mathlib.Nat.{le-refl}
 use native.Mathlib.Decide.{ℕ-discrete}
@@ -10,12 +11,14 @@ use native.Mathlib.Omega.{arith}
 use lib.Dec.{T, eqb, leb}
 use lib.ListN.{length, getD}
 use Rattle.files.specs.Access.{row-held}
+use Rattle.files.specs.Access.Boxes.{boxed-if, boxed-operator}
 use Rattle.files.specs.Basics.Lists.{index-e}
 use Rattle.files.specs.Basics.Tables.{tally-le}
+use Rattle.files.specs.Basics.Tests.{T-eq}
 use Rattle.files.specs.Cells.{cell}
 use Rattle.files.specs.Decode.{decode-graph, decode-property}
 use Rattle.files.specs.Graph.{Graph, size, no-edge}
-use Rattle.files.specs.Property.{Row, both, either, box, row}
+use Rattle.files.specs.Property.{Row, both, either, row, obliged, Boxed, is-box, aims}
 use Rattle.files.specs.declared.refusal.Refusal.{Refusal}
 use Rattle.files.specs.declared.graph.GraphEdge.{GraphEdge}
 use Rattle.files.specs.declared.graph.EdgeAt.{EdgeAt}
@@ -139,12 +142,27 @@ module _ (s : Shape) (g p : List ℕ) (ready : Ready s g p) where
 
   module _ (k tail : ℕ) (w : List ℕ) (f : Finding G P k tail w) (v r q : ℕ) (hv : v < s .nodes) (hq : q < s .rows) (falls : T (not (level G P k v r))) (names : Names (row P q) r)
       (u : PropertyRow) (is : u ≡ row-held (row P q)) where
-    pub box-row : u .operator ≡ 9 → row P q ≡ box (u .a) r
-    box-row e = box-operand G P (row P q) r names (sym (ap (λ (y : PropertyRow). y .operator) is) ∙ e) ∙ ap (λ (y : PropertyRow). box (y .a) r) (sym is)
+    -- a box obliges to the row where the code says that it looks along the edge, and only there
+    module _ (e : is-box (u .operator) ≡ true) where
+      pub is-boxed : Boxed (row P q)
+      is-boxed = boxed-if (row P q) (subst T (sym e ∙ ap (λ (y : PropertyRow). is-box (y .operator)) is) tt)
 
-    module _ (n : u .operator ≡ 9 → ⊥) where
+      obliges : (l : ℕ) → obliged (row P q) l ≡ cond (aims (u .operator) (u .a) l) (some r) none
+      obliges l = box-operand G P (row P q) r is-boxed names l ∙ ap (λ (y : PropertyRow). cond (aims (y .operator) (y .a) l) (some r) none) (sym is)
+
+      pub aims-obliges : (l : ℕ) → T (aims (u .operator) (u .a) l) → obliged (row P q) l ≡ some r
+      aims-obliges l t = obliges l ∙ ap (λ (b : Bool). cond b (some r) none) (T-eq (aims (u .operator) (u .a) l) t)
+
+      pub obliges-aims : (l : ℕ) → obliged (row P q) l ≡ some r → T (aims (u .operator) (u .a) l)
+      obliges-aims l d = go (aims (u .operator) (u .a) l) (sym (obliges l) ∙ d)
+        where
+          go : (b : Bool) → cond b (some r) none ≡ some r → T b
+          go true x = tt
+          go false x = absurd (Option·none-ne-some _ x)
+
+    module _ (n : is-box (u .operator) ≡ false) where
       two : Operands G P (row P q) r
-      two = operands G P (row P q) r ((is-property s g p ready) .names-rows q (row-in q hq)) names (λ e. n (ap (λ (y : PropertyRow). y .operator) is ∙ e))
+      two = operands G P (row P q) r ((is-property s g p ready) .names-rows q (row-in q hq)) names (λ b. subst T (ap (λ (y : PropertyRow). is-box (y .operator)) (sym is) ∙ n) (boxed-operator (row P q) b))
 
       a-is : u .a ≡ two .a
       a-is = ap (λ (y : PropertyRow). y .a) is ∙ two .is-a

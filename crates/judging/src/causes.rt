@@ -3,12 +3,12 @@ ghost use mathlib.Core.Path.{_≡_};
 ghost use Prim.Native.Nat.{_+_, _*_, _≤_, _<_};
 ghost use lib.ListN.{length, getD};
 ghost use Rattle.files.specs.Basics.First.{first-or};
-ghost use Rattle.files.specs.Property.{box};
+ghost use Rattle.files.specs.Property.{aims, box-row};
 ghost use Rattle.files.specs.Decode.{decode-graph, decode-property};
 ghost use Rattle.judging.specs.Levels.{rank};
-ghost use Rattle.judging.specs.Levels.Sheet.{no-cause, ahead, lower, targets, box-causes, causes, failing};
+ghost use Rattle.judging.specs.Levels.Sheet.{no-cause, ahead, lower, causes, failing};
 ghost use Rattle.judging.specs.Ranking.{Ready, Ranked};
-ghost use Rattle.judging.specs.Sheets.{Settled, cause-held, fails-at, best-target, better};
+ghost use Rattle.judging.specs.Sheets.{Settled, cause-held, as-causes, fails-at, best-target, better};
 use crate::shape::Shape;
 use files::cells::get16;
 use files::cells::put16;
@@ -17,7 +17,10 @@ use files::graph::NodeAt;
 use files::graph::edge_at;
 use files::graph::next_first;
 use files::graph::node_at;
+use files::property::PropertyRow;
 use files::property::RowAt;
+use files::property::is_box;
+use files::property::obliged;
 use files::property::row_at;
 
 // A pair of a node and a row; row 255 is none.
@@ -123,26 +126,26 @@ fn is_ahead(
     (rank_x < rank_t) | ((rank_x == rank_t) & (x <= t))
 }
 
-// The better of the target found so far, the number of nodes while there is none, and the target of edge j, if the edge has the label.
+// The better of the target found so far, the number of nodes while there is none, and the target of edge j, if row x looks along it.
 fn better(
     graph: &[u8],
     property: &[u8],
     s: Shape,
     work: &[u8],
-    label: u8,
-    b: usize,
+    x: PropertyRow,
     best: usize,
     j: usize,
 ) -> usize
-    requires { ⌜ (Ready s (now graph) (now property)) × ((b < s .rows) × ((best ≤ s .nodes) × ((j < s .edges) × (Settled (decode-graph (now graph)) (decode-property (now property)) (now work))))) ⌝ }
-    ensures { λ r. ⌜ r ≡ better (decode-graph (now (graph .entry))) (decode-property (now (property .entry))) label b (s .nodes) best j ⌝ }
+    requires { ⌜ (Ready s (now graph) (now property)) × ((box-row (x .operator) (x .a) (x .b) < s .rows) × ((best ≤ s .nodes) × ((j < s .edges) × (Settled (decode-graph (now graph)) (decode-property (now property)) (now work))))) ⌝ }
+    ensures { λ r. ⌜ r ≡ better (decode-graph (now (graph .entry))) (decode-property (now (property .entry))) (aims (x .operator) (x .a)) (box-row (x .operator) (x .a) (x .b)) (s .nodes) best j ⌝ }
 {
     let EdgeAt::Is(edge) = edge_at(graph, s.nodes, j, 0) else {
         return best;
     };
-    if edge.label == label {
+    let on = obliged(x, edge.label);
+    if on.along {
         if best < s.nodes {
-            if is_ahead(graph, property, s, work, b, best, edge.to) {
+            if is_ahead(graph, property, s, work, on.at as usize, best, edge.to) {
                 return best;
             }
         }
@@ -151,45 +154,40 @@ fn better(
     best
 }
 
-// The foremost target of a box for a label and row b at node g, or the number of nodes.
-fn foremost(
-    graph: &[u8],
-    property: &[u8],
-    s: Shape,
-    work: &[u8],
-    g: usize,
-    label: u8,
-    b: usize,
-) -> usize
-    requires { ⌜ (Ready s (now graph) (now property)) × ((g < s .nodes) × ((b < s .rows) × (Settled (decode-graph (now graph)) (decode-property (now property)) (now work)))) ⌝ }
-    ensures { λ t. ⌜ t ≡ first-or (best-target (decode-graph (now (graph .entry))) (decode-property (now (property .entry))) g label b (s .edges)) (s .nodes) ⌝ }
+// The foremost target at node g of box x, or the number of nodes.
+fn foremost(graph: &[u8], property: &[u8], s: Shape, work: &[u8], g: usize, x: PropertyRow) -> usize
+    requires { ⌜ (Ready s (now graph) (now property)) × ((g < s .nodes) × ((box-row (x .operator) (x .a) (x .b) < s .rows) × (Settled (decode-graph (now graph)) (decode-property (now property)) (now work)))) ⌝ }
+    ensures { λ t. ⌜ t ≡ first-or (best-target (decode-graph (now (graph .entry))) (decode-property (now (property .entry))) g (aims (x .operator) (x .a)) (box-row (x .operator) (x .a) (x .b)) (s .edges)) (s .nodes) ⌝ }
 {
     let end = get16(work, Shape::FIRSTS, g + 1) as usize;
     let mut j = get16(work, Shape::FIRSTS, g) as usize;
     let mut best = s.nodes;
     while j < end {
-        best = better(graph, property, s, work, label, b, best, j);
+        best = better(graph, property, s, work, x, best, j);
         j += 1;
     }
     best
 }
 
-// The cause of a box for a label and row b at node g.
+// The cause at node g of box x. (The row that it looks at is the same under every label.)
 fn box_cause(
     graph: &[u8],
     property: &[u8],
     s: Shape,
     work: &[u8],
     g: usize,
-    label: u8,
-    b: usize,
+    x: PropertyRow,
 ) -> Cause
-    requires { ⌜ (Ready s (now graph) (now property)) × ((g < s .nodes) × ((b < s .rows) × (Settled (decode-graph (now graph)) (decode-property (now property)) (now work)))) ⌝ }
-    ensures { λ c. ⌜ c ≡ cause-held (getD (box-causes (decode-graph (now (graph .entry))) (decode-property (now (property .entry))) (targets (decode-graph (now (graph .entry))) g (box label b))) 0 no-cause) ⌝ }
+    requires { ⌜ (Ready s (now graph) (now property)) × ((g < s .nodes) × ((box-row (x .operator) (x .a) (x .b) < s .rows) × (Settled (decode-graph (now graph)) (decode-property (now property)) (now work)))) ⌝ }
+    ensures { λ c. ⌜ c ≡ cause-held (getD (as-causes (box-row (x .operator) (x .a) (x .b)) (best-target (decode-graph (now (graph .entry))) (decode-property (now (property .entry))) g (aims (x .operator) (x .a)) (box-row (x .operator) (x .a) (x .b)) (s .edges))) 0 no-cause) ⌝ }
 {
-    let t = foremost(graph, property, s, work, g, label, b);
+    let t = foremost(graph, property, s, work, g, x);
+    let on = obliged(x, 0);
     if t < s.nodes {
-        return Cause { node: t, row: b };
+        return Cause {
+            node: t,
+            row: on.at as usize,
+        };
     }
     Cause {
         node: 0,
@@ -224,8 +222,8 @@ pub(crate) fn first_cause(
     if x.operator == 8 {
         return Cause { node: g, row: a };
     }
-    if x.operator == 9 {
-        return box_cause(graph, property, s, work, g, x.a, b);
+    if is_box(x.operator) {
+        return box_cause(graph, property, s, work, g, x);
     }
     Cause {
         node: 0,

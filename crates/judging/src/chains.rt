@@ -40,7 +40,7 @@ fn edge_target(graph: &[u8], nodes: usize, e: usize) -> usize
     edge.to
 }
 
-// Operand i of a row, or n: 7 and 8 take rows a and b, 9 takes row b.
+// Operand i of a row, or n: 7 and 8 take rows a and b, 9 takes row b, 10 row a.
 fn operand(operator: u8, a: u8, b: u8, i: usize, n: usize) -> usize
     ensures { λ r. ⌜ r ≡ operand-of operator a b i n ⌝ }
 {
@@ -52,6 +52,9 @@ fn operand(operator: u8, a: u8, b: u8, i: usize, n: usize) -> usize
     }
     if (operator == 9) & !(i == 0) {
         return b as usize;
+    }
+    if (operator == 10) & (i == 0) {
+        return a as usize;
     }
     n
 }

@@ -7,7 +7,7 @@ ghost use lib.Dec.{T, leb};
 ghost use lib.ListN.{length, getD};
 ghost use Rattle.files.specs.Access.{PropertyFile, row-held};
 ghost use Rattle.files.specs.Graph.{no-edge};
-ghost use Rattle.files.specs.Property.{row};
+ghost use Rattle.files.specs.Property.{row, aims};
 ghost use Rattle.files.specs.Record.{count};
 ghost use Rattle.files.specs.Decode.{decode-graph, decode-property};
 ghost use Rattle.judging.specs.Chains.{into};
@@ -20,7 +20,10 @@ use files::graph::EdgeAt;
 use files::graph::NodeAt;
 use files::graph::edge_at;
 use files::graph::node_at;
+use files::property::PropertyRow;
 use files::property::RowAt;
+use files::property::is_box;
+use files::property::obliged;
 use files::property::row_at;
 
 // Gives pair (g, r) rank k + 1 and puts it at the queue's end, unless it has a rank. The queue's end after it.
@@ -144,7 +147,7 @@ pub(crate) fn start(graph: &[u8], property: &[u8], s: Shape, work: &mut [u8]) ->
 
 // ---- the next level
 
-// Gives the next rank to row q at the node that edge e comes from, if the edge has the label of the row.
+// Gives the next rank to row q, read as x, at the node that edge e comes from, if the row looks along the edge.
 fn arrive(
     graph: &[u8],
     property: &[u8],
@@ -152,23 +155,24 @@ fn arrive(
     work: &mut [u8],
     tail: usize,
     e: usize,
-    label: u8,
+    x: PropertyRow,
     q: usize,
     k: u16,
 ) -> usize
-    requires { ⌜ (Ready s (now graph) (now property)) × ((e < s .edges) × ((q < s .rows) × ((Finding (decode-graph (now graph)) (decode-property (now property)) k tail (now work)) × ((getD ((decode-graph (now graph)) .edges) e no-edge) .label ≡ label → T (not (level (decode-graph (now graph)) (decode-property (now property)) (suc k) ((getD ((decode-graph (now graph)) .edges) e no-edge) .from) q)))))) ⌝ }
-    ensures { λ t. ⌜ (Grew (decode-graph (now (graph .entry))) (decode-property (now (property .entry))) k tail t (now (work .entry)) (now (work .exit))) × ((getD ((decode-graph (now (graph .entry))) .edges) e no-edge) .label ≡ label → Given (now (work .exit)) ((getD ((decode-graph (now (graph .entry))) .edges) e no-edge) .from) q) ⌝ }
+    requires { ⌜ (Ready s (now graph) (now property)) × ((e < s .edges) × ((q < s .rows) × ((Finding (decode-graph (now graph)) (decode-property (now property)) k tail (now work)) × (T (aims (x .operator) (x .a) ((getD ((decode-graph (now graph)) .edges) e no-edge) .label)) → T (not (level (decode-graph (now graph)) (decode-property (now property)) (suc k) ((getD ((decode-graph (now graph)) .edges) e no-edge) .from) q)))))) ⌝ }
+    ensures { λ t. ⌜ (Grew (decode-graph (now (graph .entry))) (decode-property (now (property .entry))) k tail t (now (work .entry)) (now (work .exit))) × (T (aims (x .operator) (x .a) ((getD ((decode-graph (now (graph .entry))) .edges) e no-edge) .label)) → Given (now (work .exit)) ((getD ((decode-graph (now (graph .entry))) .edges) e no-edge) .from) q) ⌝ }
 {
     let EdgeAt::Is(edge) = edge_at(graph, s.nodes, e, 0) else {
         return tail;
     };
-    if edge.label == label {
+    let on = obliged(x, edge.label);
+    if on.along {
         return give(work, tail, edge.from, q, k);
     }
     tail
 }
 
-// Gives the next rank to box row q wherever an edge of its label leads to node v.
+// Gives the next rank to box row q, read as x, wherever an edge that it looks along leads to node v.
 fn boxes(
     graph: &[u8],
     property: &[u8],
@@ -176,18 +180,18 @@ fn boxes(
     work: &mut [u8],
     tail: usize,
     v: usize,
-    label: u8,
+    x: PropertyRow,
     q: usize,
     k: u16,
 ) -> usize
-    requires { ⌜ (Ready s (now graph) (now property)) × ((v < s .nodes) × ((q < s .rows) × ((Finding (decode-graph (now graph)) (decode-property (now property)) k tail (now work)) × ((e : ℕ) → e < s .edges → T (into (decode-graph (now graph)) v e) → (getD ((decode-graph (now graph)) .edges) e no-edge) .label ≡ label → T (not (level (decode-graph (now graph)) (decode-property (now property)) (suc k) ((getD ((decode-graph (now graph)) .edges) e no-edge) .from) q)))))) ⌝ }
-    ensures { λ t. ⌜ (Grew (decode-graph (now (graph .entry))) (decode-property (now (property .entry))) k tail t (now (work .entry)) (now (work .exit))) × ((e : ℕ) → e < s .edges → T (into (decode-graph (now (graph .entry))) v e) → (getD ((decode-graph (now (graph .entry))) .edges) e no-edge) .label ≡ label → Given (now (work .exit)) ((getD ((decode-graph (now (graph .entry))) .edges) e no-edge) .from) q) ⌝ }
+    requires { ⌜ (Ready s (now graph) (now property)) × ((v < s .nodes) × ((q < s .rows) × ((Finding (decode-graph (now graph)) (decode-property (now property)) k tail (now work)) × ((e : ℕ) → e < s .edges → T (into (decode-graph (now graph)) v e) → T (aims (x .operator) (x .a) ((getD ((decode-graph (now graph)) .edges) e no-edge) .label)) → T (not (level (decode-graph (now graph)) (decode-property (now property)) (suc k) ((getD ((decode-graph (now graph)) .edges) e no-edge) .from) q)))))) ⌝ }
+    ensures { λ t. ⌜ (Grew (decode-graph (now (graph .entry))) (decode-property (now (property .entry))) k tail t (now (work .entry)) (now (work .exit))) × ((e : ℕ) → e < s .edges → T (into (decode-graph (now (graph .entry))) v e) → T (aims (x .operator) (x .a) ((getD ((decode-graph (now (graph .entry))) .edges) e no-edge) .label)) → Given (now (work .exit)) ((getD ((decode-graph (now (graph .entry))) .edges) e no-edge) .from) q) ⌝ }
 {
     let mut at = get16(work, Shape::NODE_HEADS, v) as usize;
     let mut end = tail;
     while at > 0 {
         let e = at - 1;
-        end = arrive(graph, property, s, work, end, e, label, q, k);
+        end = arrive(graph, property, s, work, end, e, x, q, k);
         at = get16(work, Shape::NODE_NEXTS, e) as usize;
     }
     end
@@ -211,8 +215,8 @@ fn row_on(
     let RowAt::Is(x) = row_at(property, q, 0) else {
         return tail;
     };
-    if x.operator == 9 {
-        return boxes(graph, property, s, work, tail, v, x.a, q, k);
+    if is_box(x.operator) {
+        return boxes(graph, property, s, work, tail, v, x, q, k);
     }
     let a = is_false(work, v, x.a as usize, k);
     let b = is_false(work, v, x.b as usize, k);

@@ -10,7 +10,7 @@ use lib.Dec.{T, T-not, eqb→eq, ltb, ltb→lt}
 use lib.ListN.{length}
 use lib.Pow.{pow-pos, pow-lt}
 use Rattle.files.specs.Basics.Tests.{same-test, same, and-l, and-r, or-e, or-l, or-r}
-use Rattle.files.specs.Property.{Row, always, never, returns, not-returns, in-method, not-in-method, both, either, box, row, names}
+use Rattle.files.specs.Property.{Row, always, never, returns, not-returns, in-method, not-in-method, both, either, box, box-all, row, names}
 use Rattle.maximal.specs.Masks.{member, and-rows, joins, completion}
 use Rattle.maximal.specs.Masks.Laws.{member-or, member-xor, member-one, member-two, member-none, member-lt, members-eq, apart-i, completion-lt, completion-contains, completion-joins, completion-least}
 use Rattle.maximal.proofs.MaskLaws.{member-top}
@@ -26,6 +26,7 @@ member-ands (not-in-method a) r = member-none r
 member-ands (both a b) r = member-two a b r
 member-ands (either a b) r = member-none r
 member-ands (box l b) r = member-none r
+member-ands (box-all a) r = member-none r
 
 and-rows-lt : (n : ℕ) (x : Row) → T (names n x) → and-rows x < 2 ^ n
 and-rows-lt n always t = pow-pos n
@@ -37,6 +38,7 @@ and-rows-lt n (not-in-method a) t = pow-pos n
 and-rows-lt n (both a b) t = or-lt n (2 ^ a) (2 ^ b) (pow-lt (ltb→lt a n (and-l (ltb a n) (ltb b n) t))) (pow-lt (ltb→lt b n (and-r (ltb a n) (ltb b n) t)))
 and-rows-lt n (either a b) t = pow-pos n
 and-rows-lt n (box l b) t = pow-pos n
+and-rows-lt n (box-all a) t = pow-pos n
 
 -- all rows found so far, and those of them whose "and" was worked
 pub record Completing (P : List Row) (s all done : ℕ) : Type 0 where

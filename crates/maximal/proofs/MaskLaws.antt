@@ -14,7 +14,7 @@ use lib.Dec.{T, eqb, ltb→lt}
 use lib.ListN.{length}
 use lib.Pow.{pow-pos, pow-lt, shl-exact, shr-lt, split}
 use Rattle.files.specs.Basics.Tests.{decide, one, any, upto}
-use Rattle.files.specs.Property.{Row, always, never, returns, not-returns, in-method, not-in-method, both, either, box, row, names, obliged}
+use Rattle.files.specs.Property.{Row, always, never, returns, not-returns, in-method, not-in-method, both, either, box, box-all, row, names, obliged}
 use Rattle.maximal.specs.Model.{is-some}
 use Rattle.maximal.specs.Model.Supports.{asked-is}
 use Rattle.maximal.specs.Masks.{member, untrue-at, untrue, obliged-rows, asked-of, mask, rows}
@@ -109,6 +109,7 @@ obliged-lt n (box k b) l t = go (eqb k l)
     go : (c : Bool) → obliged-rows (cond c (some b) none) < 2 ^ n
     go true = pow-lt (ltb→lt b n t)
     go false = pow-pos n
+obliged-lt n (box-all a) l t = pow-lt (ltb→lt a n t)
 
 pub asked-all : (P : List Row) (k l n s : ℕ) → n ≡ length P → k < 2 ^ n → s < 2 ^ n → ((b : ℕ) → member s b ≡ asked-below P k l n b) → s ≡ asked-of P k l
 asked-all P k l n s e h g f =

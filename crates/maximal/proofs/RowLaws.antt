@@ -1,22 +1,25 @@
 -- For the code that reads rows of an accepted property: what it makes of a row's operator and operands is what the row says, and the operands are rows.
 use mathlib.Core.Path.{_≡_, refl, sym, ap, subst, _∙_}
-use mathlib.Core.Bool.{Bool, true, false, not, cond, _&&_, _||_, or-false}
+use mathlib.Core.Bool.{Bool, true, false, not, cond, _||_, or-false}
 use mathlib.Core.List.{List}
 use mathlib.Core.Option.{none, some}
 use Prim.Native.Nat.{ℕ, _^_, _≤_, _<_}
 use native.Mathlib.Omega.{arith}
 use lib.Bits.{bitOr}
-use lib.Dec.{T, eqb, eqb→eq, ltb, ltb→lt}
+use lib.Dec.{T, eqb, ltb, ltb→lt}
 use lib.ListN.{length}
-use Rattle.files.specs.Access.{PropertyFile, row-held}
+use Rattle.files.specs.Access.{PropertyFile, row-held, looks}
+use Rattle.files.specs.Access.Boxes.{looks-obliged}
 use Rattle.files.specs.Basics.Tests.{and-l, and-r}
 use Rattle.files.specs.Decode.{decode-property}
-use Rattle.files.specs.Property.{Row, always, never, returns, not-returns, in-method, not-in-method, both, either, box, row, names, obliged}
+use Rattle.files.specs.Property.{Row, always, never, returns, not-returns, in-method, not-in-method, both, either, box, box-all, row, names, obliged}
 use Rattle.files.specs.Record.{count}
+use Rattle.files.specs.declared.property.Looks.{Looks}
 use Rattle.files.specs.declared.property.PropertyRow.{PropertyRow}
 use Rattle.files.specs.declared.property.RowAt.{RowAt}
 use Rattle.files.specs.declared.property.RowAt.the-variants.{Is as RowIs}
 use Rattle.judging.proofs.HeldLaws.{held-row}
+use Rattle.judging.specs.Levels.Laws.{obliged-named}
 use Rattle.judging.specs.Ranking.{leaf-false}
 use Rattle.maximal.specs.Charting.Files.{file-rows, file-named}
 use Rattle.maximal.specs.Collected.{settlers}
@@ -24,22 +27,20 @@ use Rattle.maximal.specs.Masks.{operands-or, and-rows, untrue-at, oblige
 
 -- ---- what a row's record says
 
--- the operands of operators 7 and 8, and operand b of operator 9, are rows
-operands-rows : (n : ℕ) (x : Row) → T (names n x) → 7 ≤ (row-held x) .operator → ((row-held x) .operator ≤ 8 → (row-held x) .a < n) × ((row-held x) .b < n)
-operands-rows n always t l = absurd (omega arith)
-operands-rows n never t l = absurd (omega arith)
-operands-rows n returns t l = absurd (omega arith)
-operands-rows n not-returns t l = absurd (omega arith)
-operands-rows n (in-method a) t l = absurd (omega arith)
-operands-rows n (not-in-method a) t l = absurd (omega arith)
-operands-rows n (both a b) t l = ((λ h. ltb→lt a n (and-l (ltb a n) (ltb b n) t)), ltb→lt b n (and-r (ltb a n) (ltb b n) t))
-operands-rows n (either a b) t l = ((λ h. ltb→lt a n (and-l (ltb a n) (ltb b n) t)), ltb→lt b n (and-r (ltb a n) (ltb b n) t))
-operands-rows n (box k b) t l = ((λ h. absurd (omega arith)), ltb→lt b n t)
+-- the operands of operators 7 and 8 are rows
+operands-rows : (n : ℕ) (x : Row) → T (names n x) → 7 ≤ (row-held x) .operator → (row-held x) .operator ≤ 8 → ((row-held x) .a < n) × ((row-held x) .b < n)
+operands-rows n always t l h = absurd (omega arith)
+operands-rows n never t l h = absurd (omega arith)
+operands-rows n returns t l h = absurd (omega arith)
+operands-rows n not-returns t l h = absurd (omega arith)
+operands-rows n (in-method a) t l h = absurd (omega arith)
+operands-rows n (not-in-method a) t l h = absurd (omega arith)
+operands-rows n (both a b) t l h = (ltb→lt a n (and-l (ltb a n) (ltb b n) t), ltb→lt b n (and-r (ltb a n) (ltb b n) t))
+operands-rows n (either a b) t l h = (ltb→lt a n (and-l (ltb a n) (ltb b n) t), ltb→lt b n (and-r (ltb a n) (ltb b n) t))
+operands-rows n (box k b) t l h = absurd (omega arith)
+operands-rows n (box-all a) t l h = absurd (omega arith)
 
 -- what the code makes of the operator and the operands
-abbrev pub obliged-rows-by : PropertyRow → ℕ → ℕ
-obliged-rows-by u l = cond (eqb (u .operator) 9 && eqb (u .a) l) (2 ^ u .b) 0
-
 abbrev pub operands-by : PropertyRow → ℕ → ℕ → ℕ
 operands-by u operator other = cond (eqb (u .operator) operator) (bitOr (2 ^ u .a) (2 ^ u .b)) other
 
@@ -56,21 +57,7 @@ and-rows-are (not-in-method a) = refl
 and-rows-are (both a b) = refl
 and-rows-are (either a b) = refl
 and-rows-are (box l b) = refl
-
-obliged-rows-by-row : (x : Row) (l : ℕ) → obliged-rows-by (row-held x) l ≡ obliged-rows (obliged x l)
-obliged-rows-by-row always l = refl
-obliged-rows-by-row never l = refl
-obliged-rows-by-row returns l = refl
-obliged-rows-by-row not-returns l = refl
-obliged-rows-by-row (in-method a) l = refl
-obliged-rows-by-row (not-in-method a) l = refl
-obliged-rows-by-row (both a b) l = refl
-obliged-rows-by-row (either a b) l = refl
-obliged-rows-by-row (box k b) l = go (eqb k l)
-  where
-    go : (c : Bool) → cond c (2 ^ b) 0 ≡ obliged-rows (cond c (some b) none)
-    go true = refl
-    go false = refl
+and-rows-are (box-all a) = refl
 
 pub settlers-are : (x : Row) (r : ℕ) → operands-or x 8 (2 ^ r) ≡ settlers x r
 settlers-are always r = refl
@@ -82,6 +69,7 @@ settlers-are (not-in-method a) r = refl
 settlers-are (both a b) r = refl
 settlers-are (either a b) r = refl
 settlers-are (box l b) r = refl
+settlers-are (box-all a) r = refl
 
 untrue-by-row : (x : Row) (m : ℕ) (f : Bool) → untrue-by (row-held x) m f ≡ untrue-at x m f
 untrue-by-row always m f = refl
@@ -102,6 +90,7 @@ untrue-by-row (not-in-method a) m f = go (eqb m a)
 untrue-by-row (both a b) m f = refl
 untrue-by-row (either a b) m f = refl
 untrue-by-row (box l b) m f = refl
+untrue-by-row (box-all a) m f = refl
 
 -- row v, read as u
 module _ (x : RowAt) (u : PropertyRow) (v : Row) (is : x ≡ RowIs u) (holds : x ≡ RowIs (row-held v)) where
@@ -111,8 +100,20 @@ module _ (x : RowAt) (u : PropertyRow) (v : Row) (is : x ≡ RowIs u) (holds : x
   pub operands-read : (operator other : ℕ) → operands-by u operator other ≡ operands-or v operator other
   operands-read operator other = ap (λ (y : PropertyRow). operands-by y operator other) held
 
-  pub obliged-rows-read : (l : ℕ) → obliged-rows-by u l ≡ obliged-rows (obliged v l)
-  obliged-rows-read l = ap (λ (y : PropertyRow). obliged-rows-by y l) held ∙ obliged-rows-by-row v l
+  -- what it obliges to under a label is what the code finds that it looks at
+  module _ (l : ℕ) (y : Looks) (looked : y ≡ looks u l) (b : Bool) (along : y .along ≡ b) where
+    pub obliged-read : obliged v l ≡ cond b (some (y .at)) none
+    obliged-read =
+        looks-obliged v l
+        ∙ ap (λ (z : Looks). cond (z .along) (some (z .at)) none) (sym (looked ∙ ap (λ (w : PropertyRow). looks w l) held))
+        ∙ ap (λ (d : Bool). cond d (some (y .at)) none) along
+
+    pub obliged-rows-read : cond b (2 ^ y .at) 0 ≡ obliged-rows (obliged v l)
+    obliged-rows-read = go b ∙ ap obliged-rows (sym obliged-read)
+      where
+        go : (d : Bool) → cond d (2 ^ y .at) 0 ≡ obliged-rows (cond d (some (y .at)) none)
+        go true = refl
+        go false = refl
 
   pub untrue-read : (m : ℕ) (f : Bool) → untrue-by u m f ≡ untrue-at v m f
   untrue-read m f = ap (λ (y : PropertyRow). untrue-by y m f) held ∙ untrue-by-row v m f
@@ -130,13 +131,13 @@ module _ (p : List ℕ) (file : PropertyFile p) (n : ℕ) (n-is : n ≡ count p)
 
   -- row r, read as u
   module _ (r : ℕ) (h : r < n) (x : RowAt) (u : PropertyRow) (is : x ≡ RowIs u) (holds : x ≡ RowIs (row-held (row (decode-property p) r))) where
-    operands : 7 ≤ u .operator → (u .operator ≤ 8 → u .a < n) × (u .b < n)
-    operands =
-        subst (λ (y : PropertyRow). 7 ≤ y .operator → (y .operator ≤ 8 → y .a < n) × (y .b < n)) (sym (held-row x u (row (decode-property p) r) is holds))
-        (operands-rows n (row (decode-property p) r) (names-rows r h))
+    read : u ≡ row-held (row (decode-property p) r)
+    read = held-row x u (row (decode-property p) r) is holds
 
     pub pair-below : 7 ≤ u .operator → u .operator ≤ 8 → (u .a < n) × (u .b < n)
-    pair-below l m = let y = operands l in (y .0 m, y .1)
+    pair-below =
+        subst (λ (y : PropertyRow). 7 ≤ y .operator → y .operator ≤ 8 → (y .a < n) × (y .b < n)) (sym read) (operands-rows n (row (decode-property p) r) (names-rows r h))
 
-    pub box-below : (l : ℕ) → (eqb (u .operator) 9 && eqb (u .a) l) ≡ true → u .b < n
-    box-below l e = operands (omega (arith, eqb→eq (u .operator) 9 (and-l (eqb (u .operator) 9) (eqb (u .a) l) (subst T (sym e) tt)))) .1
+    pub looked-below : (l : ℕ) (y : Looks) → y ≡ looks u l → y .along ≡ true → y .at < n
+    looked-below l y looked t =
+        obliged-named n (row (decode-property p) r) l (y .at) (names-rows r h) (obliged-read x u (row (decode-property p) r) is holds l y looked true t)

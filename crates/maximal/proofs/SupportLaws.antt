@@ -16,7 +16,7 @@ use Rattle.files.specs.Basics.Tests.{same-test, T-eq, eq-eqb, and-l, and-r, and
 use Rattle.files.specs.Cells.{cell, put-cell}
 use Rattle.files.specs.Cells.Laws.{length-put-cell, cell-same, cell-other, cell-apart, byte-outside}
 use Rattle.files.specs.Decode.{decode-property}
-use Rattle.files.specs.Property.{Row, always, never, returns, not-returns, in-method, not-in-method, both, either, box, row, names}
+use Rattle.files.specs.Property.{Row, always, never, returns, not-returns, in-method, not-in-method, both, either, box, box-all, row, names}
 use Rattle.files.specs.Record.{count}
 use Rattle.files.specs.declared.property.PropertyRow.{PropertyRow}
 use Rattle.files.specs.declared.property.RowAt.{RowAt}
@@ -109,6 +109,7 @@ row-settled k n (both a b) s r h l t = alone-settled s r
 row-settled k n (either a b) s r h l t =
     ap (λ (c : Bool). member s r && c) (either-settled k s a b h (omega (arith, ltb→lt a n (and-l (ltb a n) (ltb b n) t))) (omega (arith, ltb→lt b n (and-r (ltb a n) (ltb b n) t))))
 row-settled k n (box m b) s r h l t = alone-settled s r
+row-settled k n (box-all a) s r h l t = alone-settled s r
 
 picked-below : {n : ℕ} (b : Bool) (x y c : ℕ) → c ≡ cond b x y → x < n → y < n → c < n
 picked-below true x y c e h k = omega (arith, e, h)

@@ -8,6 +8,7 @@ ghost use Rattle.files.specs.Property.{row, obliged};
 ghost use Rattle.files.specs.Record.{count};
 ghost use Rattle.maximal.specs.Masks.{operands-or, member, and-rows, completion, untrue-at, untrue, obliged-rows, asked-of};
 use files::property::RowAt;
+use files::property::obliged;
 use files::property::row_at;
 
 // Row r is in the set.
@@ -112,8 +113,9 @@ fn obliged_rows(property: &[u8], n: usize, r: usize, label: u8) -> u32
     let RowAt::Is(x) = row_at(property, r, 2) else {
         return 0;
     };
-    if (x.operator == 9) & (x.a == label) {
-        return one_row(x.b as usize);
+    let on = obliged(x, label);
+    if on.along {
+        return one_row(on.at as usize);
     }
     0
 }

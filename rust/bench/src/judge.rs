@@ -2,8 +2,10 @@
 
 use crate::growth::{series, Series, EDGES, NODES, ROWS};
 use crate::inputs::{cases, graph, largest_graph, pair, typical_graph, Timed};
-use generator::extremes::{box_cycle, cycle, dense_cycle, row_cycle};
-use generator::generate::{any_rows, Random};
+use generator::extremes::{
+    any_label_cycle, box_cycle, cycle, dense_cycle, dense_line, never_a_return, row_cycle,
+};
+use generator::generate::{any_rows, written_out, Random};
 use std::io;
 
 pub fn inputs() -> io::Result<Vec<Timed>> {
@@ -21,10 +23,19 @@ pub fn inputs() -> io::Result<Vec<Timed>> {
             largest_graph(&mut random),
             any_rows(&mut random, 32).concat(),
         ),
-        pair("holds, 31 boxes", largest_graph(&mut random), boxes()),
+    ];
+    let largest = largest_graph(&mut random);
+    inputs.extend([
+        pair("holds, 31 boxes", largest.clone(), boxes()),
+        pair("holds, 31 rows of operator 10", largest, boxes_over_every_label()),
         pair("chain of 7,937 levels", cycle(true), row_cycle()),
         pair("dense chain of 7,937 levels", dense_cycle(), box_cycle()),
-    ];
+        pair("dense, 30 rows of operator 10", dense_line(16), any_label_cycle()),
+        pair("dense, one row of operator 10", dense_line(16), never_a_return()),
+        pair("dense, the same by nine boxes", dense_line(16), by_nine_boxes(&never_a_return())),
+        pair("8 edges a node, operator 10", dense_line(8), never_a_return()),
+        pair("8 edges a node, by nine boxes", dense_line(8), by_nine_boxes(&never_a_return())),
+    ]);
     inputs.extend(cases("graph", "property")?);
     Ok(inputs)
 }
@@ -54,8 +65,22 @@ fn mixed(rows: usize) -> Vec<u8> {
 const P6_GRAPH: [[u8; 6]; 3] = [[1, 1, 0, 1, 0, 0], [1, 1, 1, 0, 0, 0], [2, 0, 1, 1, 0, 0]];
 const P6_PROPERTY: [[u8; 6]; 2] = [[3, 9, 1, 1, 0, 0], [3, 6, 0, 0, 0, 0]];
 
-/// Boxes of all labels, each over the next row, and "true" at the end.
+/// Boxes of all labels.
 fn boxes() -> Vec<u8> {
-    let boxes = (0..31).map(|row| [3, 9, row % 9, row + 1, 0, 0]);
-    boxes.chain([[3, 1, 0, 0, 0, 0]]).flatten().collect()
+    above_true(|row| [3, 9, row % 9, row + 1, 0, 0])
+}
+
+fn boxes_over_every_label() -> Vec<u8> {
+    above_true(|row| [3, 10, row + 1, 0, 0, 0])
+}
+
+/// 31 rows, each over the next, and "true" at the end.
+fn above_true(row: fn(u8) -> [u8; 6]) -> Vec<u8> {
+    (0..31).map(row).chain([[3, 1, 0, 0, 0, 0]]).flatten().collect()
+}
+
+/// The property with its only box over every label written out.
+fn by_nine_boxes(property: &[u8]) -> Vec<u8> {
+    // There is no choice that the seed could make.
+    written_out(&mut Random::new(0), property).expect("a box over every label, and room")
 }

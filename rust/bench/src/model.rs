@@ -8,6 +8,7 @@ pub fn inputs() -> io::Result<Vec<Timed>> {
     let mut inputs = vec![
         split("P1", P1),
         split("336 states, refused", include_str!("../data/six-rows-336-states.txt")),
+        split("336 states, operator 10, refused", ANY_LABEL),
         split("255 states, 4,091 edges", FULL),
         split("257 states, refused", PAST_STATES),
         split("4,098 edges, refused", include_str!("../data/past-4098-edges.txt")),
@@ -16,11 +17,15 @@ pub fn inputs() -> io::Result<Vec<Timed>> {
         pair("12 detours, 8 methods", vec![5, 255, 255, 0, 0, 0], next_or_detour(12)),
     ];
     inputs.extend(cases("interface", "property")?);
+    let any_label = cases("interface", "property-wish2")?.into_iter();
+    inputs.extend(any_label.map(|row| Timed { name: row.name + ", operator 10", ..row }));
     Ok(inputs)
 }
 
 const P1: &str = "5 1 1 0 0 0  3 7 1 3 0 0  3 9 1 2 0 0  3 2 0 0 0 0  3 5 0 0 0 0";
 
+/// The same six rows with three of their four boxes over every label; with the fourth there would be 320 states.
+const ANY_LABEL: &str = include_str!("../data/any-label-336-states.txt");
 pub const FULL: &str = include_str!("../data/full-255-states-4091-edges.txt");
 pub const PAST_STATES: &str = include_str!("../data/past-257-states.txt");
 /// The slowest that a climb over properties of 32 rows found.

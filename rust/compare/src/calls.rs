@@ -22,8 +22,14 @@ pub struct Call {
     pub claim: Option<Claim>,
 }
 
+pub struct Claim {
+    pub check: Check,
+    /// What was checked, for the table of a run.
+    pub counts: fn(&Checked) -> String,
+}
+
 /// Checks by other means what a verdict and the bytes written say of an input; ends with a report where it is not so.
-pub type Claim = fn(&Input, u32, &[u8], &mut Random, &mut Checked) -> Result<(), String>;
+pub type Check = fn(&Input, u32, &[u8], &mut Random, &mut Checked) -> Result<(), String>;
 
 /// Ends with a report at the first case on which anything differs.
 pub fn run(random: &mut Random, call: &Call, count: u64) -> Result<(Tally, Checked), String> {
@@ -32,8 +38,8 @@ pub fn run(random: &mut Random, call: &Call, count: u64) -> Result<(Tally, Check
         let case = call.case(random);
         let Ok((answer, written)) = call.compare(&case) else { return Err(call.report(case)) };
         tally.count(answer.verdict, answer.number);
-        if let (Some(claim), 1..) = (call.claim, answer.verdict) {
-            claim(&case.input, answer.verdict, &written, random, &mut checked)
+        if let (Some(claim), 1..) = (&call.claim, answer.verdict) {
+            (claim.check)(&case.input, answer.verdict, &written, random, &mut checked)
                 .map_err(|wrong| format!("{}: {wrong}\n{}", call.name, case.input.listed()))?;
         }
     }

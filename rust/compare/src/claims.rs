@@ -1,23 +1,60 @@
-//! What a composed verdict says, checked by the second implementation on runs and on graphs that conform.
+//! What a composed verdict says, checked by the second implementation on runs and on graphs that conform; and that nine boxes and one over every label get equal verdicts.
 
+use crate::calls::Claim;
 use crate::case::Input;
 use crate::tally::Checked;
 use generator::conforming::Conforming;
-use generator::generate::Random;
+use generator::generate::{written_out, Random};
 use second::files::{check_graph, check_interface, check_property, check_rules};
 use second::graph::Graph;
 use second::record::{Interface, Limits, Row, Rule};
 use second::replay::{replay, Replayed};
 use second::unlimited::{is_bad, joined, satisfies};
 use second::Outcome;
-use tintboulder::{judge, Judged, JUDGE};
+use tintboulder::{judge, Buffers, Judged, JUDGE};
+
+pub const COMPOSED_VERDICT: Claim = Claim {
+    check: composed_verdict,
+    counts: |Checked { replayed, too_long, watched, past_the_limits, .. }| {
+        format!(
+            "{replayed} trails replayed as runs, {too_long} too long; {watched} conforming graphs watched, {past_the_limits} of them past the limits"
+        )
+    },
+};
+
+pub const NINE_BOXES: Claim = Claim {
+    check: nine_boxes,
+    counts: |checked| format!("{} properties judged with nine boxes for one", checked.written_out),
+};
 
 /// Conforming graphs for each clean verdict.
 const GRAPHS: u64 = 100;
 
+/// The verdict stays, also by the proved judge, when a box over every label is written out.
+fn nine_boxes(
+    input: &Input,
+    verdict: u32,
+    _sheet: &[u8],
+    random: &mut Random,
+    checked: &mut Checked,
+) -> Result<(), String> {
+    let [graph, property] = input.files();
+    let Some(property) = written_out(random, property) else { return Ok(()) };
+    let second = second::judge(&Limits::DESK, graph, &property, usize::MAX, 0, 0);
+    if !matches!(second, Outcome::Said { verdict: said, .. } if said == verdict) {
+        return Err(format!("the second judge says otherwise of nine boxes: {second:?}"));
+    }
+    let proved = Buffers::new().judge(graph, &property).map(|said| said.verdict);
+    if !proved.is_ok_and(|judged| (judged == Judged::Holds) == (verdict == 1)) {
+        return Err(format!("the proved judge says otherwise of nine boxes: {proved:?}"));
+    }
+    checked.written_out += 1;
+    Ok(())
+}
+
 /// Bad: the trail is that of a run of the known graph joined with the model. Clean: random graphs that conform satisfy the property, also by the proved judge, and
 /// are clean beside the known graph.
-pub fn composed_verdict(
+fn composed_verdict(
     input: &Input,
     verdict: u32,
     trail: &[u8],
@@ -120,7 +157,7 @@ impl Composition<'_> {
 
 #[cfg(test)]
 mod tests {
-    use super::{composed_verdict, Checked, Input, Random, GRAPHS};
+    use super::{composed_verdict, nine_boxes, Checked, Input, Random, GRAPHS};
 
     const CLEAN: u32 = 1;
     const BAD: u32 = 2;
@@ -161,6 +198,20 @@ mod tests {
             let mut trail = TRAIL.concat();
             trail[at] ^= 1;
             assert!(checked(false, BAD, &trail).is_err(), "{at}");
+        }
+    }
+
+    #[test]
+    fn nine_boxes_get_the_verdict_of_one() {
+        let node = [1, 1, 0, 1, 0, 0];
+        let property = [[3, 10, 1, 0, 0, 0], [3, 5, 0, 0, 0, 0]].concat();
+        let graphs = [(node.to_vec(), 1), ([node, [2, 0, 8, 0, 0, 0]].concat(), 2)];
+        for (graph, verdict) in graphs {
+            let (input, random) = ([graph, property.clone()].into(), &mut Random::new(1));
+            let mut checked = Checked::default();
+            nine_boxes(&input, verdict, &[], random, &mut checked).expect("equal verdicts");
+            assert_eq!(checked.written_out, 1);
+            assert!(nine_boxes(&input, 3 - verdict, &[], random, &mut checked).is_err());
         }
     }
 }

@@ -2,7 +2,7 @@
 
 use crate::calls::Call;
 use crate::case::{buffers, Input};
-use crate::claims::composed_verdict;
+use crate::claims::COMPOSED_VERDICT;
 use generator::generate::{self, Kind, Random, Size};
 use second::{Limits, Sides};
 use tintboulder::{compose_answer, compose_store, compose_work};
@@ -22,7 +22,7 @@ pub const CALL: Call = Call {
     },
     input,
     cases: 1,
-    claim: Some(composed_verdict),
+    claim: Some(COMPOSED_VERDICT),
 };
 
 /// In one composition of twelve a file is damaged.

@@ -1,6 +1,7 @@
 //! Judging in both implementations, and the pairs of files that it is compared on.
 
 use crate::calls::{on_two_files, Call};
+use crate::claims::NINE_BOXES;
 use generator::generate::{self, Kind, Random, Size};
 use second::Limits;
 use tintboulder::JUDGE;
@@ -15,7 +16,7 @@ pub const CALL: Call = Call {
     },
     input: |random| files(random).into(),
     cases: 1,
-    claim: None,
+    claim: Some(NINE_BOXES),
 };
 
 /// One pair in four is about the ranks of "or" rows; of the others one file in six is damaged, and one pair in sixteen is large.

@@ -41,8 +41,8 @@ pub fn run(seed: u64, count: u64) -> Result<(), String> {
     for call in CALLS {
         let (tally, checked) = calls::run(&mut random, call, count)?;
         println!("{}", tally.line(call.name));
-        if call.claim.is_some() {
-            println!("{}", checked.line());
+        if let Some(claim) = &call.claim {
+            println!("{:17}{}", "", (claim.counts)(&checked));
         }
     }
     Ok(())

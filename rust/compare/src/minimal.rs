@@ -57,6 +57,7 @@ fn moved_up(case: &[u8], dropped: usize) -> Vec<u8> {
             (kind::NODE, kind::EDGE, _) => &[1, 3],
             (kind::ROW, kind::ROW, 7 | 8) => &[2, 3],
             (kind::ROW, kind::ROW, 9) => &[3],
+            (kind::ROW, kind::ROW, 10) => &[2],
             _ => &[],
         };
         let of_dropped = numbers.iter().any(|&field| usize::from(record[field]) == dropped);
@@ -90,6 +91,8 @@ mod tests {
         assert_eq!(moved_up(&graph, 1), step);
         let rows = [[3, 9, 2, 2, 0, 0], [3, 1, 0, 0, 0, 0], [3, 8, 0, 2, 0, 0]].concat();
         assert_eq!(moved_up(&rows, 1), [3, 9, 2, 1, 0, 0, 3, 8, 0, 1, 0, 0]);
+        let rows = [[3, 10, 2, 0, 0, 0], [3, 1, 0, 0, 0, 0], [3, 10, 0, 0, 0, 0]].concat();
+        assert_eq!(moved_up(&rows, 1), [3, 10, 1, 0, 0, 0, 3, 10, 0, 0, 0, 0]);
     }
 
     #[test]

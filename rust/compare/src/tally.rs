@@ -42,16 +42,8 @@ pub struct Checked {
     pub watched: u64,
     /// Those of them that are larger than a file may be.
     pub past_the_limits: u64,
-}
-
-impl Checked {
-    pub fn line(&self) -> String {
-        let Checked { replayed, too_long, watched, past_the_limits } = self;
-        format!(
-            "{:17}{replayed} trails replayed as runs, {too_long} too long; {watched} conforming graphs watched, {past_the_limits} of them past the limits",
-            ""
-        )
-    }
+    /// Properties that were judged again with nine boxes in place of one over every label.
+    pub written_out: u64,
 }
 
 fn line(call: &str, said: [String; 3], refused: impl Iterator<Item = String>) -> String {

@@ -1,10 +1,10 @@
-//! Examples of the composed verdict: a side that is not written beside one that is, the refusals, and each case study that has both with each of its properties, from
+//! Examples of the composed verdict: a side that is not written beside one that is, the same by operator 10, the refusals, and each case study that has both with each of its properties, from
 //! each method of both. A call is one file that the program reads: the lengths of the first four files and of the output, two bytes each, low byte first, whether a
 //! store and whether a work buffer is lent, the start method, then the five files.
 
 use crate::cases::Case;
 use crate::examples::with_edges;
-use crate::modelled::{FALSE, LARGE};
+use crate::modelled::{FALSE, LARGE, NO_STEP};
 use crate::watched::{verdict_lines, LONG};
 use crate::Example;
 use second::record::Limits;
@@ -92,6 +92,15 @@ pub fn of_the_paper() -> Vec<Example> {
         whole("no-model-known-side-clean", Composition { rules: CALLING.rules, ..ALONE }),
         whole("no-model-known-side-calls-it", Composition { property: &[FALSE], ..RETURNED_TO }),
         whole("no-known-node", Composition { graph: &[], start: 2, ..CALLING }),
+    ]
+}
+
+/// The other side takes no step, whatever its label; it may return.
+pub fn of_any_label() -> Vec<Example> {
+    let property = &NO_STEP[1..];
+    vec![
+        whole("any-step-is-forbidden", Composition { property, ..CALLING }),
+        whole("any-step-is-forbidden-but-return", Composition { property, ..RETURNED_TO }),
     ]
 }
 

@@ -18,6 +18,7 @@ pub fn small() -> Vec<Example> {
     let mut all = vec![cut];
     all.extend(graphs());
     all.extend(others());
+    all.extend(of_any_label());
     all
 }
 
@@ -53,6 +54,26 @@ fn others() -> Vec<Example> {
         example("interface-one", &[interface]),
         example("interface-two", &[interface, interface]),
         example("interface-unused-byte-not-0", &[[5, 1, 0, 1, 0, 0]]),
+    ]
+}
+
+/// Operator 10: the row after each edge, whatever its label.
+pub const fn any_label(row: u8) -> Record {
+    [3, 10, row, 0, 0, 0]
+}
+
+fn of_any_label() -> Vec<Example> {
+    vec![
+        example("property-operator-11", &[[3, 11, 0, 0, 0, 0]]),
+        example("property-any-second-operand-not-0", &[[3, 10, 0, 1, 0, 0]]),
+        example("property-any-fifth-byte-not-0", &[[3, 10, 0, 0, 1, 0]]),
+        example("property-any-sixth-byte-not-0", &[[3, 10, 0, 0, 0, 1]]),
+        example("property-any-3-before-7", &[[3, 10, 255, 1, 0, 0]]),
+        example("property-any-row-past-the-last", &[any_label(1)]),
+        example("property-any-row-255", &[any_label(255)]),
+        example("property-any-row-is-the-last", &[any_label(1), [3, 1, 0, 0, 0, 0]]),
+        // More than there may be "or" rows.
+        example("property-13-any-rows", &[any_label(0); 13]),
     ]
 }
 

@@ -1,7 +1,8 @@
-//! Examples of judging: those of the paper, its refusals, and every graph of a case study with every property of that case.
+//! Examples of judging: those of the paper and of operator 10, its refusals, and every graph of a case study with every property of that case.
 
 use crate::calls::{decimals, example, of_pairs, Call};
 use crate::cases::Case;
+use crate::examples::any_label;
 use crate::Example;
 use second::record::Limits;
 use second::{judge, Outcome};
@@ -36,6 +37,32 @@ pub fn of_the_paper() -> Vec<Example> {
         simple("later-or-operand", &call, &[[3, 8, 1, 2, 0, 0], FALSE, [3, 9, 1, 1, 0, 0]]),
         simple("graph-before-property", &[RETURN], &[NODE]),
         simple("property-refused", &[NODE], &[]),
+    ]
+}
+
+/// Boxes over every label.
+pub fn of_any_label() -> Vec<Example> {
+    let [return_node, node]: [[u8; 6]; 2] = [[1, 1, 1, 0, 0, 0], [1, 1, 0, 0, 0, 0]];
+    let returns = [any_label(1), RETURN];
+    let one_target_fails = [NODE, return_node, node, [2, 0, 1, 1, 0, 0], [2, 0, 2, 2, 0, 0]];
+    let equal_ranks = [NODE, node, node, [2, 0, 1, 2, 0, 0], [2, 0, 2, 1, 0, 0]];
+    // Row 1 has rank 3 at node 1 and rank 2 at node 2.
+    let ranks = [
+        [1, 1, 1, 1, 0, 0],
+        return_node,
+        node,
+        [2, 0, 4, 1, 0, 0],
+        [2, 0, 5, 2, 0, 0],
+        [2, 1, 0, 2, 0, 0],
+    ];
+    let later_and_now = [any_label(1), [3, 7, 2, 3, 0, 0], any_label(3), RETURN];
+    vec![
+        simple("any-of-itself", &[NODE], &[any_label(0)]),
+        simple("any-of-no-edge", &[NODE], &[any_label(1), FALSE]),
+        simple("any-one-target-fails", &one_target_fails, &returns),
+        simple("any-lower-node-before-lower-label", &equal_ranks, &returns),
+        simple("any-lower-rank-before-lower-node", &ranks, &later_and_now),
+        simple("any-loop-by-label-8", &[NODE, [2, 0, 8, 0, 0, 0]], &returns),
     ]
 }
 

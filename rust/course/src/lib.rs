@@ -35,12 +35,14 @@ pub fn examples() -> io::Result<Vec<Example>> {
     all.extend(examples::at_the_limits());
     all.extend(cases.iter().flat_map(cases::Case::examples));
     all.extend(judged::of_the_paper());
+    all.extend(judged::of_any_label());
     all.extend(judged::of_lent_buffers());
     all.extend(judged::of_cases(&cases));
     all.extend(compared::of_the_paper());
     all.extend(compared::of_lent_buffers());
     all.extend(compared::of_cases(&cases));
     all.extend(modelled::of_the_paper());
+    all.extend(modelled::of_any_label());
     all.extend(modelled::of_lent_buffers());
     all.extend(modelled::of_cases(&cases));
     all.extend(joined::of_the_paper());
@@ -52,6 +54,7 @@ pub fn examples() -> io::Result<Vec<Example>> {
     all.extend(watched::of_lent_buffers());
     all.extend(watched::of_cases(&cases));
     all.extend(composed::of_the_paper());
+    all.extend(composed::of_any_label());
     all.extend(composed::of_refusals());
     all.extend(composed::at_the_limits());
     all.extend(composed::of_lent_buffers());

@@ -2,7 +2,7 @@
 
 use crate::calls::decimals;
 use crate::cases::Case;
-use crate::modelled::{FALSE, ITSELF, LARGE, P1};
+use crate::modelled::{FALSE, ITSELF, LARGE, NO_STEP, P1};
 use second::record::{Limits, RECORD_LEN};
 use second::{model, Outcome};
 
@@ -31,7 +31,7 @@ impl Run {
     }
 }
 
-/// Every run: the paper's, each refusal that the program can meet, short and over-long inputs, and the case studies.
+/// Every run: the paper's, one by operator 10, each refusal that the program can meet, short and over-long inputs, and the case studies.
 pub fn runs(cases: &[Case]) -> Vec<Run> {
     let with = |property: &[[u8; 6]]| [ONE.to_vec(), property.concat()].concat();
     let longer = |bytes: usize| [with(&[ITSELF]), vec![3; bytes]].concat();
@@ -39,6 +39,7 @@ pub fn runs(cases: &[Case]) -> Vec<Run> {
         Run::new("p1", P1.concat()),
         Run::new("p2", with(&[ITSELF])),
         Run::new("p3", with(&[FALSE])),
+        Run::new("any-no-step", NO_STEP.concat()),
         Run::new("refused-1-property-of-5-bytes", with(&[ITSELF])[..11].to_vec()),
         Run::new("refused-2-node-as-row", with(&[[1, 1, 0, 0, 0, 0]])),
         Run::new("refused-3-operator-0", with(&[[3, 0, 0, 0, 0, 0]])),

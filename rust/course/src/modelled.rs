@@ -1,7 +1,8 @@
-//! Examples of modelling: those of the paper, its refusals, and every interface of a case study with every property of that case.
+//! Examples of modelling: those of the paper and of operator 10, its refusals, and every interface of a case study with every property of that case.
 
 use crate::calls::{decimals, example, of_pairs, Call};
 use crate::cases::Case;
+use crate::examples::any_label;
 use crate::Example;
 use second::record::Limits;
 use second::{model, Outcome};
@@ -16,6 +17,8 @@ pub const ITSELF: Record = [3, 8, 0, 0, 0, 0];
 pub const FALSE: Record = [3, 2, 0, 0, 0, 0];
 pub const P1: [Record; 5] =
     [[5, 1, 1, 0, 0, 0], [3, 7, 1, 3, 0, 0], [3, 9, 1, 2, 0, 0], FALSE, [3, 5, 0, 0, 0, 0]];
+/// No step, whatever its label.
+pub const NO_STEP: [Record; 3] = [[5, 1, 1, 0, 0, 0], any_label(1), FALSE];
 /// Six rows whose model has 336 states with eight methods and one label.
 pub const LARGE: [Record; 7] = [
     [5, 255, 1, 0, 0, 0],
@@ -46,6 +49,23 @@ pub fn of_the_paper() -> Vec<Example> {
         simple("11-336-states", &LARGE),
         simple("interface-refused", &[[5, 1, 0, 1, 0, 0], ITSELF]),
         simple("property-refused", &[ONE]),
+    ]
+}
+
+/// Boxes over every label.
+pub fn of_any_label() -> Vec<Example> {
+    let beside_a_box = [
+        [5, 1, 2, 0, 0, 0],
+        [3, 7, 1, 2, 0, 0],
+        any_label(3),
+        [3, 9, 2, 4, 0, 0],
+        [3, 5, 0, 0, 0, 0],
+        [3, 3, 1, 0, 0, 0],
+    ];
+    vec![
+        simple("any-no-step", &NO_STEP),
+        simple("any-of-itself", &[[5, 1, 6, 0, 0, 0], any_label(0)]),
+        simple("any-beside-a-box", &beside_a_box),
     ]
 }
 

@@ -4,7 +4,7 @@ use crate::generate::{
     graph_of, interface_of, property, rule_file, scattered, Key, Random, Size, LIMITS,
 };
 use crate::graphs::{labels_of, members};
-use crate::properties::{any_rows, guarded};
+use crate::properties::{any_rows, guarded, widened};
 use crate::runs::{CALL, RETURN_TO};
 use crate::sides::foreign;
 use second::record::{kind, Interface, BAD, METHODS, RECORD_LEN};
@@ -87,7 +87,8 @@ fn other_property(random: &mut Random, interface: Interface, forbidden: u8) -> V
         0 => property(random, Size::Large),
         1..=16 => {
             let rows = 1 + random.below(4);
-            any_rows(random, rows).concat()
+            let records = any_rows(random, rows);
+            widened(random, records)
         }
         _ => guarded(random, interface, forbidden),
     }

@@ -27,7 +27,7 @@ fn change_bytes(random: &mut Random, bytes: &mut [u8]) {
     for _ in 0..1 + random.below(3) {
         if !bytes.is_empty() {
             let at = random.below(bytes.len());
-            bytes[at] = random.byte() % random.pick(&[10, 255]);
+            bytes[at] = random.byte() % random.pick(&[12, 255]);
         }
     }
 }
@@ -94,7 +94,9 @@ fn misdirect(random: &mut Random, kind: Kind, bytes: &mut Vec<u8>) {
         }
         Kind::Property => {
             let at = random.below(count) * RECORD_LEN;
-            bytes[at..at + RECORD_LEN].copy_from_slice(&[kind::ROW, 9, label(random), past, 0, 0]);
+            let label = label(random);
+            let boxes = [[kind::ROW, 9, label, past, 0, 0], [kind::ROW, 10, past, 0, 0, 0]];
+            bytes[at..at + RECORD_LEN].copy_from_slice(&random.pick(&boxes));
         }
         Kind::Rules | Kind::Interface => change_bytes(random, bytes),
     }

@@ -3,7 +3,7 @@
 use crate::generate::{interface_of, LIMITS};
 use crate::graphs::{graph_file, node, Edges};
 use crate::runs::{CALL, RETURN_TO};
-use second::record::{kind, Record, BAD};
+use second::record::{kind, Record, BAD, LABELS};
 
 const LAST: u8 = (LIMITS.nodes - 1) as u8;
 const LITERAL: u8 = (LIMITS.rows - 1) as u8;
@@ -24,14 +24,44 @@ pub fn dense_cycle() -> Vec<u8> {
     graph_file(&cycle_nodes(true), &edges)
 }
 
+/// A line from the entry to a return node by the last label, and steps of each node to itself and to nodes before it, as many as to make up the number of edges a node, by
+/// every other label in turn: they turn false after it, and the entry last.
+pub fn dense_line(edges_a_node: usize) -> Vec<u8> {
+    let last_label = LABELS as u8 - 1;
+    let nodes: Vec<Record> = (0..=LAST).map(|at| node(1, at == LAST, at == 0)).collect();
+    let mut edges: Edges = (0..LAST).map(|at| (at, last_label, at + 1)).collect();
+    for from in 0..=LAST {
+        let back = (0..=from).rev().take(edges_a_node - 1);
+        edges.extend(back.map(|to| (from, (from - to) % last_label, to)));
+    }
+    graph_file(&nodes, &edges)
+}
+
 /// Row 0 comes back to itself through a box and "and" rows, the last of which also demands the literal at the end: 7,937 levels on the cycle.
 pub fn row_cycle() -> Vec<u8> {
-    rows_around(|next| [kind::ROW, 7, next, next, 0, 0])
+    rows_around(STEP, |next| [kind::ROW, 7, next, next, 0, 0])
 }
 
 /// The same with boxes in place of the "and" rows, each of which looks at all calls of a node: as many levels on the dense cycle.
 pub fn box_cycle() -> Vec<u8> {
-    rows_around(|next| [kind::ROW, 9, 1, next, 0, 0])
+    rows_around(STEP, |next| [kind::ROW, 9, 1, next, 0, 0])
+}
+
+/// The same with 30 boxes over every label: each row leads on by a node, so there are few levels, but all edges are looked at for each.
+pub fn any_label_cycle() -> Vec<u8> {
+    rows_around(any_label(1), any_label)
+}
+
+/// No return node after any step, however many: one box over every label and two more rows.
+pub fn never_a_return() -> Vec<u8> {
+    [any_label(1), [kind::ROW, 7, 2, 0, 0, 0], [kind::ROW, 6, 0, 0, 0, 0]].concat()
+}
+
+/// Row 1 after each internal step.
+const STEP: Record = [kind::ROW, 9, 0, 1, 0, 0];
+
+fn any_label(row: u8) -> Record {
+    [kind::ROW, 10, row, 0, 0, 0]
 }
 
 fn cycle_nodes(last_returns: bool) -> Vec<Record> {
@@ -43,11 +73,10 @@ fn cycle_edges() -> Edges {
 }
 
 /// A box, rows that each lead to the next, and a row that leads back to the first and to the literal.
-fn rows_around(leading_to: fn(u8) -> Record) -> Vec<u8> {
-    let first = [[kind::ROW, 9, 0, 1, 0, 0]];
+fn rows_around(first: Record, leading_to: fn(u8) -> Record) -> Vec<u8> {
     let last = [[kind::ROW, 7, LITERAL, 0, 0, 0], [kind::ROW, 6, 0, 0, 0, 0]];
     let between = (2..LITERAL).map(leading_to);
-    first.into_iter().chain(between).chain(last).flatten().collect()
+    [first].into_iter().chain(between).chain(last).flatten().collect()
 }
 
 /// Interface, graph and rules with the longest trail, 1,793 records: method 1 goes through all its nodes and calls itself, and each call steps the monitor.

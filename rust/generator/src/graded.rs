@@ -2,12 +2,14 @@
 
 use crate::generate::{Random, Size, LIMITS};
 use crate::graphs::{graph_file, node, Edges};
+use crate::properties::widened;
 use second::record::{kind, Record};
 use std::ops::Range;
 
 /// A graph file and a property file that are about each other.
 pub fn graded(random: &mut Random, size: Size) -> (Vec<u8>, Vec<u8>) {
-    (line(random, size), graded_ors(random).concat())
+    let (graph, records) = (line(random, size), graded_ors(random));
+    (graph, widened(random, records))
 }
 
 /// Nodes on a line that ends in a return node, with steps of two labels to later nodes only: what is false at the end comes up node by node.

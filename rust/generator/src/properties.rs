@@ -2,7 +2,7 @@
 
 use crate::generate::{label, method, Random, Size, LIMITS};
 use crate::graphs::{labels_of, members};
-use second::record::{kind, Interface, Record};
+use second::record::{kind, Interface, Record, LABELS, RECORD_LEN};
 
 pub fn property(random: &mut Random, size: Size) -> Vec<u8> {
     let records = match (size, random.below(4)) {
@@ -14,10 +14,40 @@ pub fn property(random: &mut Random, size: Size) -> Vec<u8> {
         (Size::Large, 1) => many_ors(random, LIMITS.ors),
         (Size::Large, _) => any_rows(random, LIMITS.rows),
     };
+    widened(random, records)
+}
+
+/// The rows as a file; in half of the files every second box or so becomes one over every label.
+pub(crate) fn widened(random: &mut Random, mut records: Vec<Record>) -> Vec<u8> {
+    if random.once_in(2) {
+        for record in &mut records {
+            if let ([kind::ROW, 9, _, row, ..], true) = (*record, random.once_in(2)) {
+                *record = [kind::ROW, 10, row, 0, 0, 0];
+            }
+        }
+    }
     records.concat()
 }
 
-/// Rows of all operators, with operands anywhere.
+/// The property with some box over every label written out as a box of each, all of them joined by "and" rows; `None` without such a box, or without room for 16 rows
+/// more.
+pub fn written_out(random: &mut Random, property: &[u8]) -> Option<Vec<u8>> {
+    let mut records = property.as_chunks::<RECORD_LEN>().0.to_vec();
+    let wide: Vec<usize> = (0..records.len()).filter(|&row| records[row][1] == 10).collect();
+    // One "and" row less than boxes, and one of them takes the place of the row itself.
+    let more = LABELS + LABELS - 2;
+    if wide.is_empty() || records.len() + more > LIMITS.rows {
+        return None;
+    }
+    let row = random.pick(&wide);
+    let operand = records[row][2];
+    let boxes = (0..LABELS as u8).map(|label| [kind::ROW, 9, label, operand, 0, 0]);
+    let boxes: Vec<u8> = boxes.map(|record| pushed(&mut records, record)).collect();
+    conjunction(&mut records, row, &boxes);
+    Some(records.concat())
+}
+
+/// Rows of all operators but the box over every label, with operands anywhere.
 pub fn any_rows(random: &mut Random, rows: usize) -> Vec<Record> {
     let mut ors = 0;
     let mut records = Vec::new();
@@ -81,7 +111,7 @@ pub(crate) fn many_ors(random: &mut Random, ors: usize) -> Vec<Record> {
 }
 
 /// One or two phases, row 0 the first. A phase says of each label of the interface that no such step is taken, mostly of those that are forbidden, or which phase holds
-/// after it; one demand of a phase may be about one method or about return nodes only. Their models are small.
+/// after it; one demand of a phase may be about one method or about return nodes only. Some say so of all labels at once. Their models are small.
 pub(crate) fn guarded(random: &mut Random, interface: Interface, forbidden: u8) -> Vec<u8> {
     let phases = 1 + random.below(2);
     let mut records = vec![TRUE; phases];
@@ -106,7 +136,7 @@ pub(crate) fn guarded(random: &mut Random, interface: Interface, forbidden: u8) 
         }
         conjunction(&mut records, phase, &demands);
     }
-    records.concat()
+    widened(random, records)
 }
 
 const TRUE: Record = [kind::ROW, 1, 0, 0, 0, 0];

@@ -1,10 +1,12 @@
 //! What the generator promises.
 
-use generator::extremes::{longest_passing_trail, longest_trail};
+use generator::extremes::{
+    any_label_cycle, dense_line, longest_passing_trail, longest_trail, never_a_return,
+};
 use generator::generate::{self, Kind, Random, Size};
 use generator::relations;
 use second::record::Limits;
-use second::{files, join, watch, Outcome};
+use second::{files, join, judge, watch, Outcome};
 
 #[test]
 fn valid_files_are_accepted() {
@@ -149,4 +151,69 @@ fn mutated_files_meet_every_number_but_the_limits() {
         met[kind.number(&generate::mutated(&mut random, &file, &other))] += 1;
     }
     assert!(met.iter().enumerate().all(|(number, &times)| number == 5 || times > 0), "{met:?}");
+}
+
+/// The rows of a property with operator 10.
+fn wide_boxes(property: &[u8]) -> usize {
+    property.chunks(6).filter(|row| row[1] == 10).count()
+}
+
+#[test]
+fn some_properties_have_boxes_over_every_label() {
+    let mut random = Random::new(10);
+    let sources: [fn(&mut Random) -> Vec<u8>; 4] = [
+        |random| generate::property(random, Size::Small),
+        |random| generate::property(random, Size::Large),
+        |random| generate::graded(random, Size::Small).1,
+        |random| generate::composition(random).0[3].clone(),
+    ];
+    for property in sources {
+        let met = (0..2_000).filter(|_| wide_boxes(&property(&mut random)) > 0).count();
+        assert!((400..=1_100).contains(&met), "{met}");
+    }
+}
+
+#[test]
+fn a_box_over_every_label_is_written_out_as_nine() {
+    let mut random = Random::new(11);
+    let ends = [[3, 10, 1, 0, 0, 0], [3, 5, 0, 0, 0, 0]];
+    let boxes = (0..9).map(|label| [3, 9, label, 1, 0, 0]);
+    let ands = (3..10).map(|of| [3, 7, of, if of < 9 { of + 9 } else { 10 }, 0, 0]);
+    let expected: Vec<u8> =
+        [[3, 7, 2, 11, 0, 0], ends[1]].into_iter().chain(boxes).chain(ands).flatten().collect();
+    assert_eq!(generate::written_out(&mut random, &ends.concat()), Some(expected));
+    for rows in 1..=32 {
+        let property = [3, 10, 0, 0, 0, 0].repeat(rows);
+        let Some(written_out) = generate::written_out(&mut random, &property) else {
+            assert!(rows > 16, "{rows}");
+            continue;
+        };
+        assert_eq!(Kind::Property.number(&written_out), 0, "{written_out:?}");
+        assert_eq!(written_out.len(), property.len() + 16 * 6);
+        assert_eq!(wide_boxes(&written_out), rows - 1);
+    }
+    assert_eq!(generate::written_out(&mut random, &ends[1]), None);
+}
+
+#[test]
+fn the_dense_line_fails_from_its_end_to_its_entry() {
+    let records = |property: Vec<u8>| match judge(
+        &Limits::DESK,
+        &dense_line(16),
+        &property,
+        usize::MAX,
+        0,
+        0,
+    ) {
+        Outcome::Said { verdict: 2, values, .. } => values[0],
+        outcome => panic!("{outcome:?}"),
+    };
+    let written_out = generate::written_out(&mut Random::new(0), &never_a_return());
+    let nine_boxes = written_out.expect("a box over every label, and room");
+    // For each step a box and an "and" row; the literal.
+    assert_eq!(records(never_a_return()), 2 * 255 + 1);
+    // The box of the last label has eight "and" rows above it.
+    assert_eq!(records(nine_boxes), (8 + 1 + 1) * 255 + 1);
+    // Rounds of 30 boxes and an "and" row, until all steps are taken.
+    assert_eq!(records(any_label_cycle()), 9 * 31 + 1);
 }

@@ -31,16 +31,10 @@ struct State {
     rows: ByteSet,
 }
 
-/// One label of the model with the property's boxes of that label.
-struct Label {
-    number: usize,
-    boxes: ByteSet,
-}
-
 struct Builder<'a> {
     limits: &'a Limits,
     rows: &'a [Row],
-    labels: Vec<Label>,
+    labels: Vec<usize>,
     /// For each provided method, what the rows demand under either flag.
     places: BTreeMap<usize, [Place; 2]>,
     /// The states in the order in which they were found.
@@ -58,18 +52,12 @@ struct Builder<'a> {
 
 impl<'a> Builder<'a> {
     fn new(limits: &'a Limits, interface: &Interface, rows: &'a [Row]) -> Builder<'a> {
-        let boxes = |number: usize| -> ByteSet {
-            let of_label =
-                |row: &usize| matches!(rows[*row], Row::Box { label, .. } if label == number);
-            (0..rows.len()).filter(of_label).collect()
-        };
         let required = (1..=METHODS).filter(|&method| interface.requires(method));
-        let labels = std::iter::once(INTERNAL).chain(required);
         let place = |method| [false, true].map(|returns| Place::new(rows, method, returns));
         Builder {
             limits,
             rows,
-            labels: labels.map(|number| Label { number, boxes: boxes(number) }).collect(),
+            labels: std::iter::once(INTERNAL).chain(required).collect(),
             places: provided(interface).map(|method| (method, place(method))).collect(),
             states: Vec::new(),
             found: BTreeMap::new(),
@@ -112,10 +100,10 @@ impl<'a> Builder<'a> {
     fn explore(&mut self, state: usize) -> Option<()> {
         let State { method, rows, .. } = self.states[state];
         let mut lists = Vec::new();
-        for label in 0..self.labels.len() {
-            let boxes = rows.intersection(&self.labels[label].boxes);
-            let obligations = boxes.iter().flat_map(|row| self.rows[row].operands()).collect();
-            let list = self.successors(method, obligations)?;
+        for at in 0..self.labels.len() {
+            let label = self.labels[at];
+            let obligations = rows.iter().filter_map(|row| self.rows[row].box_operand(label));
+            let list = self.successors(method, obligations.collect())?;
             self.edges += self.targets[list].len();
             lists.push(list);
         }
@@ -140,8 +128,7 @@ impl<'a> Builder<'a> {
         for (from, (state, &at)) in self.found.iter().enumerate() {
             let State { method, returns, .. } = *state;
             nodes.push(Node { method, returns, entry: at < entries });
-            for (label, &list) in self.labels.iter().zip(&self.steps[at]) {
-                let label = label.number;
+            for (&label, &list) in self.labels.iter().zip(&self.steps[at]) {
                 edges.extend(targets[list].iter().map(|&to| Edge { from, label, to }));
             }
         }

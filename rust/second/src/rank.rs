@@ -33,6 +33,7 @@ struct Users {
     ands: Vec<usize>,
     /// Each "or" with its other operand.
     ors: Vec<(usize, usize)>,
+    /// For each label, the boxes that look at the row after it.
     boxes: [Vec<usize>; LABELS],
 }
 
@@ -48,8 +49,12 @@ fn users(rows: &[Row]) -> Vec<Users> {
                 users[a].ors.push((number, b));
                 users[b].ors.push((number, a));
             }
-            Row::Box { label, row } => users[row].boxes[label].push(number),
             _ => {}
+        }
+        for label in 0..LABELS {
+            if let Some(operand) = row.box_operand(label) {
+                users[operand].boxes[label].push(number);
+            }
         }
     }
     users
@@ -108,7 +113,7 @@ impl<'a> Propagation<'a> {
         }
     }
 
-    /// Makes a box false at every node with an edge of its label to `node`.
+    /// Makes a box false at every node with an edge of this label to `node`.
     fn set_sources(&mut self, node: usize, label: usize, number: usize, rank: u32) {
         for edge in self.graph.incoming_with(node, label) {
             self.set(edge.from, number, rank);

@@ -26,6 +26,8 @@ mod operator {
     pub const AND: u8 = 7;
     pub const OR: u8 = 8;
     pub const BOX: u8 = 9;
+    /// A box over every label.
+    pub const BOX_ALL: u8 = 10;
 }
 
 /// Number of methods; they are numbered from 1.
@@ -78,6 +80,7 @@ pub enum Row {
     And(usize, usize),
     Or(usize, usize),
     Box { label: usize, row: usize },
+    BoxAll(usize),
 }
 
 #[derive(Clone, Copy, Debug, PartialEq, Eq, PartialOrd, Ord)]
@@ -170,6 +173,7 @@ impl Row {
             (operator::BOX, _, _) => {
                 below(LABELS, a).map(|label| Row::Box { label, row: operands.1 })
             }
+            (operator::BOX_ALL, _, 0) => Some(Row::BoxAll(operands.0)),
             _ => None,
         }
     }
@@ -178,10 +182,19 @@ impl Row {
     pub(crate) fn operands(&self) -> impl Iterator<Item = usize> {
         let (a, b) = match *self {
             Row::And(a, b) | Row::Or(a, b) => (Some(a), Some(b)),
-            Row::Box { row, .. } => (Some(row), None),
+            Row::Box { row, .. } | Row::BoxAll(row) => (Some(row), None),
             _ => (None, None),
         };
         a.into_iter().chain(b)
+    }
+
+    /// The row that a box looks at after edges with this label, if any.
+    pub(crate) fn box_operand(&self, after: usize) -> Option<usize> {
+        match *self {
+            Row::Box { label, row } => (label == after).then_some(row),
+            Row::BoxAll(row) => Some(row),
+            _ => None,
+        }
     }
 
     /// Whether the row, read without its operands, is false at a method and return flag.
@@ -192,7 +205,7 @@ impl Row {
             Row::NotIn(method) => method == at,
             Row::Return => !returns,
             Row::NotReturn => returns,
-            Row::True | Row::And(..) | Row::Or(..) | Row::Box { .. } => false,
+            Row::True | Row::And(..) | Row::Or(..) | Row::Box { .. } | Row::BoxAll(_) => false,
         }
     }
 }

@@ -42,16 +42,18 @@ fn causes(graph: &Graph, rows: &[Row], ranks: &Ranks, (node, row): Pair) -> [Opt
     match rows[row] {
         Row::And(a, b) => [lowest(ranks, [(node, a), (node, b)]), None],
         Row::Or(a, b) => [Some((node, a)), Some((node, b))],
-        Row::Box { label, row } => {
-            let edges = graph.outgoing_with(node, label);
-            [lowest(ranks, edges.iter().map(|edge| (edge.to, row))), None]
+        // A literal looks at no edge, and has no cause.
+        equation => {
+            let edges = graph.outgoing(node).iter();
+            let targets =
+                edges.filter_map(|edge| Some((edge.to, equation.box_operand(edge.label)?)));
+            [lowest(ranks, targets), None]
         }
-        _ => [None, None],
     }
 }
 
-/// The first of the false pairs that have the lowest rank.
+/// The false pair of lowest rank, ties to the lowest node, then to the first pair.
 fn lowest(ranks: &Ranks, pairs: impl IntoIterator<Item = Pair>) -> Option<Pair> {
     let failing = pairs.into_iter().filter_map(|pair| Some((ranks.rank(pair.0, pair.1)?, pair)));
-    failing.min_by_key(|&(rank, _)| rank).map(|(_, pair)| pair)
+    failing.min_by_key(|&(rank, (node, _))| (rank, node)).map(|(_, pair)| pair)
 }

@@ -31,8 +31,9 @@ fn number_3_range() {
     for (graph, record) in graphs.into_iter().zip([0, 0, 0, 0, 1, 1]) {
         assert_eq!(judge(&file(graph), &file("3 1")), refused(3, 1, record), "{graph}");
     }
-    let rows = ["3 0", "3 10", "3 1 1", "3 2 0 1", "3 3 0", "3 3 9", "3 4 1 1", "3 5 1", "3 6 0 1"];
-    for row in rows.into_iter().chain(["3 7 0 0 1", "3 9 9 0", "3 9 0 0 0 1"]) {
+    let rows = ["3 0", "3 11", "3 1 1", "3 2 0 1", "3 3 0", "3 3 9", "3 4 1 1", "3 5 1", "3 6 0 1"];
+    let rows = rows.into_iter().chain(["3 7 0 0 1", "3 9 9 0", "3 9 0 0 0 1"]);
+    for row in rows.chain(["3 10 0 1", "3 10 1 1", "3 10 0 0 1", "3 10 0 0 0 1"]) {
         assert_eq!(judge(&[], &file(row)), refused(3, 2, 0), "{row}");
     }
 }
@@ -71,6 +72,9 @@ fn number_7_past_the_last() {
     assert_eq!(judge(&file("1 1 / 2 0 0 1"), &file("3 1")), refused(7, 1, 1));
     assert_eq!(judge(&[], &file("3 7 0 1")), refused(7, 2, 0));
     assert_eq!(judge(&[], &file("3 1 / 3 9 8 2")), refused(7, 2, 1));
+    for row in ["3 10 1", "3 10 9", "3 10 255"] {
+        assert_eq!(judge(&[], &file(row)), refused(7, 2, 0), "{row}");
+    }
 }
 
 #[test]
@@ -199,4 +203,48 @@ fn course_12_limits() {
         assert_eq!(judge(&[], &property(most)), positive());
         assert_eq!(judge(&[], &property(most + 1)), refused(5, 2, 0));
     }
+}
+
+// The box over every label.
+
+#[test]
+fn box_all_holds_where_no_edge_leads_to_a_false_row() {
+    let own_loops = file("1 1 0 1 / 2 0 0 0 / 2 0 8 0");
+    for graph in [vec![], file(ONE_NODE), own_loops] {
+        assert_eq!(judge(&graph, &file("3 10 0")), positive());
+    }
+    assert_eq!(judge(&file(ONE_NODE), &file("3 10 1 / 3 2")), positive());
+}
+
+#[test]
+fn box_all_has_the_target_of_lowest_rank_whatever_its_label() {
+    let graph = file("1 1 0 1 / 1 1 1 0 / 1 1 0 0 / 2 0 1 1 / 2 0 2 2");
+    let sheet = "0 0 2 1 0 255 / 2 1 0 255 0 255";
+    assert_eq!(judge(&graph, &file("3 10 1 / 3 5")), explained(sheet));
+    // Equal ranks: the lowest node, though its label is the higher one.
+    let graph = file("1 1 0 1 / 1 1 / 1 1 / 2 0 1 2 / 2 0 2 1");
+    let sheet = "0 0 1 1 0 255 / 1 1 0 255 0 255";
+    assert_eq!(judge(&graph, &file("3 10 1 / 3 5")), explained(sheet));
+    // Row 1 has rank 3 at node 1 and rank 2 at node 2.
+    let graph = file("1 1 0 1 / 1 1 1 0 / 1 1 0 0 / 2 0 0 1 / 2 0 3 2 / 2 1 5 2");
+    let sheet = "0 0 2 1 0 255 / 2 1 2 3 0 255 / 2 3 0 255 0 255";
+    assert_eq!(judge(&graph, &file("3 10 1 / 3 7 2 3 / 3 10 3 / 3 5")), explained(sheet));
+}
+
+#[test]
+fn box_all_obliges_under_every_label_of_the_model() {
+    let nodes = "1 1 0 1 / 1 1 1 1";
+    let targets = |(from, label): (u8, u8)| format!("2 {from} {label} 0 / 2 {from} {label} 1");
+    let sources = [(0, 0), (0, 2), (0, 3), (1, 0), (1, 2), (1, 3)].map(targets);
+    let expected = file(&format!("{nodes} / {}", sources.join("/")));
+    assert_eq!(model(&file("5 1 6"), &file("3 10 0")), said(1, &[2, 12], expected));
+    let no_step = said(1, &[2, 0], file(nodes));
+    assert_eq!(model(&file("5 1 1"), &file("3 10 1 / 3 2")), no_step);
+}
+
+#[test]
+fn box_all_is_no_or_row() {
+    let property = |count| file(&vec!["3 10 0"; count].join("/"));
+    assert_eq!(judge(&[], &property(32)), positive());
+    assert_eq!(judge(&[], &property(33)), refused(5, 2, 0));
 }

@@ -56,6 +56,7 @@ fn in_range(record: &[u8]) -> bool {
         (3, 3 | 4) => method(record[2]) && zero(3),
         (3, 7 | 8) => zero(4),
         (3, 9) => record[2] < 9 && zero(4),
+        (3, 10) => zero(3),
         (4, state) => {
             let event = record[2] == 1 || record[2] == 2;
             state < 7 && event && method(record[3]) && method(record[4]) && record[5] < 8
@@ -81,6 +82,7 @@ fn misled(nodes: &[&[u8]], rows: usize, record: &[u8]) -> Option<u8> {
         },
         (3, 7 | 8) => (a.max(b) >= rows).then_some(7),
         (3, 9) => (b >= rows).then_some(7),
+        (3, 10) => (a >= rows).then_some(7),
         _ => None,
     }
 }

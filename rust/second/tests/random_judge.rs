@@ -44,14 +44,20 @@ fn next_level(graph: &Graph, property: &[Row], before: &[Vec<bool>]) -> Vec<Vec<
             Row::NotReturn => !returns,
             Row::And(a, b) => before[node][a] && before[node][b],
             Row::Or(a, b) => before[node][a] || before[node][b],
-            Row::Box { label, row } => {
-                let mut edges = graph.edges.iter();
-                edges.all(|e| (e.from, e.label) != (node, label) || before[e.to][row])
+            Row::Box { .. } | Row::BoxAll(_) => {
+                targets(graph, property[row], node).all(|(to, row)| before[to][row])
             }
         }
     };
     let rows = |node| (0..property.len()).map(|row| value(node, row)).collect();
     (0..graph.nodes.len()).map(rows).collect()
+}
+
+/// The nodes and the row that a box looks at.
+fn targets(graph: &Graph, row: Row, node: usize) -> impl Iterator<Item = (usize, usize)> + '_ {
+    let (labels, operand) = box_parts(row).expect("a box");
+    let edges = graph.edges.iter().filter(move |e| e.from == node && labels.contains(&e.label));
+    edges.map(move |e| (e.to, operand))
 }
 
 fn pairs(graph: &Graph, property: &[Row]) -> impl Iterator<Item = (usize, usize)> {
@@ -73,10 +79,11 @@ fn naive_causes(
             [node, cause, 0, 255]
         }
         Row::Or(a, b) => [node, a, node, b],
-        Row::Box { label, row } => {
-            let edges = graph.edges.iter().filter(|e| (e.from, e.label) == (node, label));
-            let targets = edges.map(|e| (ranks[e.to][row], e.to)).filter(|t| t.0.is_some());
-            [targets.min().expect("a false target").1, row, 0, 255]
+        Row::Box { .. } | Row::BoxAll(_) => {
+            let targets = targets(graph, property[row], node);
+            let ranked = targets.map(|(to, row)| (ranks[to][row], to, row));
+            let cause = ranked.filter(|target| target.0.is_some()).min().expect("a false target");
+            [cause.1, cause.2, 0, 255]
         }
         _ => [0, 255, 0, 255],
     }
@@ -162,4 +169,21 @@ fn graded_files_show_the_ranks_of_or_rows() {
         shown += usize::from(slip != judge(&graph, &property));
     }
     assert!(shown > 100, "{shown}");
+}
+
+#[test]
+fn nine_boxes_and_one_over_every_label_get_equal_verdicts() {
+    let mut random = Random::new(4);
+    let mut verdicts = [0; 2];
+    for _ in 0..60_000 {
+        let property = generate::property(&mut random, Size::Small);
+        let Some(written_out) = generate::written_out(&mut random, &property) else {
+            continue;
+        };
+        let graph = generate::graph(&mut random, Size::Small);
+        let [one, nine] = [&property, &written_out].map(|rows| parts(judge(&graph, rows)).0);
+        assert_eq!(one, nine, "{graph:?} {property:?}");
+        verdicts[one as usize - 1] += 1;
+    }
+    assert!(verdicts.iter().all(|&times| times > 3_000), "{verdicts:?}");
 }

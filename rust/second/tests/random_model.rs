@@ -18,7 +18,7 @@ fn has(rows: u32, row: usize) -> bool {
 
 fn is_supported(property: &[Row], (method, returns, rows): State) -> bool {
     let supported = |row: usize| match property[row] {
-        Row::True | Row::Box { .. } => true,
+        Row::True | Row::Box { .. } | Row::BoxAll(_) => true,
         Row::False => false,
         Row::In(wanted) => method == wanted,
         Row::NotIn(shunned) => method != shunned,
@@ -47,11 +47,9 @@ fn minimal_supports(property: &[Row], method: usize, obligations: u32) -> Vec<St
 
 fn successors(property: &[Row], state: State, label: usize) -> Vec<State> {
     let mut obligations = 0;
-    for (row, equation) in property.iter().enumerate() {
-        match *equation {
-            Row::Box { label: l, row: operand } if l == label && has(state.2, row) => {
-                obligations |= 1 << operand;
-            }
+    for row in (0..property.len()).filter(|&row| has(state.2, row)) {
+        match box_parts(property[row]) {
+            Some((labels, operand)) if labels.contains(&label) => obligations |= 1 << operand,
             _ => {}
         }
     }
@@ -128,4 +126,30 @@ fn model_simulates_what_satisfies() {
         verdicts[satisfies as usize] += 1;
     }
     assert!(verdicts[1] > 10_000 && verdicts[2] > 10_000, "{verdicts:?}");
+}
+
+#[test]
+fn models_of_nine_boxes_and_of_one_over_every_label_simulate_each_other() {
+    let mut random = Random::new(6);
+    let mut compared = 0;
+    for _ in 0..4_000 {
+        let interface = [5, random.byte() % 4, random.byte() % 8, 0, 0, 0];
+        let property = generate::property(&mut random, Size::Small);
+        let Some(written_out) = generate::written_out(&mut random, &property) else {
+            continue;
+        };
+        let [one, nine] = [&property, &written_out].map(|rows| model(&interface, rows));
+        if one == refused(11, 0, 0) {
+            assert_eq!(one, nine, "{interface:?} {property:?}");
+            continue;
+        }
+        let [one, nine] = [one, nine].map(parts);
+        assert_eq!(one.1, nine.1, "{interface:?} {property:?}");
+        for (first, second) in [(&one.2, &nine.2), (&nine.2, &one.2)] {
+            let simulates = parts(oracle::compare(first, second)).0;
+            assert_eq!(simulates, 1, "{interface:?} {property:?}");
+        }
+        compared += 1;
+    }
+    assert!(compared > 500, "{compared}");
 }

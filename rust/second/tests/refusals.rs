@@ -49,10 +49,10 @@ fn range() {
     for edge in ["2 0 9 0", "2 0 0 0 1", "2 0 0 0 0 1"] {
         assert_eq!(in_graph(&file(&format!("1 1 / {edge}"))), (3, 1), "{edge}");
     }
-    for row in ["3 0", "3 10", "3 1 1", "3 2 0 1", "3 3", "3 3 9", "3 3 1 1", "3 4 0", "3 5 1"] {
+    for row in ["3 0", "3 11", "3 1 1", "3 2 0 1", "3 3", "3 3 9", "3 3 1 1", "3 4 0", "3 5 1"] {
         assert_eq!(in_property(row), (3, 0), "{row}");
     }
-    for row in ["3 6 0 1", "3 9 9 0", "3 7 0 0 1", "3 8 0 0 0 1"] {
+    for row in ["3 6 0 1", "3 9 9 0", "3 7 0 0 1", "3 8 0 0 0 1", "3 10 0 1", "3 10 9 1"] {
         assert_eq!(in_property(row), (3, 0), "{row}");
     }
     for rule in ["4 7 1 1 1 0", "4 0 0 1 1 0", "4 0 3 1 1 0", "4 0 1 0 1 0", "4 0 1 1 9 0"] {
@@ -99,6 +99,10 @@ fn past_the_last() {
     assert_eq!(in_graph(&file("1 1 / 1 1 / 2 0 0 1 / 2 255 0 0")), (7, 3));
     assert_eq!(in_property("3 7 0 200"), (7, 0));
     assert_eq!(in_property("3 9 0 0 / 3 8 2 0"), (7, 1));
+    assert_eq!(in_property("3 10 1"), (7, 0));
+    assert_eq!(in_property("3 10 1 / 3 10 2"), (7, 1));
+    // A later record carries the lower number.
+    assert_eq!(in_property("3 10 9 / 3 10 0 1"), (3, 1));
 }
 
 #[test]

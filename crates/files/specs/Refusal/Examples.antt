@@ -37,6 +37,14 @@ pub three-range : (refusal desk graph (nd 9) ∷ refusal desk graph (nd 1 ++ rec
 unfolding refusal findings
 three-range = refl
 
+-- operator 10: b and the last two bytes are 0, before 7; there is no operator 11; a is a row
+pub three-any : (refusal desk property (rec6 3 10 0 1 0 0) ∷ refusal desk property (rec6 3 10 0 0 1 0) ∷ refusal desk property (rec6 3 10 0 0 0 1)
+    ∷ refusal desk property (rec6 3 11 0 0 0 0) ∷ refusal desk property (rec6 3 10 255 1 0 0) ∷ refusal desk property (rec6 3 10 1 0 0 0) ∷ refusal desk property (rec6 3 10 255 0 0 0)
+    ∷ refusal desk property (rec6 3 10 0 0 0 0) ∷ refusal desk property (rec6 3 10 1 0 0 0 ++ rec6 3 1 0 0 0 0) ∷ refusal desk property (times 13 (rec6 3 10 0 0 0 0)) ∷ [])
+    ≡ some (3, 0) ∷ some (3, 0) ∷ some (3, 0) ∷ some (3, 0) ∷ some (3, 0) ∷ some (7, 0) ∷ some (7, 0) ∷ none ∷ none ∷ none ∷ []
+unfolding refusal findings
+three-any = refl
+
 -- 4: one edge twice; two rules for one event
 pub four-order : (refusal desk graph (nd 1 ++ ed 0 0 0 ++ ed 0 0 0) ∷ refusal desk rules (rec6 4 0 1 1 1 7 ++ rec6 4 0 1 1 1 6) ∷ []) ≡ some (4, 2) ∷ some (4, 1) ∷ []
 unfolding refusal findings

@@ -10,7 +10,7 @@ use Rattle.files.specs.Basics.Least.{least}
 use Rattle.files.specs.Basics.Queue.{breadth-first}
 use Rattle.files.specs.Basics.Tables.{table}
 use Rattle.files.specs.Graph.{Graph, Edge, size, node}
-use Rattle.files.specs.Property.{Row, always, never, returns, not-returns, in-method, not-in-method, both, either, box, row, obliged}
+use Rattle.files.specs.Property.{Row, always, never, returns, not-returns, in-method, not-in-method, both, either, box, box-all, row, obliged}
 use Rattle.files.specs.Record.{record-at, count}
 use Rattle.files.specs.declared.record.Record.{Record}
 use Rattle.judging.specs.Levels.{holds, satisfies, rank}
@@ -85,6 +85,7 @@ module _ (G : Graph) (P : List Row) where
   row-causes g (both a b) = (g, lower g a b) ∷ []
   row-causes g (either a b) = (g, a) ∷ (g, b) ∷ []
   row-causes g (box l b) = box-causes (targets G g (box l b))
+  row-causes g (box-all a) = box-causes (targets G g (box-all a))
 
   pub causes : ℕ × ℕ → List (ℕ × ℕ)
   causes x = row-causes (x .0) (row P (x .1))

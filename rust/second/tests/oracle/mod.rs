@@ -4,7 +4,9 @@
 // Each test program uses a part of this.
 #![allow(dead_code)]
 
+use second::record::Row;
 use second::{Limits, Outcome, Refusal};
+use std::ops::RangeInclusive;
 use std::path::Path;
 
 pub const LIMITS: &Limits = &Limits::DESK;
@@ -44,6 +46,15 @@ pub fn parts(outcome: Outcome) -> (u32, Vec<u64>, Vec<u8>) {
     match outcome {
         Outcome::Said { verdict, values, written } => (verdict, values, written),
         Outcome::Refused(refusal) => panic!("{refusal:?}"),
+    }
+}
+
+/// The labels of a box and the row that it looks at after them.
+pub fn box_parts(row: Row) -> Option<(RangeInclusive<usize>, usize)> {
+    match row {
+        Row::Box { label, row } => Some((label..=label, row)),
+        Row::BoxAll(row) => Some((0..=8, row)),
+        _ => None,
     }
 }
 

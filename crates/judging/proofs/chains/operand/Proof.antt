@@ -12,7 +12,10 @@ returns-3 : tie.Need-returns-3
 returns-3 c = simp (c .before .if1 .left, c .if3 .taken)
 
 returns-4 : tie.Need-returns-4
-returns-4 c = simp (c .before .if1 .left, c .if3 .left)
+returns-4 c = simp (c .before .before .if1 .left, c .before .if3 .left, c .if4 .taken)
+
+returns-5 : tie.Need-returns-5
+returns-5 c = simp (c .before .before .if1 .left, c .before .if3 .left, c .if4 .left)
 
 pub operand-spec : {M : Type 1} → statement M
-operand-spec = tie.close (tie.spec returns returns-2 returns-3 returns-4)
+operand-spec = tie.close (tie.spec returns returns-2 returns-3 returns-4 returns-5)

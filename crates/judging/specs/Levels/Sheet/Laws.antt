@@ -17,7 +17,7 @@ use Rattle.files.specs.Basics.Queue.{breadth-first, From, itself, listed, start
 use Rattle.files.specs.Basics.Tests.{and-l, and-r, and-i, any, any-e, any-i, upto, upto-i, upto-e, grid, grid-i, length-grid, decide, not-not, not-and}
 use Rattle.files.specs.Decode.Listed.{decode-each}
 use Rattle.files.specs.Graph.{Graph, Edge, size, node, Flow}
-use Rattle.files.specs.Property.{Row, always, never, returns, not-returns, in-method, not-in-method, both, either, box, row, obliged, Property}
+use Rattle.files.specs.Property.{Row, always, never, returns, not-returns, in-method, not-in-method, both, either, box, box-all, row, obliged, Boxed, by-label, by-any, Property}
 use Rattle.judging.specs.Levels.{level, holds, satisfies, rank}
 use Rattle.judging.specs.Levels.Laws.{satisfies-iff}
 use Rattle.judging.specs.Levels.Sheet.{same-pair, Fault, no-cause, obliged-pair, targets, lower, ahead, foremost, box-causes, row-causes, causes, failing, pairs, fault, sheet, fault-bytes, fault-record, fault-of, read-sheet, sheet-bytes}
@@ -224,15 +224,19 @@ module _ (G : Graph) (P : List Row) where
     unfolding causes row-causes
     causes-either a b e = ap (row-causes G P g) e
 
-    pub causes-box : (l b : ℕ) → row P r ≡ box l b → causes G P (g, r) ≡ box-causes G P (targets G g (box l b))
+    pub causes-box : Boxed (row P r) → causes G P (g, r) ≡ box-causes G P (targets G g (row P r))
     unfolding causes row-causes
-    causes-box l b e = ap (row-causes G P g) e
+    causes-box = go (row P r)
+      where
+        go : (x : Row) → Boxed x → row-causes G P g x ≡ box-causes G P (targets G g x)
+        go x (by-label l b) = refl
+        go x (by-any a) = refl
 
-    pub causes-rest : ((row-held (row P r)) .operator ≡ 7 → ⊥) → ((row-held (row P r)) .operator ≡ 8 → ⊥) → ((row-held (row P r)) .operator ≡ 9 → ⊥) → causes G P (g, r) ≡ []
+    pub causes-rest : ((row-held (row P r)) .operator ≡ 7 → ⊥) → ((row-held (row P r)) .operator ≡ 8 → ⊥) → (Boxed (row P r) → ⊥) → causes G P (g, r) ≡ []
     unfolding causes row-causes
     causes-rest = go (row P r)
       where
-        go : (x : Row) → ((row-held x) .operator ≡ 7 → ⊥) → ((row-held x) .operator ≡ 8 → ⊥) → ((row-held x) .operator ≡ 9 → ⊥) → row-causes G P g x ≡ []
+        go : (x : Row) → ((row-held x) .operator ≡ 7 → ⊥) → ((row-held x) .operator ≡ 8 → ⊥) → (Boxed x → ⊥) → row-causes G P g x ≡ []
         go always e f h = refl
         go never e f h = refl
         go returns e f h = refl
@@ -241,7 +245,8 @@ module _ (G : Graph) (P : List Row) where
         go (not-in-method a) e f h = refl
         go (both a b) e f h = absurd (e refl)
         go (either a b) e f h = absurd (f refl)
-        go (box l b) e f h = absurd (h refl)
+        go (box l b) e f h = absurd (h (by-label l b))
+        go (box-all a) e f h = absurd (h (by-any a))
 
 -- ---- the bytes
 

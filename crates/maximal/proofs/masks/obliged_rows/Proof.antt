@@ -1,7 +1,9 @@
+use mathlib.Core.Path.{_∙_}
+use mathlib.Core.Bool.{true, false}
 use native.Mathlib.Omega.{arith}
 use Rattle.files.specs.Decode.{decode-property}
 use Rattle.files.specs.Property.{row}
-use Rattle.maximal.proofs.RowLaws.{obliged-rows-read, box-below}
+use Rattle.maximal.proofs.RowLaws.{obliged-rows-read, looked-below}
 use borrow.Author.Needs.{needs}
 use Rattle.maximal.proofs.masks.obliged_rows.Statement.{statement}
 use Rattle.maximal.proofs.masks.obliged_rows.Tie as tie
@@ -18,26 +20,29 @@ enum-told c = search needs
 returns : tie.Need-returns
 returns c = search needs
 
+obliged-requires : tie.Need-obliged-requires
+obliged-requires c κs = search needs
+
 cast-one-row : tie.Need-cast-one-row
 cast-one-row c = search needs
 
 one-row-requires : tie.Need-one-row-requires
 one-row-requires c κs =
-    let y = c .before .before .before .before .before in
+    let y = c .before .before .before .before in
     let k = y .before .before .before .before in
-    omega (arith, box-below (k .args .property .now) (k .pre .0) (k .args .n) (k .pre .1 .0) (k .args .r) (k .pre .1 .1 .1) (y .before .before .row-at .result) _ (y .x .given .1) (y .before .before .row-at .ensures) (k .args .label) (c .before .if1 .taken))
+    omega (arith, looked-below (k .args .property .now) (k .pre .0) (k .args .n) (k .pre .1 .0) (k .args .r) (k .pre .1 .1 .1) (y .before .before .row-at .result) _ (y .x .given .1) (y .before .before .row-at .ensures) (k .args .label) (c .before .before .obliged .result) (c .before .before .obliged .ensures) (c .before .if1 .taken))
 
 returns-2 : tie.Need-returns-2
 returns-2 c =
-    let y = c .before .before .before .before .before .before in
+    let y = c .before .before .before .before .before in
     let k = y .before .before .before .before in
-    rw (c .one-row .ensures) (rw (c .before .before .if1 .taken) at (obliged-rows-read (y .before .before .row-at .result) _ (row (decode-property (k .args .property .now)) (k .args .r)) (y .x .given .1) (y .before .before .row-at .ensures) (k .args .label)))
+    c .one-row .ensures ∙ obliged-rows-read (y .before .before .row-at .result) _ (row (decode-property (k .args .property .now)) (k .args .r)) (y .x .given .1) (y .before .before .row-at .ensures) (k .args .label) (c .before .before .before .obliged .result) (c .before .before .before .obliged .ensures) true (c .before .before .if1 .taken)
 
 returns-3 : tie.Need-returns-3
 returns-3 c =
-    let y = c .before .before .before .before in
+    let y = c .before .before .before in
     let k = y .before .before .before .before in
-    rw (c .if1 .left) at (obliged-rows-read (y .before .before .row-at .result) _ (row (decode-property (k .args .property .now)) (k .args .r)) (y .x .given .1) (y .before .before .row-at .ensures) (k .args .label))
+    obliged-rows-read (y .before .before .row-at .result) _ (row (decode-property (k .args .property .now)) (k .args .r)) (y .x .given .1) (y .before .before .row-at .ensures) (k .args .label) (c .before .obliged .result) (c .before .obliged .ensures) false (c .if1 .left)
 
 pub obliged-rows-spec : {M : Type 1} → statement M
 obliged-rows-spec =
@@ -47,6 +52,7 @@ obliged-rows-spec =
     enum-known-x
     enum-told
     returns
+    obliged-requires
     cast-one-row
     one-row-requires
     returns-2
