@@ -30,9 +30,11 @@ pub fn inputs() -> io::Result<Vec<Timed>> {
         pair("holds, 31 rows of operator 10", largest, boxes_over_every_label()),
         pair("chain of 7,937 levels", cycle(true), row_cycle()),
         pair("dense chain of 7,937 levels", dense_cycle(), box_cycle()),
-        pair("dense, 30 rows of operator 10", dense_line(), any_label_cycle()),
-        pair("dense, one row of operator 10", dense_line(), never_a_return()),
-        pair("dense, the same by nine boxes", dense_line(), by_nine_boxes(&never_a_return())),
+        pair("dense, 30 rows of operator 10", dense_line(16), any_label_cycle()),
+        pair("dense, one row of operator 10", dense_line(16), never_a_return()),
+        pair("dense, the same by nine boxes", dense_line(16), by_nine_boxes(&never_a_return())),
+        pair("8 edges a node, operator 10", dense_line(8), never_a_return()),
+        pair("8 edges a node, by nine boxes", dense_line(8), by_nine_boxes(&never_a_return())),
     ]);
     inputs.extend(cases("graph", "property")?);
     Ok(inputs)

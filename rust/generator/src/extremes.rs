@@ -24,15 +24,15 @@ pub fn dense_cycle() -> Vec<u8> {
     graph_file(&cycle_nodes(true), &edges)
 }
 
-/// A line from the entry to a return node, by every label in turn, and steps of each node to itself and to as many nodes before it as there is room for, also by every
-/// label: they turn false after it, and the entry last.
-pub fn dense_line() -> Vec<u8> {
-    let labels = LABELS as u8;
+/// A line from the entry to a return node by the last label, and steps of each node to itself and to nodes before it, as many as to make up the number of edges a node, by
+/// every other label in turn: they turn false after it, and the entry last.
+pub fn dense_line(edges_a_node: usize) -> Vec<u8> {
+    let last_label = LABELS as u8 - 1;
     let nodes: Vec<Record> = (0..=LAST).map(|at| node(1, at == LAST, at == 0)).collect();
-    let mut edges: Edges = (0..LAST).map(|at| (at, at % labels, at + 1)).collect();
-    let back = LIMITS.edges / LIMITS.nodes - 1;
+    let mut edges: Edges = (0..LAST).map(|at| (at, last_label, at + 1)).collect();
     for from in 0..=LAST {
-        edges.extend((0..=from).rev().take(back).map(|to| (from, (from - to) % labels, to)));
+        let back = (0..=from).rev().take(edges_a_node - 1);
+        edges.extend(back.map(|to| (from, (from - to) % last_label, to)));
     }
     graph_file(&nodes, &edges)
 }

@@ -199,7 +199,7 @@ fn a_box_over_every_label_is_written_out_as_nine() {
 fn the_dense_line_fails_from_its_end_to_its_entry() {
     let records = |property: Vec<u8>| match judge(
         &Limits::DESK,
-        &dense_line(),
+        &dense_line(16),
         &property,
         usize::MAX,
         0,
@@ -212,8 +212,8 @@ fn the_dense_line_fails_from_its_end_to_its_entry() {
     let nine_boxes = written_out.expect("a box over every label, and room");
     // For each step a box and an "and" row; the literal.
     assert_eq!(records(never_a_return()), 2 * 255 + 1);
-    // The box of a label has one to eight "and" rows above it, one more with each label: 53 pairs in nine steps.
-    assert_eq!(records(nine_boxes), 28 * 53 + (2 + 3 + 4) + 255 + 1);
+    // The box of the last label has eight "and" rows above it.
+    assert_eq!(records(nine_boxes), (8 + 1 + 1) * 255 + 1);
     // Rounds of 30 boxes and an "and" row, until all steps are taken.
     assert_eq!(records(any_label_cycle()), 9 * 31 + 1);
 }
