@@ -26,11 +26,11 @@ pub struct Looks {
     pub at: u8,
 }
 
-// Whether a row of this operator is a box, of one label or of all.
+// Whether a row of this operator is a box, of one label (9) or of all (10, the last operator).
 pub fn is_box(operator: u8) -> bool
     ensures { λ r. ⌜ r ≡ is-box operator ⌝ }
 {
-    (operator == 9) | (operator == 10)
+    9 <= operator
 }
 
 // The row that a box looks at, whatever the label.
