@@ -8,17 +8,17 @@ use Prim.Native.Nat.{ℕ, zero, suc, _+_, _*_, _-_, _/_, _%_, _^_, _≤_, _<_}
 use native.Mathlib.Nat.{one-mul, add-comm, pow-suc, mod-lt}
 use native.Mathlib.Numerals.{add-one}
 use native.Mathlib.Omega.{arith}
-use lib.Bits.{bitOr, or-shifted-r}
+use lib.Bits.{bitOr, bitXor, or-shifted-r, xor-add-and, and-le-l, and-le-r}
 use lib.Count.{leadingZeros, leading-top}
 use lib.Dec.{T, eqb, ltb→lt}
 use lib.ListN.{length}
 use lib.Pow.{pow-pos, pow-lt, shl-exact, shr-lt, split}
-use Rattle.files.specs.Basics.Tests.{decide, one, any, upto}
+use Rattle.files.specs.Basics.Tests.{decide, same, one, any, upto}
 use Rattle.files.specs.Property.{Row, always, never, returns, not-returns, in-method, not-in-method, both, either, box, box-all, row, names, obliged}
 use Rattle.maximal.specs.Model.{is-some}
 use Rattle.maximal.specs.Model.Supports.{asked-is}
-use Rattle.maximal.specs.Masks.{member, untrue-at, untrue, obliged-rows, asked-of, mask, rows}
-use Rattle.maximal.specs.Masks.Laws.{member-or, member-one, member-none, members-eq, mask-lt, rows-member, untrue-mask, asked-lt, member-asked}
+use Rattle.maximal.specs.Masks.{member, within, Taken, untrue-at, untrue, obliged-rows, asked-of, mask, rows}
+use Rattle.maximal.specs.Masks.Laws.{member-or, member-xor, member-one, member-none, member-lt, members-eq, within-e, mask-lt, rows-member, untrue-mask, asked-lt, member-asked}
 
 -- ---- one row, and the highest row
 
@@ -49,6 +49,30 @@ highest-is u p h =
     let e : t .0 ≡ 31 - leadingZeros 32 u = omega (arith, t .1) in
     let f : suc (t .0) ≡ 31 - leadingZeros 32 u + 1 = omega (arith, t .1) in
     (omega (arith, t .1), subst (λ (n : ℕ). 2 ^ n ≤ u) e (t .2), subst (λ (n : ℕ). u < 2 ^ n) f (t .3))
+
+-- where a set and what of it is worked differ, a row is left ..
+pub some-left : (s d : ℕ) → (s ≡ d → ⊥) → 0 < bitXor s d
+some-left s d f = omega (arith, xor-add-and s d, and-le-l s d, and-le-r s d)
+
+-- .. and the highest row where they differ is the highest not yet worked
+pub highest-taken : (s d r : ℕ) → T (within d s) → 2 ^ r ≤ bitXor s d → bitXor s d < 2 ^ (r + 1) → Taken s d r
+highest-taken s d r w l h =
+    let x = here (member s r) (member d r) (within-e d s w r) (subst T (member-xor s d r) (member-top (bitXor s d) r l h)) in
+    record { in-set = x .0; not-worked = x .1; highest = λ q k t. above (member s q) (member d q) t (λ u. beyond q k (subst T (sym (member-xor s d q)) u)) }
+  where
+    here : (a b : Bool) → (T b → T a) → T (not (same a b)) → T a × T (not b)
+    here true true f t = absurd t
+    here true false f t = (tt, tt)
+    here false true f t = absurd (f tt)
+    here false false f t = absurd t
+
+    beyond : (q : ℕ) → r < q → T (member (bitXor s d) q) → ⊥
+    beyond q k t = omega (arith, member-lt (r + 1) (bitXor s d) q h t)
+
+    above : (a b : Bool) → T a → (T (not (same a b)) → ⊥) → T b
+    above true true t f = tt
+    above true false t f = absurd (f tt)
+    above false b t f = absurd t
 
 -- ---- sets gathered row by row
 

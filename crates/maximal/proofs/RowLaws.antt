@@ -1,16 +1,16 @@
 -- For the code that reads rows of an accepted property: what it makes of a row's operator and operands is what the row says, and the operands are rows.
 use mathlib.Core.Path.{_≡_, refl, sym, ap, subst, _∙_}
-use mathlib.Core.Bool.{Bool, true, false, not, cond, _||_, or-false}
+use mathlib.Core.Bool.{Bool, true, false, not, cond, _&&_, _||_, or-false}
 use mathlib.Core.List.{List}
 use mathlib.Core.Option.{none, some}
 use Prim.Native.Nat.{ℕ, _^_, _≤_, _<_}
 use native.Mathlib.Omega.{arith}
 use lib.Bits.{bitOr}
-use lib.Dec.{T, eqb, ltb, ltb→lt}
+use lib.Dec.{T, eqb, leb, leb→le, ltb, ltb→lt}
 use lib.ListN.{length}
 use Rattle.files.specs.Access.{PropertyFile, row-held, looks}
 use Rattle.files.specs.Access.Boxes.{looks-obliged}
-use Rattle.files.specs.Basics.Tests.{and-l, and-r}
+use Rattle.files.specs.Basics.Tests.{and-l, and-r, and-e}
 use Rattle.files.specs.Decode.{decode-property}
 use Rattle.files.specs.Property.{Row, always, never, returns, not-returns, in-method, not-in-method, both, either, box, box-all, row, names, obliged}
 use Rattle.files.specs.Record.{count}
@@ -22,7 +22,7 @@ use Rattle.judging.proofs.HeldLaws.{held-row}
 use Rattle.judging.specs.Levels.Laws.{obliged-named}
 use Rattle.judging.specs.Ranking.{leaf-false}
 use Rattle.maximal.specs.Charting.Files.{file-rows, file-named}
-use Rattle.maximal.specs.Collected.{settlers}
+use Rattle.maximal.specs.Collected.{operands}
 use Rattle.maximal.specs.Masks.{operands-or, and-rows, untrue-at, obliged-rows}
 
 -- ---- what a row's record says
@@ -42,7 +42,7 @@ operands-rows n (box-all a) t l h = absurd (omega arith)
 
 -- what the code makes of the operator and the operands
 abbrev pub operands-by : PropertyRow → ℕ → ℕ → ℕ
-operands-by u operator other = cond (eqb (u .operator) operator) (bitOr (2 ^ u .a) (2 ^ u .b)) other
+operands-by u last other = cond (leb 7 (u .operator) && leb (u .operator) last) (bitOr (2 ^ u .a) (2 ^ u .b)) other
 
 abbrev pub untrue-by : PropertyRow → ℕ → Bool → Bool
 untrue-by u m f = leaf-false (u .operator) (u .a) m f
@@ -59,17 +59,17 @@ and-rows-are (either a b) = refl
 and-rows-are (box l b) = refl
 and-rows-are (box-all a) = refl
 
-pub settlers-are : (x : Row) (r : ℕ) → operands-or x 8 (2 ^ r) ≡ settlers x r
-settlers-are always r = refl
-settlers-are never r = refl
-settlers-are returns r = refl
-settlers-are not-returns r = refl
-settlers-are (in-method a) r = refl
-settlers-are (not-in-method a) r = refl
-settlers-are (both a b) r = refl
-settlers-are (either a b) r = refl
-settlers-are (box l b) r = refl
-settlers-are (box-all a) r = refl
+pub operands-are : (x : Row) (r : ℕ) → operands-or x 8 (2 ^ r) ≡ operands x r
+operands-are always r = refl
+operands-are never r = refl
+operands-are returns r = refl
+operands-are not-returns r = refl
+operands-are (in-method a) r = refl
+operands-are (not-in-method a) r = refl
+operands-are (both a b) r = refl
+operands-are (either a b) r = refl
+operands-are (box l b) r = refl
+operands-are (box-all a) r = refl
 
 untrue-by-row : (x : Row) (m : ℕ) (f : Bool) → untrue-by (row-held x) m f ≡ untrue-at x m f
 untrue-by-row always m f = refl
@@ -97,8 +97,8 @@ module _ (x : RowAt) (u : PropertyRow) (v : Row) (is : x ≡ RowIs u) (holds : x
   held : u ≡ row-held v
   held = held-row x u v is holds
 
-  pub operands-read : (operator other : ℕ) → operands-by u operator other ≡ operands-or v operator other
-  operands-read operator other = ap (λ (y : PropertyRow). operands-by y operator other) held
+  pub operands-read : (last other : ℕ) → operands-by u last other ≡ operands-or v last other
+  operands-read last other = ap (λ (y : PropertyRow). operands-by y last other) held
 
   -- what it obliges to under a label is what the code finds that it looks at
   module _ (l : ℕ) (y : Looks) (looked : y ≡ looks u l) (b : Bool) (along : y .along ≡ b) where
@@ -134,9 +134,14 @@ module _ (p : List ℕ) (file : PropertyFile p) (n : ℕ) (n-is : n ≡ count p)
     read : u ≡ row-held (row (decode-property p) r)
     read = held-row x u (row (decode-property p) r) is holds
 
-    pub pair-below : 7 ≤ u .operator → u .operator ≤ 8 → (u .a < n) × (u .b < n)
-    pair-below =
+    both-below : 7 ≤ u .operator → u .operator ≤ 8 → (u .a < n) × (u .b < n)
+    both-below =
         subst (λ (y : PropertyRow). 7 ≤ y .operator → y .operator ≤ 8 → (y .a < n) × (y .b < n)) (sym read) (operands-rows n (row (decode-property p) r) (names-rows r h))
+
+    pub pair-below : (last : ℕ) → last ≤ 8 → (leb 7 (u .operator) && leb (u .operator) last) ≡ true → (u .a < n) × (u .b < n)
+    pair-below last l e =
+        let t = and-e (leb 7 (u .operator)) (leb (u .operator) last) (subst T (sym e) tt) in
+        both-below (leb→le 7 (u .operator) (t .0)) (omega (arith, l, leb→le (u .operator) last (t .1)))
 
     pub looked-below : (l : ℕ) (y : Looks) → y ≡ looks u l → y .along ≡ true → y .at < n
     looked-below l y looked t =

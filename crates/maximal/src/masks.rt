@@ -2,11 +2,12 @@
 // rows that are untrue at a method and flag; and what a state asks of its successors under a label.
 ghost use mathlib.Core.Path.{_≡_};
 ghost use Prim.Native.Nat.{_+_, _^_, _≤_, _<_};
+ghost use lib.Dec.{T};
 ghost use Rattle.files.specs.Access.{PropertyFile};
 ghost use Rattle.files.specs.Decode.{decode-property};
 ghost use Rattle.files.specs.Property.{row, obliged};
 ghost use Rattle.files.specs.Record.{count};
-ghost use Rattle.maximal.specs.Masks.{operands-or, member, and-rows, completion, untrue-at, untrue, obliged-rows, asked-of};
+ghost use Rattle.maximal.specs.Masks.{operands-or, member, within, Taken, and-rows, completion, untrue-at, untrue, obliged-rows, asked-of};
 use files::property::RowAt;
 use files::property::obliged;
 use files::property::row_at;
@@ -35,15 +36,23 @@ fn highest(set: u32) -> usize
     31 - (u32::leading_zeros(set) as usize)
 }
 
-// The operands of row r as a set where it has this operator, that of an "and" or of an "or"; otherwise the set given.
-pub(crate) fn operands_or(property: &[u8], n: usize, r: usize, operator: u8, other: u32) -> u32
-    requires { ⌜ (7 ≤ operator) × ((operator ≤ 8) × ((PropertyFile (now property)) × ((n ≡ count (now property)) × ((n ≤ 32) × (r < n))))) ⌝ }
-    ensures { λ t. ⌜ t ≡ operands-or (row (decode-property (now (property .entry))) r) operator other ⌝ }
+// The row to be taken next: the highest in the set that is not yet worked.
+pub(crate) fn next_row(set: u32, worked: u32) -> usize
+    requires { ⌜ (T (within worked set)) × (set ≡ worked → ⊥) ⌝ }
+    ensures { λ r. ⌜ Taken set worked r ⌝ }
+{
+    highest(set ^ worked)
+}
+
+// The operands of row r as a set where it is an "and", or up to operator `last`, also an "or"; otherwise the set given.
+pub(crate) fn operands_or(property: &[u8], n: usize, r: usize, last: u8, other: u32) -> u32
+    requires { ⌜ (last ≤ 8) × ((PropertyFile (now property)) × ((n ≡ count (now property)) × ((n ≤ 32) × (r < n)))) ⌝ }
+    ensures { λ t. ⌜ t ≡ operands-or (row (decode-property (now (property .entry))) r) last other ⌝ }
 {
     let RowAt::Is(x) = row_at(property, r, 2) else {
         return 0;
     };
-    if x.operator == operator {
+    if (7 <= x.operator) & (x.operator <= last) {
         return one_row(x.a as usize) | one_row(x.b as usize);
     }
     other
@@ -65,7 +74,7 @@ pub fn complete(property: &[u8], n: usize, set: u32) -> u32
     let mut all = set;
     let mut done = 0;
     while !(all == done) {
-        let r = highest(all ^ done);
+        let r = next_row(all, done);
         done = done | one_row(r);
         all = all | and_rows(property, n, r);
     }

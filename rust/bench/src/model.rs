@@ -15,6 +15,9 @@ pub fn inputs() -> io::Result<Vec<Timed>> {
         split("242 states, 3,676 edges, dear", DEAR),
         pair("1,024 supports, refused", vec![5, 1, 1, 0, 0, 0], two_ways_on()),
         pair("12 detours, 8 methods", vec![5, 255, 255, 0, 0, 0], next_or_detour(12)),
+        pair("8 or-rows above an and-chain", vec![5, 1, 1, 0, 0, 0], settled_by_a_chain()),
+        pair("12 or-rows, operands above", vec![5, 1, 1, 0, 0, 0], next_or_over(12)),
+        pair("12 or-rows, operands below", vec![5, 1, 1, 0, 0, 0], next_or_under(12)),
     ];
     inputs.extend(cases("interface", "property")?);
     let any_label = cases("interface", "property-wish2")?.into_iter();
@@ -67,6 +70,30 @@ fn next_or_over(ors: usize) -> Vec<u8> {
     let last = ors as u8;
     let ors = (0..last).map(|at| [3, 8, at + 1, at + 2, 0, 0]);
     filled(ors.chain([0, 1].map(|label| [3, 9, label, last, 0, 0])).collect())
+}
+
+/// The same from the last row down; row 0 demands that one, and is a box's operand.
+fn next_or_under(ors: u8) -> Vec<u8> {
+    let mut rows = vec![[3, 1, 0, 0, 0, 0]; 32];
+    rows[0] = [3, 7, 31, 31, 0, 0];
+    for at in 32 - ors..32 {
+        rows[usize::from(at)] = [3, 8, at - 1, at - 2, 0, 0];
+    }
+    for (label, row) in [31 - ors, 30 - ors].into_iter().enumerate() {
+        rows[usize::from(row)] = [3, 9, label as u8, 0, 0, 0];
+    }
+    rows.concat()
+}
+
+/// Eight "and" rows bring in an "or" row each, and then a chain of "and" rows an operand of each "or": these are the highest rows and are taken first, but none need
+/// name an operand. Who does not look ahead tries all choices.
+fn settled_by_a_chain() -> Vec<u8> {
+    let mut rows: Vec<[u8; 6]> = (0..8).map(|at| [3, 7, at + 1, 24 + at, 0, 0]).collect();
+    rows.extend((8..16).map(|at| [3, 7, at + 1, at + 1, 0, 0]));
+    rows.push([3, 9, 0, 0, 0, 0]);
+    rows.resize(24, [3, 1, 0, 0, 0, 0]);
+    rows.extend((0..8).map(|or| [3, 8, 8 + or, 17 + or % 7, 0, 0]));
+    rows.concat()
 }
 
 /// Each "or" row is settled by an "and" row over the next one or by the next one itself: there are as many ways as sets of them, and one is within all others.

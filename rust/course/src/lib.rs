@@ -42,6 +42,7 @@ pub fn examples() -> io::Result<Vec<Example>> {
     all.extend(compared::of_lent_buffers());
     all.extend(compared::of_cases(&cases));
     all.extend(modelled::of_the_paper());
+    all.extend(modelled::of_the_highest_row());
     all.extend(modelled::of_any_label());
     all.extend(modelled::of_lent_buffers());
     all.extend(modelled::of_cases(&cases));

@@ -15,6 +15,7 @@ type Record = [u8; 6];
 const ONE: Record = [5, 1, 0, 0, 0, 0];
 pub const ITSELF: Record = [3, 8, 0, 0, 0, 0];
 pub const FALSE: Record = [3, 2, 0, 0, 0, 0];
+const TRUE: Record = [3, 1, 0, 0, 0, 0];
 pub const P1: [Record; 5] =
     [[5, 1, 1, 0, 0, 0], [3, 7, 1, 3, 0, 0], [3, 9, 1, 2, 0, 0], FALSE, [3, 5, 0, 0, 0, 0]];
 /// No step, whatever its label.
@@ -49,6 +50,31 @@ pub fn of_the_paper() -> Vec<Example> {
         simple("11-336-states", &LARGE),
         simple("interface-refused", &[[5, 1, 0, 1, 0, 0], ITSELF]),
         simple("property-refused", &[ONE]),
+    ]
+}
+
+/// Rows worked from the highest down: rows that come in above the row taken, an "or" that an "and" row settles later, cycles, and all 32 rows.
+pub fn of_the_highest_row() -> Vec<Example> {
+    let and = |a, b| [3, 7, a, b, 0, 0];
+    let or = |a, b| [3, 8, a, b, 0, 0];
+    let (returns, not_return, in_one) =
+        ([3, 5, 0, 0, 0, 0], [3, 6, 0, 0, 0, 0], [3, 3, 1, 0, 0, 0]);
+    let above =
+        [ONE, and(5, 5), TRUE, returns, TRUE, TRUE, or(9, 2), TRUE, in_one, not_return, and(7, 8)];
+    let later =
+        [ONE, and(9, 5), returns, TRUE, in_one, TRUE, and(1, 3), TRUE, TRUE, TRUE, or(1, 2)];
+    let mut all = vec![ONE, and(31, 30)];
+    all.extend(
+        (1..31).map(|row| if row % 3 == 0 { or(row + 1, row - 1) } else { and(row - 1, 31) }),
+    );
+    all.push(not_return);
+    vec![
+        simple("rows-come-in-above", &above),
+        simple("or-settled-by-a-later-and", &later),
+        simple("and-cycle", &[ONE, and(1, 1), and(0, 0)]),
+        simple("or-of-itself-above", &[ONE, and(1, 1), or(1, 0)]),
+        simple("nothing-asked-for", &[[5, 1, 1, 0, 0, 0], TRUE]),
+        simple("all-32-rows", &all),
     ]
 }
 
