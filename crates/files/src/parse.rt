@@ -50,11 +50,12 @@ fn row_wrong(r: Record) -> bool
     let none = (x == 1) | ((x == 2) | ((x == 5) | (x == 6)));
     let method = (x == 3) | (x == 4);
     let spare = !(r.fourth == 0) | !(r.fifth == 0);
-    let method_out = ((r.second < 1) | (8 < r.second)) | !(r.third == 0);
+    let method_out = (r.second < 1) | (8 < r.second);
+    let no_second = (x < 7) | (9 < x);
     ((x < 1) | (10 < x))
-        | ((none & (!(r.second == 0) | !(r.third == 0)))
-            | ((method & method_out)
-                | (((x == 9) & (8 < r.second)) | (((x == 10) & !(r.third == 0)) | spare))))
+        | ((none & !(r.second == 0))
+            | ((no_second & !(r.third == 0))
+                | ((method & method_out) | (((x == 9) & (8 < r.second)) | spare))))
 }
 
 fn rule_wrong(r: Record) -> bool

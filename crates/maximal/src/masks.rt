@@ -122,6 +122,10 @@ fn obliged_rows(property: &[u8], n: usize, r: usize, label: u8) -> u32
     let RowAt::Is(x) = row_at(property, r, 2) else {
         return 0;
     };
+    // No box: most rows, so they are told apart first.
+    if x.operator < 9 {
+        return 0;
+    }
     let on = obliged(x, label);
     if on.along {
         return one_row(on.at as usize);
