@@ -1,9 +1,9 @@
 -- What one turn of the quick pass over a graph file adds: a node more, or an edge more that comes after the one before it.
 use mathlib.Core.Path.{_≡_, sym, ap, subst, _∙_}
 use mathlib.Core.Logic.{_⊎_, inl, inr}
-use mathlib.Core.Bool.{Bool, true, false, not, _&&_, _||_}
+use mathlib.Core.Bool.{Bool, false, not, _&&_, _||_}
 use mathlib.Core.List.{List}
-use Prim.Native.Nat.{ℕ, suc, _+_, _-_, _*_, _≤_, _<_}
+use Prim.Native.Nat.{ℕ, suc, _+_, _-_, _≤_, _<_}
 use native.Mathlib.Nat.{eq-or-lt-of-le}
 use native.Mathlib.Omega.{arith}
 use lib.Dec.{T, leb, eqb, eqb→eq, leb→le, le→leb, T-not}
@@ -21,8 +21,8 @@ left-not : (b : Bool) → b ≡ false → T (not b)
 left-not b e = rw e tt
 
 -- record i, read as r, has passed the test of a node
-pub node-turn : (l : List ℕ) (i : ℕ) (r : Record) (w : Bool) → r ≡ record-at l i → w ≡ node-wrong r → (not (eqb (r .kind) 1) || w) ≡ false → ((j : ℕ) → j < i → PlainNode l j)
-    → (j : ℕ) → j < i + 1 → PlainNode l j
+pub node-turn : (l : List ℕ) (i : ℕ) (r : Record) (w : Bool) → r ≡ record-at l i → w ≡ node-wrong r → (not (eqb (r .kind) 1) || w) ≡ false
+    → ((j : ℕ) → j < i → PlainNode l j) → (j : ℕ) → j < i + 1 → PlainNode l j
 node-turn l i r w e f t below j h = go (eq-or-lt-of-le (let k : j ≤ i = omega arith in k))
   where
     right : T (not (not (eqb (r .kind) 1))) × T (not w)
@@ -42,7 +42,9 @@ ends-inside m f t e =
     let x = not-or (leb m f) (leb m t) (left-not _ e) in
     (below f m (λ h. T-not (leb m f) (x .0) (le→leb m f h)), below t m (λ h. T-not (leb m t) (x .1) (le→leb m t h)))
 
-pub same-method : (l : List ℕ) (m : ℕ) (r x y : Record) → (leb m (r .first) || leb m (r .third)) ≡ false → x ≡ record-at l (r .first) → y ≡ record-at l (r .third) → T (eqb (y .first) (x .first)) → Inside l m r
+-- an edge whose ends, read as x and y, have one method
+pub same-method : (l : List ℕ) (m : ℕ) (r x y : Record) → (leb m (r .first) || leb m (r .third)) ≡ false → x ≡ record-at l (r .first)
+    → y ≡ record-at l (r .third) → T (eqb (y .first) (x .first)) → Inside l m r
 same-method l m r x y e f g t =
     let h = ends-inside m (r .first) (r .third) e in
     (h .0, (h .1, sym (ap (λ (s : Record). s .first) g) ∙ eqb→eq (y .first) (x .first) t ∙ ap (λ (s : Record). s .first) f))
@@ -57,8 +59,10 @@ no-edges l m = record { edges-right = λ i h k. absurd (omega arith); edges-asce
 pub edges-to : (l : List ℕ) (m i : ℕ) → i ≡ count l → PlainEdges l m i → PlainEdges l m (count l)
 edges-to l m i e p = subst (PlainEdges l m) e p
 
-module _ (l : List ℕ) (bytes : (p : ℕ) → getD l p 0 < 256) (m i least number : ℕ) (r : Record) (w b : Bool) (is : r ≡ record-at l i) (numbered : number ≡ edge-number r) (wrongly : w ≡ edge-wrong r)
-    (is-inside : T b → Inside l m r) (passed : (not ((eqb (r .kind) 2 && not w) && leb least number) || not b) ≡ false) where
+-- record i, read as r, has passed the test of an edge
+module _ (l : List ℕ) (bytes : (p : ℕ) → getD l p 0 < 256) (m i least number : ℕ) (r : Record) (w b : Bool) (is : r ≡ record-at l i)
+    (numbered : number ≡ edge-number r) (wrongly : w ≡ edge-wrong r) (is-inside : T b → Inside l m r)
+    (passed : (not ((eqb (r .kind) 2 && not w) && leb least number) || not b) ≡ false) where
   tests : T ((eqb (r .kind) 2 && not w) && leb least number) × T b
   tests =
       let x = not-or (not ((eqb (r .kind) 2 && not w) && leb least number)) (not b) (left-not _ passed) in
@@ -78,8 +82,13 @@ module _ (l : List ℕ) (bytes : (p : ℕ) → getD l p 0 < 256) (m i least numb
 
   -- one edge more, after the one before it
   pub edge-turn : m ≤ i → PlainEdges l m i → Below l m i least → PlainEdges l m (i + 1) × Below l m (i + 1) (number + 1)
-  edge-turn h p low = (record { edges-right = right-on; edges-ascend = ascend-on }, λ k. let e : i + 1 - 1 ≡ i = omega arith in subst (λ (n : ℕ). edge-number (record-at l n) < number + 1) (sym e) (omega (arith, number-here)))
+  edge-turn h p low = (record { edges-right = right-on; edges-ascend = ascend-on }, below-next)
     where
+      below-next : Below l m (i + 1) (number + 1)
+      below-next k =
+          let e : i + 1 - 1 ≡ i = omega arith in
+          subst (λ (n : ℕ). edge-number (record-at l n) < number + 1) (sym e) (omega (arith, number-here))
+
       right-on : (j : ℕ) → m ≤ j → j < i + 1 → PlainEdge l m j
       right-on j a k = go (eq-or-lt-of-le (let q : j ≤ i = omega arith in q))
         where

@@ -1,5 +1,5 @@
--- A graph file that is plainly in order: nodes with nothing wrong, then edges with nothing wrong, ascending, each between two of those nodes and inside one method. What one
--- pass over the file tells; Laws says that such a file within the limits is accepted.
+-- A graph file that is plainly in order: nodes with nothing wrong, then edges with nothing wrong, ascending, each between two of those nodes and inside
+-- one method. What one pass over the file tells; Laws says that such a file within the limits is accepted.
 use mathlib.Core.Path.{_≡_}
 use mathlib.Core.Bool.{not}
 use mathlib.Core.List.{List}

@@ -1,5 +1,5 @@
-// A graph file that is plainly in order, told in one pass: nodes with nothing wrong, then edges with nothing wrong, ascending, each between two of those nodes and inside
-// one method. Most graphs that are handed in are so. Of any other file nothing is said here: the check looks at it number by number.
+// A graph file that is plainly in order, told in one pass: nodes with nothing wrong, then edges with nothing wrong, ascending, each between two of those
+// nodes and inside one method. Most graphs that are handed in are so. Of any other file nothing is said here: the check looks at it number by number.
 // `leading_nodes` and `plain_edges` state what of this they found.
 ghost use mathlib.Core.Path.{_≡_};
 ghost use Prim.Native.Nat.{ℕ, _*_, _≤_, _<_};

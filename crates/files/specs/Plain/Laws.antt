@@ -3,7 +3,7 @@ use mathlib.Core.Path.{_≡_, sym, ap, subst, _∙_}
 use mathlib.Core.Logic.{_⊎_, inl, inr}
 use mathlib.Core.Bool.{Bool, false, not, _&&_, _||_, or-false}
 use mathlib.Core.List.{List}
-use Prim.Native.Nat.{ℕ, zero, suc, _+_, _-_, _*_, _/_, _%_, _≤_, _<_}
+use Prim.Native.Nat.{ℕ, zero, suc, _-_, _/_, _%_, _≤_, _<_}
 use native.Mathlib.Decide.{decLt}
 use native.Mathlib.Omega.{arith}
 use lib.Dec.{T, eqb, eqb→eq, T-not, not-T}
@@ -25,7 +25,8 @@ use Rattle.files.specs.declared.record.Limits.{Limits}
 use Rattle.files.specs.declared.record.Record.{Record}
 
 -- a lower number comes before, as fields are bytes
-pub number-before : (r s : Record) → r .second < 256 → r .third < 256 → s .second < 256 → s .third < 256 → edge-number r < edge-number s → Before (edge-key r) (edge-key s)
+pub number-before : (r s : Record) → r .second < 256 → r .third < 256 → s .second < 256 → s .third < 256 → edge-number r < edge-number s
+    → Before (edge-key r) (edge-key s)
 number-before r s b c y z h = go (decLt (r .first) (s .first)) (decLt (r .second) (s .second))
   where
     go : Dec (r .first < s .first) → Dec (r .second < s .second) → Before (edge-key r) (edge-key s)
@@ -34,12 +35,12 @@ number-before r s b c y z h = go (decLt (r .first) (s .first)) (decLt (r .second
     go (no p) (no q) = inr (omega arith, inr (omega arith, inl (omega arith)))
 
 -- whether a record of a known kind is wrong is told by that kind's fields
-wrong-of : (k : ℕ) (r : Record) → r .kind ≡ k
-    → wrong r ≡ ((eqb k 1 && node-wrong r) || ((eqb k 2 && edge-wrong r) || ((eqb k 3 && row-wrong r) || ((eqb k 4 && rule-wrong r) || (eqb k 5 && interface-wrong r)))))
-wrong-of k r e =
-    ap
-    (λ (n : ℕ). (eqb n 1 && node-wrong r) || ((eqb n 2 && edge-wrong r) || ((eqb n 3 && row-wrong r) || ((eqb n 4 && rule-wrong r) || (eqb n 5 && interface-wrong r)))))
-    e
+abbrev wrong-by : ℕ → Record → Bool
+wrong-by k r =
+    (eqb k 1 && node-wrong r) || ((eqb k 2 && edge-wrong r) || ((eqb k 3 && row-wrong r) || ((eqb k 4 && rule-wrong r) || (eqb k 5 && interface-wrong r))))
+
+wrong-of : (k : ℕ) (r : Record) → r .kind ≡ k → wrong r ≡ wrong-by k r
+wrong-of k r e = ap (λ (n : ℕ). wrong-by n r) e
 
 not-wrong : (r : Record) (b : Bool) → T (not b) → wrong r ≡ (b || false) → Wrong r → ⊥
 not-wrong r b f e w = T-not b f (subst T (or-false b) (subst T e (says-wrong r .hear w)))
@@ -102,7 +103,9 @@ module _ (l : List ℕ) (m : ℕ) (few : m ≤ count l) (nodes : (i : ℕ) → i
     nothing-applies (suc (suc (suc (suc (suc zero))))) i a = passed-not (a .1)
       where
         passed-not : (L .nodes < nodes-of l) ⊎ (L .edges < edges-of l) → ⊥
-        passed-not p = subst (λ (b : Bool). T b → ⊥) (sym within) (λ t. t) (says-or (says-lt (L .nodes) m) (says-lt (L .edges) (count l - m)) .hear (there p))
+        passed-not p =
+            let over = says-or (says-lt (L .nodes) m) (says-lt (L .edges) (count l - m)) .hear (there p) in
+            subst (λ (b : Bool). T b → ⊥) (sym within) (λ t. t) over
           where
             there : (L .nodes < nodes-of l) ⊎ (L .edges < edges-of l) → (L .nodes < m) ⊎ (L .edges < count l - m)
             there (inl h) = inl (omega (arith, nodes-are))
@@ -116,4 +119,5 @@ module _ (l : List ℕ) (m : ℕ) (few : m ≤ count l) (nodes : (i : ℕ) → i
     -- such a file within the limits is accepted
     pub plain-accepted : (position : ℕ) → Accepted m (count l) ≡ checked L graph l position
     plain-accepted position =
-        sym (checked-is L graph l position ∙ ap (checked-by graph l position) (accepted-iff L graph l .1 nothing-applies) ∙ ap (λ (n : ℕ). Accepted n (count l)) nodes-are)
+        let none-found = accepted-iff L graph l .1 nothing-applies in
+        sym (checked-is L graph l position ∙ ap (checked-by graph l position) none-found ∙ ap (λ (n : ℕ). Accepted n (count l)) nodes-are)

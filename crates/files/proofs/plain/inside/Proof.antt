@@ -29,7 +29,8 @@ returns-2 c t =
     let k = c .before .before .before .before .before .before .before .before in
     let x = c .before .before .before .read in
     let y = c .before .before .read2 in
-    same-method (k .args .records .now) (k .args .nodes) (k .args .r) (x .result) (y .result) (c .before .before .before .before .if1 .left) (x .ensures) (y .ensures) t
+    same-method (k .args .records .now) (k .args .nodes) (k .args .r) (x .result) (y .result) (c .before .before .before .before .if1 .left)
+    (x .ensures) (y .ensures) t
 
 pub inside-spec : {M : Type 1} → statement M
 inside-spec =

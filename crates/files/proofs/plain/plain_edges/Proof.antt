@@ -1,5 +1,5 @@
 -- All records looked at so far are edges in order, and the next one's number must be past the last one's.
-use Prim.Native.Nat.{ℕ, _-_, _≤_, _<_}
+use Prim.Native.Nat.{_-_, _≤_}
 use native.Mathlib.Omega.{arith}
 use Rattle.files.specs.Plain.{PlainEdges}
 use Rattle.files.proofs.PlainLaws.{Below, edge-turn, no-edges, edges-to}
@@ -49,7 +49,8 @@ loop-again c =
     let w = c .before .before .edge-wrong in
     let b = c .before .inside in
     let bytes = c .before .before .before .before .before .before .before .before .shared-slice-known .given in
-    let on = edge-turn (a .records .now) (λ p. omega (arith, bytes p)) (a .nodes) (l .i) (l .least) (n .result) (x .result) (w .result) (b .result) (x .ensures) (n .ensures) (w .ensures) (b .ensures) (c .if1 .left) (l .inv .0) (l .inv .2) (l .inv .3) in
+    let on = edge-turn (a .records .now) (λ p. omega (arith, bytes p)) (a .nodes) (l .i) (l .least) (n .result) (x .result) (w .result) (b .result)
+    (x .ensures) (n .ensures) (w .ensures) (b .ensures) (c .if1 .left) (l .inv .0) (l .inv .2) (l .inv .3) in
     (omega (arith, l .inv .0), omega arith, on .0, on .1)
 
 returns-2 : tie.Need-returns-2 Inv-loop μ-loop
