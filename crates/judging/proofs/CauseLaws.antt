@@ -57,7 +57,7 @@ module _ (s : Shape) (g p : List ℕ) (ready : Ready s g p) where
   P = decode-property p
 
   pub pairs-fit : s .graph .nodes * s .rows ≤ 8192
-  pairs-fit = omega (arith, mul-le-mul (ready .few-nodes) (ready .few-rows))
+  pairs-fit = omega (arith, mul-le-mul (ready .held .few-nodes) (ready .few-rows))
 
   as-node : (v : ℕ) → v < s .graph .nodes → v < size G
   as-node v h = omega (arith, size-is s g p ready)
@@ -88,7 +88,7 @@ module _ (s : Shape) (g p : List ℕ) (ready : Ready s g p) where
   Firsts w v = (u : ℕ) → u < v → cell w 33792 2 u ≡ first-edge G u
 
   pub few-first : (v : ℕ) → first-edge G v ≤ 4096
-  few-first v = omega (arith, first-edge-le G v, edges-is s g p ready, ready .few-edges)
+  few-first v = omega (arith, first-edge-le G v, edges-is s g p ready, ready .held .few-edges)
 
   module _ (w w′ : List ℕ) (v first : ℕ) (put : w′ ≡ put-cell w 33792 2 v first) where
     pub firsts-on : 41664 ≤ length w → v ≤ 256 → first ≡ first-edge G v → Firsts w v → Firsts w′ (v + 1)
@@ -102,8 +102,8 @@ module _ (s : Shape) (g p : List ℕ) (ready : Ready s g p) where
 
   -- ---- the edges of a node
 
-  filed : Filed (ready .graph-file .limits) G
-  filed = decoded-filed (ready .graph-file .limits) g (ready .graph-file .accepted)
+  filed : Filed (ready .held .views .graph-file .limits) G
+  filed = decoded-filed (ready .held .views .graph-file .limits) g (ready .held .views .graph-file .accepted)
 
   pub to-node : (j : ℕ) (u : GraphEdge) → j < s .graph .edges → u ≡ edge-held (getD (G .edges) j no-edge) → u .to < s .graph .nodes
   to-node j u h e =
@@ -116,7 +116,7 @@ module _ (s : Shape) (g p : List ℕ) (ready : Ready s g p) where
     next-is = ap (first-edge G) (add-one v)
 
     pub edges-start : first-edge G v ≤ first-edge G (v + 1)
-    edges-start = scan-starts g (ready .graph-file) v
+    edges-start = scan-starts g (ready .held .views .graph-file) v
 
     pub edge-there : (j : ℕ) → j < first-edge G (v + 1) → j < s .graph .edges
     edge-there j h = omega (arith, first-edge-le G (v + 1), edges-is s g p ready)
@@ -124,7 +124,7 @@ module _ (s : Shape) (g p : List ℕ) (ready : Ready s g p) where
     pub best-start : s .graph .nodes ≡ first-or (best-target G P v l b (first-edge G v)) (s .graph .nodes)
     best-start =
         ap (λ (o : Option ℕ). first-or o (s .graph .nodes))
-        (sym (best-none G P v l b (first-edge G v) (λ i h e. absurd (omega (arith, h, (leaves-in (ready .graph-file .limits) G filed v i (omega (arith, first-edge-le G v)) e) .0)))))
+        (sym (best-none G P v l b (first-edge G v) (λ i h e. absurd (omega (arith, h, (leaves-in (ready .held .views .graph-file .limits) G filed v i (omega (arith, first-edge-le G v)) e) .0)))))
 
     is-within : (j : ℕ) → j ≤ s .graph .edges → T (within (s .graph .nodes) (best-target G P v l b j))
     is-within j h =
@@ -143,7 +143,7 @@ module _ (s : Shape) (g p : List ℕ) (ready : Ready s g p) where
       best-turn r h k e =
           e
           ∙ best-on G P v l b (s .graph .nodes) j best
-          (in-leaves (ready .graph-file .limits) G filed v j (omega (arith, edge-there j k, edges-is s g p ready)) h (omega (arith, next-is)))
+          (in-leaves (ready .held .views .graph-file .limits) G filed v j (omega (arith, edge-there j k, edges-is s g p ready)) h (omega (arith, next-is)))
           (is-within j (omega (arith, edge-there j k)))
           is
           ∙ ap (λ (n : ℕ). first-or (best-target G P v l b n) (s .graph .nodes)) (sym (add-one j))
@@ -153,7 +153,7 @@ module _ (s : Shape) (g p : List ℕ) (ready : Ready s g p) where
           is
           ∙ ap (λ (o : Option ℕ). first-or o (s .graph .nodes))
           (sym (best-still G P v l b (s .graph .edges) j (omega (arith, e, first-edge-le G (v + 1), edges-is s g p ready))
-          (λ i a c d. absurd (omega (arith, a, e, next-is, (leaves-in (ready .graph-file .limits) G filed v i (omega (arith, c, edges-is s g p ready)) d) .1)))))
+          (λ i a c d. absurd (omega (arith, a, e, next-is, (leaves-in (ready .held .views .graph-file .limits) G filed v i (omega (arith, c, edges-is s g p ready)) d) .1)))))
 
     -- ---- the cause of a box
 

@@ -120,7 +120,7 @@ module _ (s : Shape) (g p : List ℕ) (ready : Ready s g p) where
 
   module _ (k tail : ℕ) (w : List ℕ) (f : Finding G P k tail w) (v r : ℕ) (hv : v < s .graph .nodes) (hr : r < s .rows) where
     pair-fits : pair v r < 8192
-    pair-fits = omega (arith, ready .few-nodes, ready .few-rows)
+    pair-fits = omega (arith, ready .held .few-nodes, ready .few-rows)
 
     module _ (turns : T (not (level G P (suc k) v r))) where
       pub may-give : (pair v r < 8192) × ((rank-at w v r ≡ 0 → tail < 8192) × ((41664 ≤ length w) × (k ≤ 8192)))
@@ -171,10 +171,10 @@ module _ (s : Shape) (g p : List ℕ) (ready : Ready s g p) where
       b-is = ap (λ (y : PropertyRow). y .b) is ∙ two .is-b
 
       pub a-fits : (pair v (u .a) < 8192) × (41664 ≤ length w)
-      a-fits = (omega (arith, a-is, two .a-row, rows-fit s g p ready, ready .few-nodes), f .room)
+      a-fits = (omega (arith, a-is, two .a-row, rows-fit s g p ready, ready .held .few-nodes), f .room)
 
       pub b-fits : (pair v (u .b) < 8192) × (41664 ≤ length w)
-      b-fits = (omega (arith, b-is, two .b-row, rows-fit s g p ready, ready .few-nodes), f .room)
+      b-fits = (omega (arith, b-is, two .b-row, rows-fit s g p ready, ready .held .few-nodes), f .room)
 
       -- it has a rank where the pair is, and so is done
       pub given-done : (w′ : List ℕ) → Given w′ v q → RowDone G P k w′ v r q

@@ -40,24 +40,24 @@ fn moved_node(n: usize, v: usize) -> u8
 
 // Writes edge j of the second graph, with its nodes counted on from the first's, as record `at`.
 fn write_moved(graph2: &[u8], s: Sizes, out: &mut [u8], at: usize, j: usize)
-    requires { ⌜ (GraphFile (now graph2)) × ((s .nodes2 ≡ nodes-of (now graph2)) × ((s .edges2 ≡ count (now graph2) - nodes-of (now graph2)) × ((s .nodes + s .nodes2 ≤ 256) × ((j < s .edges2) × (6 * at + 6 ≤ length (now out)))))) ⌝ }
-    ensures { λ _. ⌜ now (out .exit) ≡ put-at (now (out .entry)) (6 * at) (moved-bytes (s .nodes) (decode-graph (now (graph2 .entry))) j) ⌝ }
+    requires { ⌜ (GraphFile (now graph2)) × ((s .second .nodes ≡ nodes-of (now graph2)) × ((s .second .edges ≡ count (now graph2) - nodes-of (now graph2)) × ((s .first .nodes + s .second .nodes ≤ 256) × ((j < s .second .edges) × (6 * at + 6 ≤ length (now out)))))) ⌝ }
+    ensures { λ _. ⌜ now (out .exit) ≡ put-at (now (out .entry)) (6 * at) (moved-bytes (s .first .nodes) (decode-graph (now (graph2 .entry))) j) ⌝ }
 {
-    let EdgeAt::Is(e) = edge_at(graph2, s.nodes2, j, 4) else {
+    let EdgeAt::Is(e) = edge_at(graph2, s.second.nodes, j, 4) else {
         return;
     };
-    let from = moved_node(s.nodes, e.from);
-    let to = moved_node(s.nodes, e.to);
+    let from = moved_node(s.first.nodes, e.from);
+    let to = moved_node(s.first.nodes, e.to);
     put_record(out, at, Record::edge(from, e.label, to));
 }
 
 // Writes the second graph's edges from record `first` on.
 fn write_all_moved(graph2: &[u8], s: Sizes, out: &mut [u8], first: usize)
-    requires { ⌜ (GraphFile (now graph2)) × ((s .nodes2 ≡ nodes-of (now graph2)) × ((s .edges2 ≡ count (now graph2) - nodes-of (now graph2)) × ((s .nodes + s .nodes2 ≤ 256) × (6 * (first + s .edges2) ≤ length (now out))))) ⌝ }
-    ensures { λ _. ⌜ now (out .exit) ≡ put-at (now (out .entry)) (6 * first) (each (moved-bytes (s .nodes) (decode-graph (now (graph2 .entry)))) (span 0 (s .edges2))) ⌝ }
+    requires { ⌜ (GraphFile (now graph2)) × ((s .second .nodes ≡ nodes-of (now graph2)) × ((s .second .edges ≡ count (now graph2) - nodes-of (now graph2)) × ((s .first .nodes + s .second .nodes ≤ 256) × (6 * (first + s .second .edges) ≤ length (now out))))) ⌝ }
+    ensures { λ _. ⌜ now (out .exit) ≡ put-at (now (out .entry)) (6 * first) (each (moved-bytes (s .first .nodes) (decode-graph (now (graph2 .entry)))) (span 0 (s .second .edges))) ⌝ }
 {
     let mut j = 0;
-    while j < s.edges2 {
+    while j < s.second.edges {
         write_moved(graph2, s, out, first + j, j);
         j += 1;
     }
@@ -65,16 +65,21 @@ fn write_all_moved(graph2: &[u8], s: Sizes, out: &mut [u8], first: usize)
 
 // Writes the joined graph: the first graph's nodes, the second's, the first's edges, the second's moved.
 pub(crate) fn write_join(graph1: &[u8], graph2: &[u8], s: Sizes, out: &mut [u8])
-    requires { ⌜ (Both s (now graph1) (now graph2)) × ((s .nodes + s .nodes2 ≤ 256) × (6 * (s .nodes + s .nodes2 + s .edges + s .edges2) ≤ length (now out))) ⌝ }
+    requires { ⌜ (Both s (now graph1) (now graph2)) × ((s .first .nodes + s .second .nodes ≤ 256) × (6 * (s .first .nodes + s .second .nodes + s .first .edges + s .second .edges) ≤ length (now out))) ⌝ }
     ensures { λ _. ⌜ now (out .exit) ≡ put-at (now (out .entry)) 0 (graph-bytes (join (decode-graph (now (graph1 .entry))) (decode-graph (now (graph2 .entry))))) ⌝ }
 {
-    let cut1 = Record::LEN * s.nodes;
-    let cut2 = Record::LEN * s.nodes2;
-    let end1 = Record::LEN * (s.nodes + s.edges);
+    let cut1 = Record::LEN * s.first.nodes;
+    let cut2 = Record::LEN * s.second.nodes;
+    let end1 = Record::LEN * (s.first.nodes + s.first.edges);
     copy_at(out, 0, &graph1[..cut1]);
     copy_at(out, cut1, &graph2[..cut2]);
     copy_at(out, cut1 + cut2, &graph1[cut1..end1]);
-    write_all_moved(graph2, s, out, s.nodes + s.nodes2 + s.edges);
+    write_all_moved(
+        graph2,
+        s,
+        out,
+        s.first.nodes + s.second.nodes + s.first.edges,
+    );
 }
 
 // 11 and 12, then the joined graph and its answer.
@@ -90,8 +95,8 @@ fn join_sizes(
     requires { ⌜ (InterfaceFile (now interface1)) × ((InterfaceFile (now interface2)) × ((Both s (now graph1) (now graph2)) × (Strides limits))) ⌝ }
     ensures { λ r. ⌜ Answers (answered (from-size limits (now (interface1 .entry)) (now (graph1 .entry)) (now (interface2 .entry)) (now (graph2 .entry)) (length (now (out .entry)))) (join-said limits (now (interface1 .entry)) (now (graph1 .entry)) (now (interface2 .entry)) (now (graph2 .entry)) (length (now (out .entry))))) (now (out .entry)) (now (out .exit)) (joined-answer r) ⌝ }
 {
-    let nodes = s.nodes + s.nodes2;
-    let edges = s.edges + s.edges2;
+    let nodes = s.first.nodes + s.second.nodes;
+    let edges = s.first.edges + s.second.edges;
     if (limits.nodes < nodes) | (limits.edges < edges) {
         return Joined::Refused(Refusal::whole(11));
     }
@@ -121,11 +126,11 @@ fn join_sides(
     ensures { λ r. ⌜ Answers (answered (from-sides limits (now (interface1 .entry)) (now (graph1 .entry)) (now (interface2 .entry)) (now (graph2 .entry)) (length (now (out .entry)))) (join-said limits (now (interface1 .entry)) (now (graph1 .entry)) (now (interface2 .entry)) (now (graph2 .entry)) (length (now (out .entry))))) (now (out .entry)) (now (out .exit)) (joined-answer r) ⌝ }
 {
     let first = first_foreign(graph1, interface1);
-    if first < s.nodes + s.edges {
+    if first < s.first.nodes + s.first.edges {
         return Joined::Refused(Refusal::at(9, 2, first));
     }
     let second = first_foreign(graph2, interface2);
-    if second < s.nodes2 + s.edges2 {
+    if second < s.second.nodes + s.second.edges {
         return Joined::Refused(Refusal::at(9, 4, second));
     }
     if shares(interface1, interface2) {

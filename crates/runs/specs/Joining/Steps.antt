@@ -85,27 +85,27 @@ module _ (L : Limits) (i1 g1 i2 g2 out : List ℕ) where
     abbrev on-second : List Check
     on-second = scan-check 9 4 (first-foreign J g2) on-shared
 
-    first-records : s .nodes + s .edges ≡ count g1
-    first-records = omega (arith, both .first-nodes-are, both .first-edges-are, few (both .first-file .limits) g1 (both .first-file .accepted))
+    first-records : s .first .nodes + s .first .edges ≡ count g1
+    first-records = omega (arith, both .first-held .views .nodes-are, both .first-held .views .edges-are, few (both .first-held .views .graph-file .limits) g1 (both .first-held .views .graph-file .accepted))
 
-    second-records : s .nodes2 + s .edges2 ≡ count g2
-    second-records = omega (arith, both .second-nodes-are, both .second-edges-are, few (both .second-file .limits) g2 (both .second-file .accepted))
+    second-records : s .second .nodes + s .second .edges ≡ count g2
+    second-records = omega (arith, both .second-held .views .nodes-are, both .second-held .views .edges-are, few (both .second-held .views .graph-file .limits) g2 (both .second-held .views .graph-file .accepted))
 
     module _ (i : ℕ) (first : i ≡ first-foreign-record I g1) where
-      pub first-foreign-refused : i < s .nodes + s .edges → (r : Refusal) → r ≡ refusal-at 9 2 i → Answers nine out out (refused-answer r)
+      pub first-foreign-refused : i < s .first .nodes + s .first .edges → (r : Refusal) → r ≡ refusal-at 9 2 i → Answers nine out out (refused-answer r)
       first-foreign-refused h r e =
           answers-refused nine r out (scan-refuses 9 2 (first-foreign I g1) i on-second said (record-found I g1 i first (omega (arith, h, first-records))) ∙ ap refuses (sym e))
 
-      module _ (past : s .nodes + s .edges ≤ i) (j : ℕ) (second : j ≡ first-foreign-record J g2) where
+      module _ (past : s .first .nodes + s .first .edges ≤ i) (j : ℕ) (second : j ≡ first-foreign-record J g2) where
         first-passes : nine ≡ answered on-second said
         first-passes = scan-passes 9 2 (first-foreign I g1) on-second said (none-found I g1 i first (omega (arith, past, first-records)))
 
-        pub second-foreign-refused : j < s .nodes2 + s .edges2 → (r : Refusal) → r ≡ refusal-at 9 4 j → Answers nine out out (refused-answer r)
+        pub second-foreign-refused : j < s .second .nodes + s .second .edges → (r : Refusal) → r ≡ refusal-at 9 4 j → Answers nine out out (refused-answer r)
         second-foreign-refused h r e =
             answers-refused nine r out
             (first-passes ∙ scan-refuses 9 4 (first-foreign J g2) j on-shared said (record-found J g2 j second (omega (arith, h, second-records))) ∙ ap refuses (sym e))
 
-        module _ (past2 : s .nodes2 + s .edges2 ≤ j) (b : Bool) (is : b ≡ shares I J) where
+        module _ (past2 : s .second .nodes + s .second .edges ≤ j) (b : Bool) (is : b ≡ shares I J) where
           second-passes : nine ≡ answered on-shared said
           second-passes = first-passes ∙ scan-passes 9 4 (first-foreign J g2) on-shared said (none-found J g2 j second (omega (arith, past2, second-records)))
 
@@ -127,16 +127,16 @@ module _ (L : Limits) (i1 g1 i2 g2 out : List ℕ) where
     large-refused t r e = answers-large L whole both-bytes out r (says-too-large L whole .say (subst T (sym t ∙ limits-are L s g1 g2 both) tt)) e
 
     module _ (within : passes-limits L s ≡ false) where
-      pub short-refused : length out < 6 * (s .nodes + s .nodes2 + (s .edges + s .edges2)) → (r : Refusal) → r ≡ refusal-at 12 0 0 → Answers (answered on-size said) out out (refused-answer r)
+      pub short-refused : length out < 6 * (s .first .nodes + s .second .nodes + (s .first .edges + s .second .edges)) → (r : Refusal) → r ≡ refusal-at 12 0 0 → Answers (answered on-size said) out out (refused-answer r)
       short-refused h r e = answers-short L whole both-bytes out (small L s g1 g2 both within) r (omega (arith, h, bytes-joined s g1 g2 both)) e
 
-      pub join-written : 6 * (s .nodes + s .nodes2 + (s .edges + s .edges2)) ≤ length out → (out′ : List ℕ) → out′ ≡ put-at out 0 (graph-bytes whole) → (p p₂ q q₂ : ℕ)
+      pub join-written : 6 * (s .first .nodes + s .second .nodes + (s .first .edges + s .second .edges)) ≤ length out → (out′ : List ℕ) → out′ ≡ put-at out 0 (graph-bytes whole) → (p p₂ q q₂ : ℕ)
           → p ≡ I .provided → p₂ ≡ J .provided → q ≡ I .required → q₂ ≡ J .required
-          → Answers (answered on-size said) out out′ (verdict-answer 1 ((s .nodes + s .nodes2) ∷ (s .edges + s .edges2) ∷ bitOr p p₂ ∷ bitOr q q₂ ∷ []))
+          → Answers (answered on-size said) out out′ (verdict-answer 1 ((s .first .nodes + s .second .nodes) ∷ (s .first .edges + s .second .edges) ∷ bitOr p p₂ ∷ bitOr q q₂ ∷ []))
       join-written h out′ e p p₂ q q₂ a b c d =
-          subst (λ (l : List ℕ). Answers (answered on-size said) out out′ (verdict-answer 1 ((s .nodes + s .nodes2) ∷ (s .edges + s .edges2) ∷ l)))
+          subst (λ (l : List ℕ). Answers (answered on-size said) out out′ (verdict-answer 1 ((s .first .nodes + s .second .nodes) ∷ (s .first .edges + s .second .edges) ∷ l)))
           (ap₂ (λ (x y : ℕ). x ∷ y ∷ []) (ap₂ bitOr (sym a) (sym b)) (ap₂ bitOr (sym c) (sym d)))
-          (answers-written L whole both-bytes out (small L s g1 g2 both within) out′ (s .nodes + s .nodes2) (s .edges + s .edges2) (omega (arith, h, bytes-joined s g1 g2 both)) (e ∙ put-front out (graph-bytes whole))
+          (answers-written L whole both-bytes out (small L s g1 g2 both within) out′ (s .first .nodes + s .second .nodes) (s .first .edges + s .second .edges) (omega (arith, h, bytes-joined s g1 g2 both)) (e ∙ put-front out (graph-bytes whole))
           (nodes-joined s g1 g2 both) (edges-joined s g1 g2 both))
 
 -- ---- the limits of the desk

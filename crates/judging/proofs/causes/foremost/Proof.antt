@@ -22,16 +22,16 @@ abbrev μ-loop : tie.MeasureT-loop
 μ-loop graph property s work g x end j₀ best₀ j best = end - j
 
 add-get16 : tie.Need-add-get16 Inv-loop μ-loop
-add-get16 c = let k = c .before .before .before in omega (arith, k .pre .1 .0, k .pre .0 .few-nodes)
+add-get16 c = let k = c .before .before .before in omega (arith, k .pre .1 .0, k .pre .0 .held .few-nodes)
 
 get16-requires : tie.Need-get16-requires Inv-loop μ-loop
-get16-requires c κs = let k = c .before .before .before in omega (arith, k .pre .1 .0, k .pre .0 .few-nodes, k .pre .1 .1 .1 .room)
+get16-requires c κs = let k = c .before .before .before in omega (arith, k .pre .1 .0, k .pre .0 .held .few-nodes, k .pre .1 .1 .1 .room)
 
 cast-end : tie.Need-cast-end Inv-loop μ-loop
 cast-end c = search needs
 
 get16-requires-2 : tie.Need-get16-requires-2 Inv-loop μ-loop
-get16-requires-2 c κs = let k = c .before .before .before .before in omega (arith, k .pre .1 .0, k .pre .0 .few-nodes, k .pre .1 .1 .1 .room)
+get16-requires-2 c κs = let k = c .before .before .before .before in omega (arith, k .pre .1 .0, k .pre .0 .held .few-nodes, k .pre .1 .1 .1 .room)
 
 cast-j : tie.Need-cast-j Inv-loop μ-loop
 cast-j c = search needs

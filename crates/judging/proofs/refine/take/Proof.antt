@@ -30,7 +30,7 @@ slice-aggregate-put-row : tie.Need-slice-aggregate-put-row
 slice-aggregate-put-row c = search needs
 
 put-row-requires : tie.Need-put-row-requires
-put-row-requires c κs = let k = c .before .before .before .before .before .before .before .before .before .before .before .before in (omega (arith, k .pre .1 .0, k .pre .0 .few-first-nodes, c .before .before .before .before .hand-on .kept .1 .1 .1 .0, k .pre .1 .1 .0 .room), omega (arith, c .before .before .before .before .before .before .before .row-at .ensures .0))
+put-row-requires c κs = let k = c .before .before .before .before .before .before .before .before .before .before .before .before in (omega (arith, k .pre .1 .0, k .pre .0 .first-held .few-nodes, c .before .before .before .before .hand-on .kept .1 .1 .1 .0, k .pre .1 .1 .0 .room), omega (arith, c .before .before .before .before .before .before .before .row-at .ensures .0))
 
 same-length : tie.Need-same-length
 same-length c = search needs

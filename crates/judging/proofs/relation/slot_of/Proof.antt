@@ -10,7 +10,7 @@ use Rattle.judging.proofs.relation.slot_of.Tie as tie
 use Rattle.files.proofs.graph.edge_at.Reads as edge-at-reads
 
 edge-at-requires : tie.Need-edge-at-requires
-edge-at-requires c κs = (c .before .before .pre .0 .first-file, c .before .before .pre .0 .first-nodes-are, omega (arith, c .before .before .pre .1, c .before .before .pre .0 .first-edges-are, c .before .before .pre .0 .first-nodes-are))
+edge-at-requires c κs = (c .before .before .pre .0 .first-held .views .graph-file, c .before .before .pre .0 .first-held .views .nodes-are, omega (arith, c .before .before .pre .1, c .before .before .pre .0 .first-held .views .edges-are, c .before .before .pre .0 .first-held .views .nodes-are))
 
 enum-known-x : tie.Need-enum-known-x
 enum-known-x c = search needs

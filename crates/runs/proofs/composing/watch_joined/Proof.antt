@@ -19,7 +19,7 @@ use Rattle.runs.proofs.watching.watch_runs.Reads as watch-runs-reads
 
 -- the second graph's bytes, where they stand in the buffer
 abbrev second : Sizes → List ℕ → List ℕ
-second s l = take (6 * (s .nodes2 + s .edges2)) l
+second s l = take (6 * (s .second .nodes + s .second .edges)) l
 
 add-nodes : tie.Need-add-nodes
 add-nodes c = search needs
@@ -50,7 +50,7 @@ slice-reshare-prefix-write-join c = search needs
 
 slice-aggregate-write-join : tie.Need-slice-aggregate-write-join
 slice-aggregate-write-join c = let k = c .before .before .before .before .before .before .before .before .before .before .before .before in
-    sym (length-take-le (6 * (k .args .s .nodes2 + k .args .s .edges2)) (k .args .store .now) (omega (arith, k .pre .0 .few-second-nodes, k .pre .0 .few-second-edges, k .pre .1 .1 .1 .0)))
+    sym (length-take-le (6 * (k .args .s .second .nodes + k .args .s .second .edges)) (k .args .store .now) (omega (arith, k .pre .0 .second-held .few-nodes, k .pre .0 .second-held .few-edges, k .pre .1 .1 .1 .0)))
 
 write-join-requires : tie.Need-write-join-requires
 write-join-requires c κs = let k = c .before .before .before .before .before .before .before .before .before .before .before .before .before in
