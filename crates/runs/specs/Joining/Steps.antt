@@ -45,21 +45,27 @@ pub record Joinable (L : Limits) (i1 g1 i2 g2 : List ℕ) : Type 0 where
   pub second-interface : InterfaceFile i2
   pub second-within : GraphWithin L g2
 
-pub join-known : (L : Limits) (i1 g1 i2 g2 : List ℕ) → Settles (join-first L i1 g1 i2 g2) Passed → Joinable L i1 g1 i2 g2
-join-known L i1 g1 i2 g2 s =
-    let nine : Row =
-    λ cs. scan-check 9 2 (first-foreign (decode-interface i1) g1) (scan-check 9 4 (first-foreign (decode-interface i2) g2)
-    (whole-check 9 (shares (decode-interface i1) (decode-interface i2)) cs)) in
-    let a = file-known (λ cs. file-checks L 2 graph g1 (file-checks L 3 interface i2 (file-checks L 4 graph g2 (nine cs)))) L 1 interface i1 s in
-    let b = file-known (λ cs. file-checks L 3 interface i2 (file-checks L 4 graph g2 (nine cs))) L 2 graph g1 (a .1) in
-    let c = file-known (λ cs. file-checks L 4 graph g2 (nine cs)) L 3 interface i2 (b .1) in
-    let d = file-known nine L 4 graph g2 (c .1) in
+-- .. whatever follows the files
+pub files-known : (L : Limits) (i1 g1 i2 g2 : List ℕ) (rest : Row)
+    → Settles (λ cs. file-checks L 1 interface i1 (file-checks L 2 graph g1 (file-checks L 3 interface i2 (file-checks L 4 graph g2 (rest cs))))) Passed
+    → Joinable L i1 g1 i2 g2
+files-known L i1 g1 i2 g2 rest s =
+    let a = file-known (λ cs. file-checks L 2 graph g1 (file-checks L 3 interface i2 (file-checks L 4 graph g2 (rest cs)))) L 1 interface i1 s in
+    let b = file-known (λ cs. file-checks L 3 interface i2 (file-checks L 4 graph g2 (rest cs))) L 2 graph g1 (a .1) in
+    let c = file-known (λ cs. file-checks L 4 graph g2 (rest cs)) L 3 interface i2 (b .1) in
+    let d = file-known rest L 4 graph g2 (c .1) in
     record {
       first-interface = record { limits = L; accepted = a .0 };
       first-within = b .0;
       second-interface = record { limits = L; accepted = c .0 };
       second-within = d .0;
     }
+
+pub join-known : (L : Limits) (i1 g1 i2 g2 : List ℕ) → Settles (join-first L i1 g1 i2 g2) Passed → Joinable L i1 g1 i2 g2
+join-known L i1 g1 i2 g2 =
+    files-known L i1 g1 i2 g2
+    (λ cs. scan-check 9 2 (first-foreign (decode-interface i1) g1) (scan-check 9 4 (first-foreign (decode-interface i2) g2)
+    (whole-check 9 (shares (decode-interface i1) (decode-interface i2)) cs)))
 
 module _ (L : Limits) (i1 g1 i2 g2 out : List ℕ) where
   abbrev I : Interface

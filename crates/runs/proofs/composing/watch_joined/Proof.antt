@@ -13,9 +13,6 @@ use Rattle.runs.specs.Joining.Sizes.{nodes-few, edges-few}
 use borrow.Author.Needs.{needs}
 use Rattle.runs.proofs.composing.watch_joined.Statement.{statement}
 use Rattle.runs.proofs.composing.watch_joined.Tie as tie
-use Rattle.files.proofs.refusal.Refusal.whole.Reads as whole-reads
-use Rattle.runs.proofs.joining.write_join.Reads as write-join-reads
-use Rattle.runs.proofs.watching.watch_runs.Reads as watch-runs-reads
 
 -- the second graph's bytes, where they stand in the buffer
 abbrev second : Sizes → List ℕ → List ℕ
@@ -60,7 +57,13 @@ write-join-requires c κs = let k = c .before .before .before .before .before .b
     (k .pre .0, (omega (arith, n, k .pre .1 .1 .0 .nodes-fit), omega (arith, n, e, k .pre .1 .1 .0 .nodes-fit, k .pre .1 .1 .0 .edges-fit, k .pre .1 .1 .1 .1)))
 
 slice-reshare-prefix-watch-runs : tie.Need-slice-reshare-prefix-watch-runs
-slice-reshare-prefix-watch-runs c = search needs
+slice-reshare-prefix-watch-runs c =
+    let k = c .before .before .before .before .before .before .before .before .before .before .before .before .before .before .before .before in
+    let a = k .args in
+    let past = c .before .before .before .before .before .before .if1 .left in
+    let n = nodes-few (a .limits) (a .s) (a .graph .now) (second (a .s) (a .store .now)) (k .pre .0) past in
+    let e = edges-few (a .limits) (a .s) (a .graph .now) (second (a .s) (a .store .now)) (k .pre .0) past in
+    omega (arith, n, e, k .pre .1 .1 .0 .nodes-fit, k .pre .1 .1 .0 .edges-fit, k .pre .1 .1 .1 .1, c .before .before .write-join .kept)
 
 slice-aggregate-watch-runs : tie.Need-slice-aggregate-watch-runs
 slice-aggregate-watch-runs c = let k = c .before .before .before .before .before .before .before .before .before .before .before .before .before .before .before .before .before in

@@ -1,3 +1,4 @@
+-- Four runs of bytes stored one behind the other are the bytes of the joined graph.
 use mathlib.Core.Path.{_≡_, sym, ap}
 use Prim.Native.Nat.{ℕ, _+_, _*_, _-_}
 use native.Mathlib.Omega.{arith}
@@ -60,7 +61,10 @@ add-write-all-moved : tie.Need-add-write-all-moved
 add-write-all-moved c = search needs
 
 add-write-all-moved-2 : tie.Need-add-write-all-moved-2
-add-write-all-moved-2 c = search needs
+add-write-all-moved-2 c =
+    let d = c .before .before .before .before .before .before .before .before .before .before .before .before .before .before .before in
+    let k = d .before .before .before .before .before .before .before .before .before in
+    omega (arith, k .pre .1 .0, k .pre .0 .first-held .few-edges)
 
 write-all-moved-requires : tie.Need-write-all-moved-requires
 write-all-moved-requires c κs =
