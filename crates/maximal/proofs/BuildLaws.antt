@@ -13,7 +13,7 @@ use Rattle.files.specs.Graph.{Graph}
 use Rattle.files.specs.Interface.{Interface}
 use Rattle.files.specs.Limits.{desk}
 use Rattle.files.specs.Outcome.{Answers, TooLarge, refusal-at, refused-answer, verdict-answer}
-use Rattle.files.specs.Outcome.Steps.{answers-large, answers-short, answers-written}
+use Rattle.files.specs.Outcome.Ends.{answers-large, answers-short, answers-written}
 use Rattle.files.specs.Property.{Row, Property}
 use Rattle.files.specs.Record.{count}
 use Rattle.files.specs.Refusal.{property, refusal}

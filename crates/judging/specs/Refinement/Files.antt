@@ -1,5 +1,5 @@
 -- What two accepted graph files say to the code of comparing: the counts and the flow graphs that they hold, the bounds, and where each edge stands.
-use mathlib.Core.Path.{_≡_, sym, _∙_}
+use mathlib.Core.Path.{_≡_}
 use mathlib.Core.List.{List}
 use Prim.Native.Nat.{ℕ, _≤_, _<_}
 use native.Mathlib.Omega.{arith}

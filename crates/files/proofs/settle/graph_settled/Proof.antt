@@ -1,9 +1,8 @@
 -- What the check counted is the view, where the graph is accepted.
-use mathlib.Core.Path.{_≡_, sym, ap, _∙_}
-use Prim.Native.Nat.{_-_, _≤_}
+use mathlib.Core.Path.{sym, ap, _∙_}
 use native.Mathlib.Omega.{arith}
 use Rattle.files.specs.Settling.{file-settled}
-use Rattle.files.specs.View.{Views, accepted-views}
+use Rattle.files.specs.View.{accepted-views}
 use Rattle.files.specs.Settling.Laws.{not-passed}
 use borrow.Author.Needs.{needs}
 use Rattle.files.proofs.settle.graph_settled.Statement.{statement}

@@ -7,7 +7,6 @@ use Rattle.judging.proofs.ClearedLaws.{cleared-length}
 use borrow.Author.Needs.{needs}
 use Rattle.judging.proofs.chains.index.Statement.{statement}
 use Rattle.judging.proofs.chains.index.Tie as tie
-use Rattle.files.proofs.cells.clear.Reads as clear-reads
 
 sub-clear : tie.Need-sub-clear
 sub-clear c = search needs

@@ -11,8 +11,6 @@ use Rattle.judging.specs.Refinement.{Chosen}
 use Rattle.judging.proofs.RowLaws.{chosen-none, chosen-put, chosen-over}
 use Rattle.judging.proofs.cover.entries.Statement.{statement}
 use Rattle.judging.proofs.cover.entries.Tie as tie
-use Rattle.files.proofs.cells.put_bit.Reads as put-bit-reads
-use Rattle.judging.proofs.cover.is_entry.Reads as is-entry-reads
 
 abbrev Inv-loop : tie.InvT-loop
 Inv-loop first second s row₀ h₀ row h = (h ≤ s .second .nodes) × (length row ≡ 32) × Chosen (λ x. (node (decode-graph second) x) .entry) h row

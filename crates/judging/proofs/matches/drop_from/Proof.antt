@@ -1,5 +1,5 @@
 use mathlib.Core.Path.{_≡_, refl, _∙_}
-use Prim.Native.Nat.{ℕ, _-_, _<_}
+use Prim.Native.Nat.{ℕ, _<_}
 use native.Mathlib.Omega.{arith}
 use lib.Dec.{T}
 use lib.ListN.{length}
@@ -11,9 +11,6 @@ use Rattle.judging.proofs.LevelLaws.{Walk}
 use Rattle.judging.proofs.MatchLaws.{slot-start, slot-item, slot-less, source-dropped, all-dropped, taken}
 use Rattle.judging.proofs.matches.drop_from.Statement.{statement}
 use Rattle.judging.proofs.matches.drop_from.Tie as tie
-use Rattle.files.proofs.cells.get16.Reads as get16-reads
-use Rattle.judging.proofs.matches.source_of.Reads as source-of-reads
-use Rattle.judging.proofs.rows.drop_row.Reads as drop-row-reads
 
 abbrev Inv-loop : tie.InvT-loop
 Inv-loop first second s work₀ slot gone at₀ work at = (length work ≡ length work₀) × Shrank (decode-graph first) (decode-graph second) work₀ work × Walk (labelled-into (decode-graph first) slot) (length ((decode-graph first) .edges)) at (λ e. (h : ℕ) → h < 256 → T (rel work ((edge (decode-graph first) e) .from) h) → In gone h → ⊥)

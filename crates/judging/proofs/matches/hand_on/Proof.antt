@@ -9,10 +9,6 @@ use Rattle.judging.specs.Refinement.Handing.{shrank-none, shrank-on}
 use Rattle.judging.proofs.MatchLaws.{labels-kept, met-first, met-still}
 use Rattle.judging.proofs.matches.hand_on.Statement.{statement}
 use Rattle.judging.proofs.matches.hand_on.Tie as tie
-use Rattle.judging.proofs.matches.hand_on_by.Reads as hand-on-by-reads
-use Rattle.judging.proofs.matches.nodes_near.Reads as nodes-near-reads
-use Rattle.judging.proofs.matches.predecessors.Reads as predecessors-reads
-use Rattle.judging.proofs.rows.row_without.Reads as row-without-reads
 
 abbrev Inv-loop : tie.InvT-loop
 Inv-loop first second s work₀ v row met near label₀ work label = (label ≤ 9) × (length work ≡ length work₀) × Shrank (decode-graph first) (decode-graph second) work₀ work × ((l : ℕ) → l < label → LabelMatched (decode-graph first) (decode-graph second) work v l row)

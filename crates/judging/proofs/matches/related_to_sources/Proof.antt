@@ -1,5 +1,5 @@
 use mathlib.Core.Path.{_≡_, refl}
-use Prim.Native.Nat.{ℕ, _-_, _<_}
+use Prim.Native.Nat.{ℕ, _<_}
 use native.Mathlib.Omega.{arith}
 use lib.Dec.{T}
 use lib.ListN.{length}
@@ -10,9 +10,6 @@ use Rattle.judging.proofs.LevelLaws.{Walk}
 use Rattle.judging.proofs.MatchLaws.{none-within, slot-start, slot-item, slot-less, source-added, all-added}
 use Rattle.judging.proofs.matches.related_to_sources.Statement.{statement}
 use Rattle.judging.proofs.matches.related_to_sources.Tie as tie
-use Rattle.files.proofs.cells.get16.Reads as get16-reads
-use Rattle.judging.proofs.matches.source_of.Reads as source-of-reads
-use Rattle.judging.proofs.rows.row_with.Reads as row-with-reads
 
 abbrev Inv-loop : tie.InvT-loop
 Inv-loop first second s work slot found₀ at₀ found at = (length found ≡ 32) × Within (s .second .nodes) found × Walk (labelled-into (decode-graph first) slot) (length ((decode-graph first) .edges)) at (λ e. (h : ℕ) → h < 256 → T (rel work ((edge (decode-graph first) e) .from) h) → In found h)

@@ -1,11 +1,8 @@
 use Rattle.judging.proofs.OrderLaws.{byte-put, none-reaches}
-use Prim.Native.Nat.{_-_}
 use native.Mathlib.Omega.{arith}
 use borrow.Author.Needs.{needs}
 use Rattle.judging.proofs.order.leave.Statement.{statement}
 use Rattle.judging.proofs.order.leave.Tie as tie
-use Rattle.files.proofs.cells.get8.Reads as get8-reads
-use Rattle.files.proofs.cells.put8.Reads as put8-reads
 
 get8-requires : tie.Need-get8-requires
 get8-requires c κs = search needs

@@ -7,8 +7,6 @@ use Rattle.judging.specs.Refinement.Files.{first-edge-in}
 use Rattle.judging.proofs.OrderLaws.{outside-on, pair-put}
 use Rattle.judging.proofs.order.put_cursors.Statement.{statement}
 use Rattle.judging.proofs.order.put_cursors.Tie as tie
-use Rattle.files.proofs.cells.put16.Reads as put16-reads
-use Rattle.judging.proofs.matches.source_of.Reads as source-of-reads
 
 abbrev Inv-loop : tie.InvT-loop
 Inv-loop first second s work₀ left₀ work left = (length work ≡ length work₀) × (left ≤ s .first .edges) × Outside 29760 30816 work₀ work

@@ -6,8 +6,6 @@ use lib.ListN.{length}
 use Rattle.judging.specs.Chains.{Outside}
 use Rattle.judging.proofs.order.put_in_order.Statement.{statement}
 use Rattle.judging.proofs.order.put_in_order.Tie as tie
-use Rattle.judging.proofs.order.put_cursors.Reads as put-cursors-reads
-use Rattle.judging.proofs.order.visit.Reads as visit-reads
 
 abbrev Inv-loop : tie.InvT-loop
 Inv-loop first second s work₀ root₀ left₀ work root left = (length work ≡ length work₀) × Outside 29760 30816 work₀ work

@@ -1,5 +1,5 @@
 use mathlib.Core.Path.{ap}
-use Prim.Native.Nat.{_-_, _<_}
+use Prim.Native.Nat.{_<_}
 use native.Mathlib.Omega.{arith}
 use Rattle.files.specs.Decode.{decode-graph}
 use Rattle.files.specs.declared.graph.GraphEdge.{GraphEdge}
@@ -10,13 +10,6 @@ use Rattle.judging.proofs.OrderLaws.{outside-on, byte-put, pair-put, bi
 use borrow.Author.Needs.{needs}
 use Rattle.judging.proofs.order.step.Statement.{statement}
 use Rattle.judging.proofs.order.step.Tie as tie
-use Rattle.files.proofs.cells.get16.Reads as get16-reads
-use Rattle.files.proofs.cells.has_bit.Reads as has-bit-reads
-use Rattle.files.proofs.cells.put16.Reads as put16-reads
-use Rattle.files.proofs.cells.put8.Reads as put8-reads
-use Rattle.files.proofs.cells.put_bit.Reads as put-bit-reads
-use Rattle.files.proofs.graph.edge_at.Reads as edge-at-reads
-use Rattle.judging.proofs.order.leave.Reads as leave-reads
 
 get16-requires : tie.Need-get16-requires
 get16-requires c κs = search needs

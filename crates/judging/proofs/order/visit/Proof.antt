@@ -1,13 +1,8 @@
-use Prim.Native.Nat.{_-_}
 use native.Mathlib.Omega.{arith}
 use Rattle.judging.proofs.OrderLaws.{outside-on, byte-put, bit-put}
 use borrow.Author.Needs.{needs}
 use Rattle.judging.proofs.order.visit.Statement.{statement}
 use Rattle.judging.proofs.order.visit.Tie as tie
-use Rattle.files.proofs.cells.has_bit.Reads as has-bit-reads
-use Rattle.files.proofs.cells.put8.Reads as put8-reads
-use Rattle.files.proofs.cells.put_bit.Reads as put-bit-reads
-use Rattle.judging.proofs.order.walk_from.Reads as walk-from-reads
 
 has-bit-requires : tie.Need-has-bit-requires
 has-bit-requires c κs = search needs

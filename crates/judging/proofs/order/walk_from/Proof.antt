@@ -1,12 +1,11 @@
 use mathlib.Core.Path.{_≡_, refl, _∙_}
-use Prim.Native.Nat.{_-_, _<_}
+use Prim.Native.Nat.{_<_}
 use native.Mathlib.Omega.{arith}
 use lib.ListN.{length}
 use Rattle.judging.specs.Chains.{Outside}
 use Rattle.judging.proofs.OrderLaws.{outside-on}
 use Rattle.judging.proofs.order.walk_from.Statement.{statement}
 use Rattle.judging.proofs.order.walk_from.Tie as tie
-use Rattle.judging.proofs.order.step.Reads as step-reads
 
 abbrev Inv-loop : tie.InvT-loop
 Inv-loop first second s work₀ root left w₀ steps₀ work w steps = (length work ≡ length work₀) × (w .node < s .first .nodes) × Outside 29760 30816 work₀ work

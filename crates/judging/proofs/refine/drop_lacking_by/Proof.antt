@@ -11,8 +11,6 @@ use Rattle.judging.specs.Refinement.Handing.{shrank-none, shrank-on}
 use Rattle.judging.proofs.MatchLaws.{lacking-drop, dropped-turn, leading-all}
 use Rattle.judging.proofs.refine.drop_lacking_by.Statement.{statement}
 use Rattle.judging.proofs.refine.drop_lacking_by.Tie as tie
-use Rattle.judging.proofs.matches.drop_from.Reads as drop-from-reads
-use Rattle.judging.proofs.refine.lacking.Reads as lacking-reads
 
 abbrev Inv-loop : tie.InvT-loop
 Inv-loop first second s work₀ label gone v₀ work v = (v ≤ s .first .nodes) × (length work ≡ length work₀) × Shrank (decode-graph first) (decode-graph second) work₀ work × ((e h : ℕ) → e < s .first .edges → (edge (decode-graph first) e) .label ≡ label → (edge (decode-graph first) e) .to < v → h < 256 → T (rel work ((edge (decode-graph first) e) .from) h) → T (has-bit gone 0 h) → ⊥)

@@ -9,7 +9,6 @@ use Rattle.files.specs.Cells.{has-bit}
 use Rattle.judging.proofs.RowLaws.{chosen-none, chosen-put}
 use Rattle.judging.proofs.refine.everything.Statement.{statement}
 use Rattle.judging.proofs.refine.everything.Tie as tie
-use Rattle.files.proofs.cells.put_bit.Reads as put-bit-reads
 
 abbrev Inv-loop : tie.InvT-loop
 Inv-loop s row₀ x₀ row x = (x ≤ s .second .nodes) × (length row ≡ 32) × ((h : ℕ) → h < 256 → has-bit row 0 h ≡ ltb h x)

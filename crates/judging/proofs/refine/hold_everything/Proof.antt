@@ -9,8 +9,6 @@ use Rattle.judging.specs.Refinement.{held}
 use Rattle.judging.proofs.MatchLaws.{held-turn}
 use Rattle.judging.proofs.refine.hold_everything.Statement.{statement}
 use Rattle.judging.proofs.refine.hold_everything.Tie as tie
-use Rattle.judging.proofs.refine.everything.Reads as everything-reads
-use Rattle.judging.proofs.rows.put_row.Reads as put-row-reads
 
 abbrev Inv-loop : tie.InvT-loop
 Inv-loop first second s work₀ row v₀ work v = (v ≤ s .first .nodes) × (length work ≡ length work₀) × ((u h : ℕ) → u < v → h < 256 → held work u h ≡ ltb h (s .second .nodes)) × Outside 8192 16384 work₀ work

@@ -9,8 +9,6 @@ use Rattle.judging.specs.Refinement.{Lacking}
 use Rattle.judging.proofs.MatchLaws.{lacking-none, lacking-put, lacking-over, not-off}
 use Rattle.judging.proofs.refine.lacking.Statement.{statement}
 use Rattle.judging.proofs.refine.lacking.Tie as tie
-use Rattle.files.proofs.cells.put_bit.Reads as put-bit-reads
-use Rattle.judging.proofs.rows.any_at.Reads as any-at-reads
 
 abbrev Inv-loop : tie.InvT-loop
 Inv-loop s work label row₀ x₀ row x = (x ≤ s .second .nodes) × (length row ≡ 32) × Lacking work label x row

@@ -8,7 +8,6 @@ use Rattle.judging.proofs.LevelLaws.{below-more}
 use Rattle.judging.proofs.MatchLaws.{taken}
 use Rattle.judging.proofs.refine.lowest_unsettled.Statement.{statement}
 use Rattle.judging.proofs.refine.lowest_unsettled.Tie as tie
-use Rattle.judging.proofs.refine.has_lost.Reads as has-lost-reads
 
 abbrev Inv-loop : tie.InvT-loop
 Inv-loop first second s work v₀ v = (v ≤ s .first .nodes) × ((u h : ℕ) → u < v → h < 256 → T (held work u h) → T (rel work u h))

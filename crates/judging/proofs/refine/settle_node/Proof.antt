@@ -1,6 +1,6 @@
 use native.Mathlib.Nat.{le-refl, le-trans}
 use mathlib.Core.Path.{_≡_, refl, sym, subst, _∙_}
-use Prim.Native.Nat.{_-_, _≤_}
+use Prim.Native.Nat.{_≤_}
 use lib.Dec.{T}
 use lib.ListN.{length}
 use Rattle.files.specs.Decode.{decode-graph}
@@ -8,8 +8,6 @@ use Rattle.judging.specs.Refinement.{load, Matching}
 use Rattle.judging.proofs.MatchLaws.{taken, matching-still, load-down, load-less}
 use Rattle.judging.proofs.refine.settle_node.Statement.{statement}
 use Rattle.judging.proofs.refine.settle_node.Tie as tie
-use Rattle.judging.proofs.refine.has_lost.Reads as has-lost-reads
-use Rattle.judging.proofs.refine.take.Reads as take-reads
 
 abbrev Inv-loop : tie.InvT-loop
 Inv-loop first second s work₀ v work = (length work ≡ length work₀) × Matching (decode-graph first) (decode-graph second) (s .first .nodes) work × (load (s .first .nodes) work ≤ load (s .first .nodes) work₀)

@@ -9,8 +9,6 @@ use Rattle.judging.proofs.MatchLaws.{taken}
 use native.Mathlib.Nat.{le-refl, le-trans}
 use Rattle.judging.proofs.refine.sweep.Statement.{statement}
 use Rattle.judging.proofs.refine.sweep.Tie as tie
-use Rattle.files.proofs.cells.get8.Reads as get8-reads
-use Rattle.judging.proofs.refine.settle_node.Reads as settle-node-reads
 
 abbrev Inv-loop : tie.InvT-loop
 Inv-loop first second s work₀ i₀ work i = (length work ≡ length work₀) × Matching (decode-graph first) (decode-graph second) (s .first .nodes) work × (load (s .first .nodes) work ≤ load (s .first .nodes) work₀)

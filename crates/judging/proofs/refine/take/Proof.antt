@@ -1,12 +1,8 @@
-use Prim.Native.Nat.{_-_}
 use native.Mathlib.Omega.{arith}
 use Rattle.judging.proofs.MatchLaws.{contained, taken}
 use borrow.Author.Needs.{needs}
 use Rattle.judging.proofs.refine.take.Statement.{statement}
 use Rattle.judging.proofs.refine.take.Tie as tie
-use Rattle.judging.proofs.matches.hand_on.Reads as hand-on-reads
-use Rattle.judging.proofs.rows.put_row.Reads as put-row-reads
-use Rattle.judging.proofs.rows.row_at.Reads as row-at-reads
 
 mul-row-at : tie.Need-mul-row-at
 mul-row-at c = search needs

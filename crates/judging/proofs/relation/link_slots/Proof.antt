@@ -8,8 +8,6 @@ use Rattle.judging.specs.Refinement.{labelled-into}
 use Rattle.judging.proofs.RelationLaws.{slots-start, may-slot, slots-turn}
 use Rattle.judging.proofs.relation.link_slots.Statement.{statement}
 use Rattle.judging.proofs.relation.link_slots.Tie as tie
-use Rattle.judging.proofs.chains.link.Reads as link-reads
-use Rattle.judging.proofs.relation.slot_of.Reads as slot-of-reads
 
 abbrev Inv-loop : tie.InvT-loop
 Inv-loop first second s work₀ e₀ work e = (e ≤ s .first .edges) × (length work ≡ length work₀) × Chained work 16960 21568 (labelled-into (decode-graph first)) (9 * s .first .nodes) e × Outside 16960 29760 work₀ work

@@ -7,11 +7,6 @@ use Rattle.judging.proofs.ClearedLaws.{cleared-length, cleared-inside}
 use borrow.Author.Needs.{needs}
 use Rattle.judging.proofs.relation.prepare.Statement.{statement}
 use Rattle.judging.proofs.relation.prepare.Tie as tie
-use Rattle.files.proofs.cells.clear.Reads as clear-reads
-use Rattle.judging.proofs.relation.link_slots.Reads as link-slots-reads
-use Rattle.judging.proofs.relation.put_edges.Reads as put-edges-reads
-use Rattle.judging.proofs.relation.put_kinds.Reads as put-kinds-reads
-use Rattle.judging.proofs.relation.relate.Reads as relate-reads
 
 mul-clear : tie.Need-mul-clear
 mul-clear c = search needs

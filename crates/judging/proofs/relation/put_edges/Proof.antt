@@ -8,7 +8,6 @@ use Rattle.judging.specs.Refinement.Preparing.{Putting}
 use Rattle.judging.proofs.RelationLaws.{putting-start, putting-turn, putting-all}
 use Rattle.judging.proofs.relation.put_edges.Statement.{statement}
 use Rattle.judging.proofs.relation.put_edges.Tie as tie
-use Rattle.judging.proofs.relation.put_edge.Reads as put-edge-reads
 
 abbrev Inv-loop : tie.InvT-loop
 Inv-loop first second s work₀ j₀ work j = (j ≤ s .second .edges) × (length work ≡ length work₀) × Putting (decode-graph second) (s .second .nodes) j work × Outside 30816 112736 work₀ work

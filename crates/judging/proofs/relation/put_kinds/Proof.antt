@@ -8,8 +8,6 @@ use Rattle.judging.specs.Refinement.{KindRows}
 use Rattle.judging.proofs.RelationLaws.{kinds-start, kinds-turn}
 use Rattle.judging.proofs.relation.put_kinds.Statement.{statement}
 use Rattle.judging.proofs.relation.put_kinds.Tie as tie
-use Rattle.files.proofs.cells.put_bit.Reads as put-bit-reads
-use Rattle.judging.proofs.relation.kind_of.Reads as kind-of-reads
 
 abbrev Inv-loop : tie.InvT-loop
 Inv-loop first second s work₀ h₀ work h = (h ≤ s .second .nodes) × (length work ≡ length work₀) × KindRows (decode-graph second) h work × Outside 16384 16960 work₀ work

@@ -12,9 +12,6 @@ use Rattle.judging.specs.Simulation.{alike}
 use Rattle.judging.proofs.RelationLaws.{related-turn}
 use Rattle.judging.proofs.relation.relate.Statement.{statement}
 use Rattle.judging.proofs.relation.relate.Tie as tie
-use Rattle.judging.proofs.relation.kind_of.Reads as kind-of-reads
-use Rattle.judging.proofs.rows.put_row.Reads as put-row-reads
-use Rattle.judging.proofs.rows.row_at.Reads as row-at-reads
 
 abbrev Inv-loop : tie.InvT-loop
 Inv-loop first second s work₀ g₀ work g = (g ≤ s .first .nodes) × (length work ≡ length work₀) × ((u h : ℕ) → u < g → h < 256 → rel work u h ≡ (ltb h (s .second .nodes) && alike (node (decode-graph first) u) (node (decode-graph second) h))) × Outside 0 8192 work₀ work

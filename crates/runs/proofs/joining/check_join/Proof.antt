@@ -1,5 +1,5 @@
 -- Each check settles its numbers, in the published order; 9 is asked where the four files are accepted, and each graph's view is handed on.
-use mathlib.Core.Path.{_≡_, sym, _∙_}
+use mathlib.Core.Path.{_≡_, sym}
 use mathlib.Core.List.{List}
 use Prim.Native.Nat.{ℕ}
 use Rattle.files.specs.Checking.{checked}
@@ -7,19 +7,15 @@ use Rattle.files.specs.Decode.{decode-interface}
 use Rattle.files.specs.Outcome.{file-checks}
 use Rattle.files.specs.Refusal.{graph, interface}
 use Rattle.files.specs.Settling.{and-then, file-settled, Settles}
-use Rattle.files.specs.Settling.Laws.{whole-settles, found-settles, file-settles, next-settles, settled-as, first-passed}
+use Rattle.files.specs.Settling.Laws.{whole-settles, found-settles, file-settles, next-settles, settled-as, passed-before}
 use Rattle.files.specs.Sides.{first-foreign, shares}
 use Rattle.files.specs.declared.record.Limits.{Limits}
 use Rattle.files.specs.declared.settle.Settled.{Settled}
 use Rattle.files.specs.declared.settle.Settled.the-variants.{Passed}
-use Rattle.runs.specs.Joining.Steps.{Joinable, files-known}
+use Rattle.runs.specs.Joining.Work.{Joinable, files-known}
 use borrow.Author.Needs.{needs}
 use Rattle.runs.proofs.joining.check_join.Statement.{statement}
 use Rattle.runs.proofs.joining.check_join.Tie as tie
-
--- where a check passes after others, they passed
-earlier : (x y : Settled) {z : Settled} → z ≡ and-then x y → z ≡ Passed → x ≡ Passed
-earlier x y e p = first-passed x y (sym e ∙ p)
 
 -- the four files, one after the other
 module _ (L : Limits) (i1 g1 i2 g2 : List ℕ) {sided1 drawn1 sided2 drawn2 : Settled} (a : sided1 ≡ file-settled (checked L interface i1 1))
@@ -66,7 +62,7 @@ then-own-requires-2 c κs =
     let drawn2 = c .before .before .then-graph2 .ensures .0 in
     let known = accepted (a .limits) (a .interface1 .now) (a .graph1 .now) (a .interface2 .now) (a .graph2 .now) sided1 drawn1 sided2 drawn2 in
     λ e.
-    let k = known (earlier _ _ (c .then-own .ensures) e) in
+    let k = known (passed-before _ _ (c .then-own .ensures) e) in
     (record { limits = a .limits; accepted = k .second-within }, k .second-interface)
 
 then-apart-requires : tie.Need-then-apart-requires
@@ -78,7 +74,7 @@ then-apart-requires c κs =
     let drawn2 = c .before .before .before .then-graph2 .ensures .0 in
     let known = accepted (a .limits) (a .interface1 .now) (a .graph1 .now) (a .interface2 .now) (a .graph2 .now) sided1 drawn1 sided2 drawn2 in
     λ e.
-    let k = known (earlier _ _ (c .before .then-own .ensures) (earlier _ _ (c .then-own2 .ensures) e)) in
+    let k = known (passed-before _ _ (c .before .then-own .ensures) (passed-before _ _ (c .then-own2 .ensures) e)) in
     (k .first-interface, k .second-interface)
 
 returns : tie.Need-returns
@@ -98,8 +94,8 @@ returns c =
     let s6 = next-settles s5 (found-settles 9 4 (first-foreign J (a .graph2 .now))) own2 in (
       next-settles s6 (whole-settles 9 (shares I J)) apart,
       λ e.
-          let d = earlier _ _ own1 (earlier _ _ own2 (earlier _ _ apart e)) in
-          (drawn1 .1 (earlier _ _ sided2 (earlier _ _ (drawn2 .0) d)), drawn2 .1 d),
+          let d = passed-before _ _ own1 (passed-before _ _ own2 (passed-before _ _ apart e)) in
+          (drawn1 .1 (passed-before _ _ sided2 (passed-before _ _ (drawn2 .0) d)), drawn2 .1 d),
     )
 
 pub check-join-spec : {M : Type 1} → statement M

@@ -1,7 +1,7 @@
 -- A file is refused, or both are accepted, and the counts of their views give the place.
 use mathlib.Core.Path.{sym, subst}
 use Rattle.runs.specs.Showing.{shown, Stands}
-use Rattle.runs.specs.Showing.Steps.{stands-refused, stands-placed}
+use Rattle.runs.specs.Showing.Work.{stands-refused, stands-placed}
 use borrow.Author.Needs.{needs}
 use Rattle.runs.proofs.showing.find_place.Statement.{statement}
 use Rattle.runs.proofs.showing.find_place.Tie as tie

@@ -13,10 +13,9 @@ use Rattle.files.specs.Cells.Laws.{put-front}
 use Rattle.files.specs.Decode.{decode-graph, decode-interface, graph-bytes}
 use Rattle.files.specs.Graph.{Graph}
 use Rattle.files.specs.Interface.{Interface}
-use Rattle.files.specs.Limits.{desk}
-use Rattle.files.specs.Outcome.{Said, Answer, Answers, refused-answer, verdict-answer, Check, whole-check, scan-check, file-checks, answered, refusal-at}
+use Rattle.files.specs.Outcome.{Said, Answers, refused-answer, verdict-answer, Check, whole-check, scan-check, file-checks, answered, refusal-at}
 use Rattle.files.specs.Outcome.Laws.{says-too-large}
-use Rattle.files.specs.Outcome.Steps.{answers-large, answers-short, answers-written}
+use Rattle.files.specs.Outcome.Ends.{answers-large, answers-short, answers-written}
 use Rattle.files.specs.Refusal.{graph, interface}
 use Rattle.files.specs.Settling.{Row, Settles}
 use Rattle.files.specs.Settling.Laws.{file-known}
@@ -104,9 +103,3 @@ module _ (L : Limits) (i1 g1 i2 g2 out : List ℕ) where
           (ap₂ (λ (x y : ℕ). x ∷ y ∷ []) (ap₂ bitOr (sym a) (sym b)) (ap₂ bitOr (sym c) (sym d)))
           (answers-written L whole both-bytes out (small L s g1 g2 both within) out′ (s .first .nodes + s .second .nodes) (s .first .edges + s .second .edges) (omega (arith, h, bytes-joined s g1 g2 both)) (e ∙ put-front out (graph-bytes whole))
           (nodes-joined s g1 g2 both) (edges-joined s g1 g2 both))
-
--- ---- the limits of the desk
-
-pub answers-desk : (L : Limits) (i1 g1 i2 g2 out out′ : List ℕ) (a : Answer) → L ≡ desk → Answers (joined L i1 g1 i2 g2 (length out)) out out′ a
-    → Answers (joined desk i1 g1 i2 g2 (length out)) out out′ a
-answers-desk L i1 g1 i2 g2 out out′ a e = subst (λ (M : Limits). Answers (joined M i1 g1 i2 g2 (length out)) out out′ a) e

@@ -11,7 +11,7 @@ use borrow.Author.Tests.{lt-ltb, le-ltb, le-leb, lt-leb}
 use Rattle.files.specs.Decode.{decode-graph}
 use Rattle.files.specs.Graph.{size}
 use Rattle.files.specs.Outcome.{Said, Outcome, says, refusal-at, answered, answer, written-of}
-use Rattle.files.specs.Outcome.Steps.{whole-refuses, whole-passes}
+use Rattle.files.specs.Outcome.Ends.{whole-refuses, whole-passes}
 use Rattle.files.specs.Record.{count, part}
 use Rattle.files.specs.Settling.{Settles}
 use Rattle.files.specs.Settling.Calls.{refuses-is, left-is}
