@@ -1,3 +1,4 @@
 pub mod Tags
 pub mod CheckLaws
+pub mod PlainLaws
 pub mod AccessLaws

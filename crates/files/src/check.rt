@@ -1,13 +1,15 @@
 // Checking a file: accepted, with the counts that upper layers need, or refused by the lowest number among 1 to 8 at its first offending record.
 // Numbers 2 to 4 are one scan, 7 and 8 another; 1, 5 and 6 are of the whole file, and the numbers follow each other.
 ghost use mathlib.Core.Path.{_≡_};
-ghost use Prim.Native.Nat.{_+_, _*_, _≤_, _<_};
+ghost use Prim.Native.Nat.{_+_, _*_, _%_, _≤_, _<_};
 ghost use lib.ListN.{length};
 ghost use Rattle.files.specs.Record.{part};
 ghost use Rattle.files.specs.Refusal.{graph, property, rules, interface};
 ghost use Rattle.files.specs.FileKind.{kind-of};
 ghost use Rattle.files.specs.Checking.{checked, counted, nodes-with, bound-with, over-with, missing-with, from-seven, from-five, from-two};
 use crate::offence::FileKind;
+use crate::plain::leading_nodes;
+use crate::plain::plain_edges;
 use crate::record::Limits;
 use crate::record::Record;
 use crate::refusal::Refusal;
@@ -113,14 +115,35 @@ fn from_two(limits: Limits, kind: FileKind, records: &[u8], first: usize, positi
     }
 }
 
+// A graph file of whole records: accepted in one pass where it is plainly in order, otherwise looked at number by number.
+fn check_records(limits: Limits, file: &[u8], position: u8) -> Checked
+    requires { ⌜ length (now file) % 6 ≡ 0 ⌝ }
+    ensures { λ r. ⌜ r ≡ checked limits graph (now (file .entry)) position ⌝ }
+{
+    let n = file.len() / Record::LEN;
+    let nodes = leading_nodes(file);
+    if !over(limits, FileKind::Graph, nodes, n) {
+        if plain_edges(file, nodes) {
+            return Checked::Accepted {
+                nodes: nodes,
+                records: n,
+            };
+        }
+    }
+    from_two(limits, FileKind::Graph, file, 0, position)
+}
+
 // Checks a whole file of this kind, which stands at a position among a call's files.
 pub fn check(kind: FileKind, file: &[u8], position: u8, limits: Limits) -> Checked
     ensures { λ r. ⌜ r ≡ checked limits (kind-of kind) (now (file .entry)) position ⌝ }
 {
-    if file.len() % Record::LEN == 0 {
-        return from_two(limits, kind, file, 0, position);
+    if !(file.len() % Record::LEN == 0) {
+        return Checked::Refused(Refusal::at(1, position, 0));
     }
-    Checked::Refused(Refusal::at(1, position, 0))
+    let FileKind::Graph = kind else {
+        return from_two(limits, kind, file, 0, position);
+    };
+    check_records(limits, file, position)
 }
 
 // Checks a graph file.

@@ -7,7 +7,7 @@ use crate::record::Parsed;
 use crate::record::Record;
 
 // The six bytes of record i.
-fn read(records: &[u8], i: usize) -> Record
+pub(crate) fn read(records: &[u8], i: usize) -> Record
     requires { ⌜ 6 * i + 6 ≤ length (now records) ⌝ }
     ensures { λ r. ⌜ r ≡ record-at (now (records .entry)) i ⌝ }
 {
@@ -30,14 +30,14 @@ pub fn kind_at(records: &[u8], i: usize) -> u8
     records[6 * i]
 }
 
-fn node_wrong(r: Record) -> bool
+pub(crate) fn node_wrong(r: Record) -> bool
     ensures { λ b. ⌜ b ≡ node-wrong r ⌝ }
 {
     ((r.first < 1) | (8 < r.first))
         | ((1 < r.second) | ((1 < r.third) | (!(r.fourth == 0) | !(r.fifth == 0))))
 }
 
-fn edge_wrong(r: Record) -> bool
+pub(crate) fn edge_wrong(r: Record) -> bool
     ensures { λ b. ⌜ b ≡ edge-wrong r ⌝ }
 {
     (8 < r.second) | (!(r.fourth == 0) | !(r.fifth == 0))

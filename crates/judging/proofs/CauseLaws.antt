@@ -7,7 +7,6 @@ use mathlib.Core.Option.{Option, none, some}
 use Prim.Native.Nat.{ℕ, suc, _+_, _*_, _≤_, _<_}
 use native.Mathlib.Nat.{eq-or-lt-of-le, mul-le-mul}
 use native.Mathlib.Numerals.{add-one}
-use native.Mathlib.Decide.{ℕ-discrete}
 use native.Mathlib.Omega.{arith}
 use lib.Dec.{T, eqb, ltb, leb, ltb→lt}
 use lib.ListN.{length, getD}
@@ -35,7 +34,7 @@ use Rattle.judging.specs.Levels.Sheet.Laws.{lower-is, ahead-is, box-none
 use Rattle.judging.specs.Ranking.{Ready, rank-at, Ranked}
 use Rattle.judging.specs.Ranking.Files.{size-is, edges-is, rows-is, is-flow, is-property, nodes-fit, rows-fit}
 use Rattle.judging.specs.Ranking.Laws.{ranked-e, ranked-i}
-use Rattle.judging.specs.Sheets.{cause-held, as-causes, best-target, better}
+use Rattle.judging.specs.Sheets.{cause-held, AreCauses, as-causes, best-target, better}
 use Rattle.judging.specs.Sheets.Laws.{zero-holds, rank-zero, rank-found, within, best-none, best-still, best-within, best-on, box-causes-are}
 
 -- ---- scans
@@ -232,51 +231,42 @@ module _ (s : Shape) (g p : List ℕ) (ready : Ready s g p) (v r : ℕ) (hr : r 
     box-only : (l : ℕ) → obliged (row (decode-property p) r) l ≡ cond (aims (u .operator) (u .a) l) (some (box-row (u .operator) (u .a) (u .b))) none
     box-only l = subst (λ (y : PropertyRow). obliged (row (decode-property p) r) l ≡ cond (aims (y .operator) (y .a) l) (some (box-row (y .operator) (y .a) (y .b))) none) (sym is) (looks-obliged (row (decode-property p) r) l)
 
-  -- what the code answers as cause i
-  abbrev Answers : Cause → ℕ → Type 0
-  Answers c i = c ≡ cause-held (getD (causes (decode-graph g) (decode-property p) (v, r)) i no-cause)
+  -- a and b are what the code answers as the causes
+  abbrev Answers : Cause → Cause → Type 0
+  Answers = AreCauses (decode-graph g) (decode-property p) (v, r)
 
-  as-listed : (xs : List (ℕ × ℕ)) (i : ℕ) → causes (decode-graph g) (decode-property p) (v, r) ≡ xs → Answers (cause-held (getD xs i no-cause)) i
-  as-listed xs i e = ap (λ (ys : List (ℕ × ℕ)). cause-held (getD ys i no-cause)) (sym e)
+  as-listed : (xs : List (ℕ × ℕ)) → causes (decode-graph g) (decode-property p) (v, r) ≡ xs → Answers (cause-held (getD xs 0 no-cause)) (cause-held (getD xs 1 no-cause))
+  as-listed xs e =
+      (ap (λ (ys : List (ℕ × ℕ)). cause-held (getD ys 0 no-cause)) (sym e), ap (λ (ys : List (ℕ × ℕ)). cause-held (getD ys 1 no-cause)) (sym e))
 
-  pub first-both : (c : ℕ) → u .operator ≡ 7 → c ≡ lower (decode-graph g) (decode-property p) v (u .a) (u .b) → Answers (record { node = v; row = c }) 0
-  first-both c e q =
-      ap (λ (n : ℕ). record { node = v; row = n }) q
-      ∙ as-listed ((v, lower (decode-graph g) (decode-property p) v (u .a) (u .b)) ∷ []) 0 (causes-both (decode-graph g) (decode-property p) v r (u .a) (u .b) (both-read e))
+  pub both-causes : (c : ℕ) → u .operator ≡ 7 → c ≡ lower (decode-graph g) (decode-property p) v (u .a) (u .b) → Answers (record { node = v; row = c }) (cause-held no-cause)
+  both-causes c e q =
+      let x = as-listed ((v, lower (decode-graph g) (decode-property p) v (u .a) (u .b)) ∷ []) (causes-both (decode-graph g) (decode-property p) v r (u .a) (u .b) (both-read e)) in
+      (ap (λ (n : ℕ). record { node = v; row = n }) q ∙ x .0, x .1)
 
-  pub first-either : u .operator ≡ 8 → Answers (record { node = v; row = u .a }) 0
-  first-either e = as-listed ((v, u .a) ∷ (v, u .b) ∷ []) 0 (causes-either (decode-graph g) (decode-property p) v r (u .a) (u .b) (either-read e))
+  pub either-causes : u .operator ≡ 8 → Answers (record { node = v; row = u .a }) (record { node = v; row = u .b })
+  either-causes e = as-listed ((v, u .a) ∷ (v, u .b) ∷ []) (causes-either (decode-graph g) (decode-property p) v r (u .a) (u .b) (either-read e))
 
-  pub second-either : u .operator ≡ 8 → Answers (record { node = v; row = u .b }) 1
-  second-either e = as-listed ((v, u .a) ∷ (v, u .b) ∷ []) 1 (causes-either (decode-graph g) (decode-property p) v r (u .a) (u .b) (either-read e))
-
-  pub first-box : (c : Cause) → is-box (u .operator) ≡ true
-      → c ≡ cause-held (getD (as-causes (box-row (u .operator) (u .a) (u .b)) (best-target (decode-graph g) (decode-property p) v (aims (u .operator) (u .a)) (box-row (u .operator) (u .a) (u .b)) (s .edges))) 0 no-cause) → Answers c 0
-  first-box c e q =
+  pub box-causes-of : (c : Cause) → is-box (u .operator) ≡ true
+      → c ≡ cause-held (getD (as-causes (box-row (u .operator) (u .a) (u .b)) (best-target (decode-graph g) (decode-property p) v (aims (u .operator) (u .a)) (box-row (u .operator) (u .a) (u .b)) (s .edges))) 0 no-cause)
+      → Answers c (cause-held no-cause)
+  box-causes-of c e q =
       let b = box-row (u .operator) (u .a) (u .b) in
-      q
-      ∙ ap (λ (n : ℕ). cause-held (getD (as-causes b (best-target (decode-graph g) (decode-property p) v (aims (u .operator) (u .a)) b n)) 0 no-cause)) (sym (edges-is s g p ready))
-      ∙ ap (λ (xs : List (ℕ × ℕ)). cause-held (getD xs 0 no-cause))
-      (sym (box-causes-are (decode-graph g) (decode-property p) v (aims (u .operator) (u .a)) b (row (decode-property p) r) (box-only e)))
-      ∙ as-listed _ 0 (causes-box (decode-graph g) (decode-property p) v r (boxed e))
-
-  no-box : is-box (u .operator) ≡ false → Boxed (row (decode-property p) r) → ⊥
-  no-box n b = subst T (ap (λ (y : PropertyRow). is-box (y .operator)) (sym is) ∙ n) (boxed-operator (row (decode-property p) r) b)
-
-  pub first-rest : (u .operator ≡ 7 → ⊥) → (u .operator ≡ 8 → ⊥) → is-box (u .operator) ≡ false → Answers (record { node = 0; row = 255 }) 0
-  first-rest d e f = as-listed [] 0 (causes-rest (decode-graph g) (decode-property p) v r (λ q. d (operator-is ∙ q)) (λ q. e (operator-is ∙ q)) (no-box f))
-
-  pub second-rest : (u .operator ≡ 8 → ⊥) → Answers (record { node = 0; row = 255 }) 1
-  second-rest e = go (ℕ-discrete (u .operator) 7) (is-box (u .operator)) refl
+      let x = as-listed _ (causes-box (decode-graph g) (decode-property p) v r (boxed e)) in (
+        q
+            ∙ ap (λ (n : ℕ). cause-held (getD (as-causes b (best-target (decode-graph g) (decode-property p) v (aims (u .operator) (u .a)) b n)) 0 no-cause)) (sym (edges-is s g p ready))
+            ∙ ap (λ (xs : List (ℕ × ℕ)). cause-held (getD xs 0 no-cause))
+            (sym (box-causes-are (decode-graph g) (decode-property p) v (aims (u .operator) (u .a)) b (row (decode-property p) r) (box-only e)))
+            ∙ x .0,
+        ap cause-held (one-at-most (targets (decode-graph g) v (row (decode-property p) r))) ∙ x .1,
+      )
     where
       one-at-most : (xs : List (ℕ × ℕ)) → no-cause ≡ getD (box-causes (decode-graph g) (decode-property p) xs) 1 no-cause
       one-at-most [] = ap (λ (ys : List (ℕ × ℕ)). getD ys 1 no-cause) (sym (box-none (decode-graph g) (decode-property p)))
       one-at-most (x ∷ xs) = ap (λ (ys : List (ℕ × ℕ)). getD ys 1 no-cause) (sym (box-some (decode-graph g) (decode-property p) x xs))
 
-      go : Dec (u .operator ≡ 7) → (t : Bool) → is-box (u .operator) ≡ t → Answers (record { node = 0; row = 255 }) 1
-      go (yes q) t d =
-          as-listed ((v, lower (decode-graph g) (decode-property p) v (u .a) (u .b)) ∷ []) 1 (causes-both (decode-graph g) (decode-property p) v r (u .a) (u .b) (both-read q))
-      go (no q) true b =
-          ap cause-held (one-at-most (targets (decode-graph g) v (row (decode-property p) r)))
-          ∙ as-listed (box-causes (decode-graph g) (decode-property p) (targets (decode-graph g) v (row (decode-property p) r))) 1 (causes-box (decode-graph g) (decode-property p) v r (boxed b))
-      go (no q) false n = as-listed [] 1 (causes-rest (decode-graph g) (decode-property p) v r (λ d. q (operator-is ∙ d)) (λ d. e (operator-is ∙ d)) (no-box n))
+  no-box : is-box (u .operator) ≡ false → Boxed (row (decode-property p) r) → ⊥
+  no-box n b = subst T (ap (λ (y : PropertyRow). is-box (y .operator)) (sym is) ∙ n) (boxed-operator (row (decode-property p) r) b)
+
+  pub no-causes : (u .operator ≡ 7 → ⊥) → (u .operator ≡ 8 → ⊥) → is-box (u .operator) ≡ false → Answers (cause-held no-cause) (cause-held no-cause)
+  no-causes d e f = as-listed [] (causes-rest (decode-graph g) (decode-property p) v r (λ q. d (operator-is ∙ q)) (λ q. e (operator-is ∙ q)) (no-box f))

@@ -1,4 +1,4 @@
-// Why a pair of a node and a row is false, read off the ranks: its rank, the lowest failing entry, and its first and second cause.
+// Why a pair of a node and a row is false, read off the ranks: its rank, the lowest failing entry, and its causes.
 ghost use mathlib.Core.Path.{_≡_};
 ghost use Prim.Native.Nat.{_+_, _*_, _≤_, _<_};
 ghost use lib.ListN.{length, getD};
@@ -6,9 +6,9 @@ ghost use Rattle.files.specs.Basics.First.{first-or};
 ghost use Rattle.files.specs.Property.{aims, box-row};
 ghost use Rattle.files.specs.Decode.{decode-graph, decode-property};
 ghost use Rattle.judging.specs.Levels.{rank};
-ghost use Rattle.judging.specs.Levels.Sheet.{no-cause, ahead, lower, causes, failing};
+ghost use Rattle.judging.specs.Levels.Sheet.{no-cause, ahead, lower, failing};
 ghost use Rattle.judging.specs.Ranking.{Ready, Ranked};
-ghost use Rattle.judging.specs.Sheets.{Settled, cause-held, as-causes, fails-at, best-target, better};
+ghost use Rattle.judging.specs.Sheets.{Settled, cause-held, AreCauses, as-causes, fails-at, best-target, better};
 use crate::shape::Shape;
 use files::cells::get16;
 use files::cells::put16;
@@ -31,6 +31,12 @@ pub struct Cause {
 
 impl Cause {
     pub const NONE: usize = 255;
+}
+
+// The causes of a pair that is false: a second one only where the row is an "or".
+pub struct Causes {
+    pub first: Cause,
+    pub second: Cause,
 }
 
 // The rank of row r at node g; where the row holds, a number past every rank.
@@ -195,61 +201,51 @@ fn box_cause(
     }
 }
 
-// The first cause of row r at node g.
-pub(crate) fn first_cause(
+// The causes of row r at node g.
+pub(crate) fn causes_of(
     graph: &[u8],
     property: &[u8],
     s: Shape,
     work: &[u8],
     g: usize,
     r: usize,
-) -> Cause
+) -> Causes
     requires { ⌜ (Ready s (now graph) (now property)) × ((g < s .nodes) × ((r < s .rows) × (Settled (decode-graph (now graph)) (decode-property (now property)) (now work)))) ⌝ }
-    ensures { λ c. ⌜ c ≡ cause-held (getD (causes (decode-graph (now (graph .entry))) (decode-property (now (property .entry))) (g, r)) 0 no-cause) ⌝ }
+    ensures { λ c. ⌜ AreCauses (decode-graph (now (graph .entry))) (decode-property (now (property .entry))) (g, r) (c .first) (c .second) ⌝ }
 {
+    let none = Cause {
+        node: 0,
+        row: Cause::NONE,
+    };
     let RowAt::Is(x) = row_at(property, r, 0) else {
-        return Cause {
-            node: 0,
-            row: Cause::NONE,
+        return Causes {
+            first: none,
+            second: none,
         };
     };
     let a = x.a as usize;
     let b = x.b as usize;
     if x.operator == 7 {
         let c = lower(graph, property, s, work, g, a, b);
-        return Cause { node: g, row: c };
+        return Causes {
+            first: Cause { node: g, row: c },
+            second: none,
+        };
     }
     if x.operator == 8 {
-        return Cause { node: g, row: a };
+        return Causes {
+            first: Cause { node: g, row: a },
+            second: Cause { node: g, row: b },
+        };
     }
     if is_box(x.operator) {
-        return box_cause(graph, property, s, work, g, x);
-    }
-    Cause {
-        node: 0,
-        row: Cause::NONE,
-    }
-}
-
-// The second cause of row r at node g, which only an "or" has.
-pub(crate) fn second_cause(graph: &[u8], property: &[u8], s: Shape, g: usize, r: usize) -> Cause
-    requires { ⌜ (Ready s (now graph) (now property)) × ((g < s .nodes) × (r < s .rows)) ⌝ }
-    ensures { λ c. ⌜ c ≡ cause-held (getD (causes (decode-graph (now (graph .entry))) (decode-property (now (property .entry))) (g, r)) 1 no-cause) ⌝ }
-{
-    let RowAt::Is(x) = row_at(property, r, 0) else {
-        return Cause {
-            node: 0,
-            row: Cause::NONE,
-        };
-    };
-    if x.operator == 8 {
-        return Cause {
-            node: g,
-            row: x.b as usize,
+        return Causes {
+            first: box_cause(graph, property, s, work, g, x),
+            second: none,
         };
     }
-    Cause {
-        node: 0,
-        row: Cause::NONE,
+    Causes {
+        first: none,
+        second: none,
     }
 }

@@ -5,6 +5,7 @@ use mathlib.Core.Bool.{Bool, true, false, not, _&&_, _||_}
 use mathlib.Core.List.{List, List·Memᴰ}
 use Prim.Native.Nat.{ℕ, _+_, _*_, _/_, _%_, _^_, _≤_, _<_}
 use native.Mathlib.Omega.{arith}
+use lib.Bits.{bitAnd, and-le-l}
 use lib.Dec.{T, eqb, eqb→eq}
 use lib.ListN.{length, getD}
 use Rattle.files.specs.Basics.Least.{least-hit}
@@ -107,20 +108,33 @@ module _ (s : Scope) (I : Interface) (p : List ℕ) (scoped : Scoped s p) where
 
   -- ---- what follows state i under a label
 
-  -- the slot's row is cleared
-  module _ (i label c : ℕ) (w₀ w : List ℕ) (hi : i < c) (hl : label < 9) (hc : c ≤ s .states) (room : 103456 ≤ length w) (tables₀ : Tables P w₀) (x₀ : Charting I P c (9 * i + label) w₀)
-      (blank : (t : ℕ) → t < 256 → target w (9 * i + label) t ≡ false) (beside : Outside (13312 + 32 * (9 * i + label)) (13312 + 32 * (9 * i + label) + 32) w₀ w) (b : Bool) (is : b ≡ (eqb label 0 || requires-method I label)) where
+  -- the slot of state i and a label is next, its row is cleared, and b says whether there is such a label
+  pub record Cleared (i label c : ℕ) (w₀ w : List ℕ) (b : Bool) : Type 0 where
+    pub of-states : i < c
+    pub of-labels : label < 9
+    pub in-scope : c ≤ s .states
+    pub room : 103456 ≤ length w
+    pub tables₀ : Tables P w₀
+    pub charting₀ : Charting I P c (9 * i + label) w₀
+    pub blank : (t : ℕ) → t < 256 → target w (9 * i + label) t ≡ false
+    pub beside : Outside (13312 + 32 * (9 * i + label)) (13312 + 32 * (9 * i + label) + 32) w₀ w
+    pub told : b ≡ (eqb label 0 || requires-method I label)
+
+  module _ {i label c : ℕ} {w₀ w : List ℕ} {b : Bool} (y : Cleared i label c w₀ w b) where
     abbrev q : ℕ
     q = 9 * i + label
 
-    in-rows : q < 2304
-    in-rows = omega (arith, x₀ .holds .few)
+    pub in-rows : q < 2304
+    in-rows = omega (arith, y .charting₀ .holds .few)
 
     x : Charting I P c q w
-    x = charting-beside q w₀ w beside I P c in-rows (omega arith) x₀
+    x = charting-beside q w₀ w (y .beside) I P c in-rows (omega arith) (y .charting₀)
 
     tables : Tables P w
-    tables = tables-same P w₀ w (rows-fit s p scoped) (λ d l. beside d (inl (omega arith))) tables₀
+    tables = tables-same P w₀ w (rows-fit s p scoped) (λ d l. y .beside d (inl (omega arith))) (y .tables₀)
+
+    state-i : Known I P (kind-at w i) (set-at w i)
+    state-i = x .holds .known i (y .of-states)
 
     of-state : q / 9 ≡ i
     of-state = omega arith
@@ -129,14 +143,20 @@ module _ (s : Scope) (I : Interface) (p : List ℕ) (scoped : Scoped s p) where
     of-label = omega arith
 
     labelled : is-label I P (q % 9) ≡ b
-    labelled = ap (is-label I P) of-label ∙ label-is I P wf label ∙ sym is
+    labelled = ap (is-label I P) of-label ∙ label-is I P wf label ∙ sym (y .told)
 
     pub worked-none : not b ≡ true → (w₁ : List ℕ) → w₁ ≡ put-cell w 1792 1 q 0 → Worked s I P c c (q + 1) w₁
     worked-none e w₁ d =
-        worked-all s I P c (q + 1) w₁ hc
-        (followed-none I P wf c q w₁ (λ t m. bits q t ∙ blank t m) (ap (λ (u : List ℕ). method-at u q) d ∙ cell-same w 1792 1 q 0 (omega (arith, in-rows)) (omega arith)) (λ t. off b e (subst T labelled t))
-        (charting-same I P c w w₁ (λ j l. cell-agree w₁ w 256 1 j (λ n m k. low n (omega (arith, x .holds .few)))) (λ j l. cell-agree w₁ w 512 4 j (λ n m k. low n (omega (arith, x .holds .few)))) q in-rows (omega arith) (λ j t l m n. bits j t)
-        (λ j l. (ap (λ (u : List ℕ). method-at u j) d ∙ cell-other w 1792 1 q j 0 (λ z. omega arith), cell-agree w₁ w 4096 4 j (λ n m k. high n (omega (arith, in-rows))))) x))
+        worked-all s I P c (q + 1) w₁ (y .in-scope)
+        (followed-none I P wf c q w₁ (λ t m. bits q t ∙ y .blank t m)
+        (ap (λ (u : List ℕ). method-at u q) d ∙ cell-same w 1792 1 q 0 (omega (arith, in-rows)) (omega arith)) (λ t. off b e (subst T labelled t))
+        (charting-same I P c w w₁ (λ j l. cell-agree w₁ w 256 1 j (λ n m k. low n (omega (arith, x .holds .few))))
+        (λ j l. cell-agree w₁ w 512 4 j (λ n m k. low n (omega (arith, x .holds .few)))) q in-rows (omega arith) (λ j t l m n. bits j t)
+        (λ j l. (
+          ap (λ (u : List ℕ). method-at u j) d ∙ cell-other w 1792 1 q j 0 (λ z. omega arith),
+          cell-agree w₁ w 4096 4 j
+              (λ n m k. high n (omega (arith, in-rows))),
+        )) x))
         (tables-same P w w₁ (rows-fit s p scoped) (λ n l. low n (omega arith)) tables)
       where
         off : (b : Bool) → not b ≡ true → T b → ⊥
@@ -152,14 +172,24 @@ module _ (s : Scope) (I : Interface) (p : List ℕ) (scoped : Scoped s p) where
         bits : (j t : ℕ) → target w₁ j t ≡ target w j t
         bits j t = bit-byte w₁ w 13312 13312 (256 * j + t) (high (13312 + (256 * j + t) / 8) (omega arith))
 
-    pub stored-fits : (v : ℕ) → v ≡ set-at w i → v < 2 ^ s .rows
-    stored-fits v e = subst (λ (k : ℕ). v < 2 ^ k) (rows-is s p scoped) (subst (λ (u : ℕ). u < 2 ^ length P) (sym e) (x .holds .known i hi .of-rows))
+    -- the rows of the state, and so those of them that are among others
+    pub among-fits : (v t : ℕ) → v ≡ set-at w i → bitAnd v t < 2 ^ s .rows
+    among-fits v t e =
+        let h : v < 2 ^ s .rows = subst (λ (k : ℕ). v < 2 ^ k) (rows-is s p scoped) (subst (λ (u : ℕ). u < 2 ^ length P) (sym e) (state-i .of-rows)) in
+        omega (arith, and-le-l v t)
 
-    -- its method and what it asks for are stored
-    module _ (e : not b ≡ false) (kind v set : ℕ) (is-kind : kind ≡ kind-at w i) (is-set : v ≡ set-at w i) (asks : set ≡ asked-of P v label) (narrow : set < 4294967296)
-        (w₁ w₂ : List ℕ) (e₁ : w₁ ≡ put-cell w 1792 1 q (kind / 2)) (e₂ : w₂ ≡ put-cell w₁ 4096 4 q set) where
+    -- the state's method and what it asks for are stored there
+    pub record Stored (kind set : ℕ) (w₁ w₂ : List ℕ) : Type 0 where
+      pub follows : not b ≡ false
+      pub is-kind : kind ≡ kind-at w i
+      pub asks : set ≡ asked-of P (set-at w i) label
+      pub narrow : set < 4294967296
+      pub put-method : w₁ ≡ put-cell w 1792 1 q (kind / 2)
+      pub put-asked : w₂ ≡ put-cell w₁ 4096 4 q set
+
+    module _ {kind set : ℕ} {w₁ w₂ : List ℕ} (z : Stored kind set w₁ w₂) where
       outside : Outside 1792 13312 w w₂
-      outside = slot-outside q (kind / 2) set w w₁ w₂ in-rows room e₁ e₂
+      outside = slot-outside q (kind / 2) set w w₁ w₂ in-rows (y .room) (z .put-method) (z .put-asked)
 
       kinds : (j : ℕ) → j < c → kind-at w₂ j ≡ kind-at w j
       kinds j l = cell-agree w₂ w 256 1 j (λ d m n. outside d (inl (omega (arith, x .holds .few))))
@@ -171,17 +201,23 @@ module _ (s : Scope) (I : Interface) (p : List ℕ) (scoped : Scoped s p) where
       bits j t = bit-byte w₂ w 13312 13312 (256 * j + t) (outside (13312 + (256 * j + t) / 8) (inr (omega arith)))
 
       method-low : kind / 2 < 256
-      method-low = omega (arith, is-kind, x .holds .known i hi .method-to)
+      method-low = omega (arith, z .is-kind, state-i .method-to)
+
+      slot-here : (method-at w₂ q ≡ kind / 2) × (asked-at w₂ q ≡ set)
+      slot-here = slot-same q (kind / 2) set w w₁ w₂ in-rows (y .room) (z .put-method) (z .put-asked) method-low (z .narrow)
+
+      slot-kept : (j : ℕ) → j < q → (method-at w₂ j ≡ method-at w j) × (asked-at w₂ j ≡ asked-at w j)
+      slot-kept j l = slot-other q (kind / 2) set w w₁ w₂ in-rows (y .room) (z .put-method) (z .put-asked) j (omega (arith, in-rows)) (λ e. omega arith)
 
       asking-here : Asking I P c q (kind / 2) set w₂
       asking-here = record {
-        charting = charting-same I P c w w₂ kinds sets-kept q in-rows (omega arith) (λ j t l m z. bits j t) (λ j l. slot-other q (kind / 2) set w w₁ w₂ in-rows room e₁ e₂ j (omega (arith, in-rows)) (λ z. omega arith)) x;
-        blank = λ t m. bits q t ∙ blank t m;
-        label = subst T (sym labelled) (on b e);
-        method-is = slot-same q (kind / 2) set w w₁ w₂ in-rows room e₁ e₂ method-low narrow .0;
-        asked-is = slot-same q (kind / 2) set w w₁ w₂ in-rows room e₁ e₂ method-low narrow .1;
-        of-method = ap (λ (k : ℕ). k / 2) (is-kind ∙ sym (ap (kind-at w₂) of-state ∙ kinds i hi));
-        of-set = asks ∙ ap₂ (asked-of P) (is-set ∙ sym (ap (set-at w₂) of-state ∙ sets-kept i hi)) (sym of-label);
+        charting = charting-same I P c w w₂ kinds sets-kept q in-rows (omega arith) (λ j t l m n. bits j t) slot-kept x;
+        blank = λ t m. bits q t ∙ y .blank t m;
+        label = subst T (sym labelled) (on b (z .follows));
+        method-is = slot-here .0;
+        asked-is = slot-here .1;
+        of-method = ap (λ (k : ℕ). k / 2) (z .is-kind ∙ sym (ap (kind-at w₂) of-state ∙ kinds i (y .of-states)));
+        of-set = z .asks ∙ ap₂ (asked-of P) (sym (ap (set-at w₂) of-state ∙ sets-kept i (y .of-states))) (sym of-label);
       }
         where
           on : (b : Bool) → not b ≡ false → T b
@@ -195,17 +231,17 @@ module _ (s : Scope) (I : Interface) (p : List ℕ) (scoped : Scoped s p) where
       may-follow = (tables-here, asking-here)
 
       -- an earlier slot asks the same
-      pub worked-again : (j : ℕ) → j ≡ earlier w q (kind / 2) set → j < q → (w₃ : List ℕ) → ((t : ℕ) → t < 256 → target w₃ q t ≡ target w₂ j t) → Outside (13312 + 32 * q) (13312 + 32 * q + 32) w₂ w₃ → Worked s I P c c (q + 1) w₃
+      pub worked-again : (j : ℕ) → j ≡ earlier w q (kind / 2) set → j < q → (w₃ : List ℕ) → ((t : ℕ) → t < 256 → target w₃ q t ≡ target w₂ j t)
+          → Outside (13312 + 32 * q) (13312 + 32 * q + 32) w₂ w₃ → Worked s I P c c (q + 1) w₃
       worked-again j is-j l w₃ row rest =
-          worked-all s I P c (q + 1) w₃ hc
-          (followed-again I P wf (s .ors) (scoped .enough-ors) c q (kind / 2) set j w₂ w₃ (omega arith) l (omega (arith, is-kind, x .holds .known i hi .method-from)) (same .0 ∙ method-j) (same .1 ∙ asked-j) asking-here row rest)
+          worked-all s I P c (q + 1) w₃ (y .in-scope)
+          (followed-again I P wf (s .ors) (scoped .enough-ors) c q (kind / 2) set j w₂ w₃ (omega arith) l (omega (arith, z .is-kind, state-i .method-from))
+          (slot-kept j l .0 ∙ method-j) (slot-kept j l .1 ∙ asked-j) asking-here row rest)
           (tables-same P w₂ w₃ (rows-fit s p scoped) (λ d m. rest d (inl (omega arith))) tables-here)
         where
-          same : (method-at w₂ j ≡ method-at w j) × (asked-at w₂ j ≡ asked-at w j)
-          same = slot-other q (kind / 2) set w w₁ w₂ in-rows room e₁ e₂ j (omega (arith, in-rows)) (λ z. omega arith)
-
           test : T (eqb (method-at w j) (kind / 2) && eqb (asked-at w j) set)
-          test = subst (λ (k : ℕ). T (eqb (method-at w k) (kind / 2) && eqb (asked-at w k) set)) (sym is-j) (least-hit (λ (k : ℕ). eqb (method-at w k) (kind / 2) && eqb (asked-at w k) set) q (subst (λ (k : ℕ). k < q) is-j l))
+          test = subst (λ (k : ℕ). T (eqb (method-at w k) (kind / 2) && eqb (asked-at w k) set)) (sym is-j)
+              (least-hit (λ (k : ℕ). eqb (method-at w k) (kind / 2) && eqb (asked-at w k) set) q (subst (λ (k : ℕ). k < q) is-j l))
 
           method-j : method-at w j ≡ kind / 2
           method-j = eqb→eq (method-at w j) (kind / 2) (and-l (eqb (method-at w j) (kind / 2)) (eqb (asked-at w j) set) test)

@@ -1,24 +1,33 @@
--- For the code that holds sets of rows as numbers: the set of one row, the highest row of a set, and sets gathered row by row.
+-- For the code that holds sets of rows as numbers: the set of one row, the highest row of a set, unions, a set worked row by row, sets gathered row by row,
+-- the boxes of each label, and what a set asks for.
 use mathlib.Core.Path.{_≡_, refl, sym, ap, ap₂, subst, _∙_}
-use mathlib.Core.Logic.{_⊎_, inl, inr}
-use mathlib.Core.Bool.{Bool, true, false, not, cond, _&&_, _||_, or-comm}
+use mathlib.Core.Logic.{_⊎_, inl, inr, ⊎-elim, ⊎-map}
+use mathlib.Core.Bool.{Bool, true, false, not, cond}
 use mathlib.Core.List.{List}
-use mathlib.Core.Option.{Option, none, some}
+use mathlib.Core.Option.{Option, none, some, Option·none-ne-some}
 use Prim.Native.Nat.{ℕ, zero, suc, _+_, _*_, _-_, _/_, _%_, _^_, _≤_, _<_}
-use native.Mathlib.Nat.{one-mul, add-comm, pow-suc, mod-lt}
+use native.Mathlib.Nat.{one-mul, zero-add, add-comm, pow-suc, mod-lt}
 use native.Mathlib.Numerals.{add-one}
 use native.Mathlib.Omega.{arith}
-use lib.Bits.{bitOr, bitXor, or-shifted-r, xor-add-and, and-le-l, and-le-r}
+use lib.Bits.{bitAnd, bitOr, bitXor, or-lt, or-shifted-r, xor-add-and, and-le-l, and-le-r}
 use lib.Count.{leadingZeros, leading-top}
-use lib.Dec.{T, eqb, ltb→lt}
-use lib.ListN.{length}
+use lib.Dec.{T, eqb, eqb→eq}
+use lib.ListN.{length, getD, set, length-set}
+use borrow.Author.Tests.{eqb-true, eqb-false, leb-false, not-true, not-false, ne-eqb}
 use lib.Pow.{pow-pos, pow-lt, shl-exact, shr-lt, split}
-use Rattle.files.specs.Basics.Tests.{decide, same, one, any, upto}
-use Rattle.files.specs.Property.{Row, always, never, returns, not-returns, in-method, not-in-method, both, either, box, box-all, row, names, obliged}
-use Rattle.maximal.specs.Model.{is-some}
-use Rattle.maximal.specs.Model.Supports.{asked-is}
-use Rattle.maximal.specs.Masks.{member, within, Taken, untrue-at, untrue, obliged-rows, asked-of, mask, rows}
-use Rattle.maximal.specs.Masks.Laws.{member-or, member-xor, member-one, member-none, member-lt, members-eq, within-e, mask-lt, rows-member, untrue-mask, asked-lt, member-asked}
+use Rattle.files.specs.Access.{row-held, looks}
+use Rattle.files.specs.Access.Boxes.{looks-obliged}
+use Rattle.files.specs.Basics.Tables.{tally, tally-le}
+use Rattle.files.specs.Basics.Tests.{decide, same, same-test, eq-eqb, one, and-l, and-i, or-e, or-l, or-r}
+use Rattle.files.specs.Property.{Row, row, names, obliged, is-box}
+use Rattle.files.specs.declared.property.PropertyRow.{PropertyRow}
+use Rattle.judging.specs.Levels.Laws.{obliged-named}
+use Rattle.judging.specs.Refinement.Rows.{Bytes, bytes-on}
+use Rattle.maximal.specs.Model.Supports.{has-tab, asked-e, asked-i}
+use Rattle.maximal.specs.Masks.{member, within, Partly, Taken, untrue-at, untrue, obliged-rows, asked-of, mask, rows, Boxes}
+use Rattle.maximal.specs.Masks.Laws.{member-or, member-and, member-xor, member-one, member-none, member-lt, members-eq, within-e, within-i}
+use Rattle.maximal.specs.Masks.Laws.{mask-lt, member-mask, untrue-mask, asked-lt, member-asked}
+use Rattle.maximal.specs.Masks.Order.{partly-on, worked-more}
 
 -- ---- one row, and the highest row
 
@@ -74,6 +83,52 @@ highest-taken s d r w l h =
     above true false t f = absurd (f tt)
     above false b t f = absurd t
 
+-- ---- unions
+
+-- a row of a union is a row of one of the two
+pub union-e : (a b r : ℕ) → T (member (bitOr a b) r) → T (member a r) ⊎ T (member b r)
+union-e a b r t = or-e (member a r) (member b r) (subst T (member-or a b r) t)
+
+pub union-l : (a b r : ℕ) → T (member a r) → T (member (bitOr a b) r)
+union-l a b r t = subst T (sym (member-or a b r)) (or-l (member a r) (member b r) t)
+
+pub union-r : (a b r : ℕ) → T (member b r) → T (member (bitOr a b) r)
+union-r a b r t = subst T (sym (member-or a b r)) (or-r (member a r) (member b r) t)
+
+-- with one row
+pub with-e : (d q r : ℕ) → T (member (bitOr d (2 ^ q)) r) → T (member d r) ⊎ (q ≡ r)
+with-e d q r t = ⊎-map (λ i. i) (λ i. eqb→eq q r (subst T (member-one q r) i)) (union-e d (2 ^ q) r t)
+
+with-i : (d q : ℕ) → T (member (bitOr d (2 ^ q)) q)
+with-i d q = union-r d (2 ^ q) q (subst T (sym (member-one q q)) (eq-eqb q q refl))
+
+-- a set without rows
+pub empty-is : (n u : ℕ) → u < 2 ^ n → ((r : ℕ) → T (member u r) → ⊥) → 0 ≡ u
+empty-is n u h f = members-eq n 0 u (pow-pos n) h (λ r l. same-test (member 0 r) (member u r) (λ t. absurd (subst T (member-none r) t)) (λ t. absurd (f r t)))
+
+-- ---- a set worked row by row
+
+-- at first no row is worked
+pub partly-none : (n s : ℕ) → s < 2 ^ n → Partly n s 0
+partly-none n s h = record { of-rows = h; rows-of = pow-pos n; inside = λ r t. absurd (subst T (member-none r) t) }
+
+-- in the end all are
+pub all-worked : (s d : ℕ) → not (eqb s d) ≡ false → s ≡ d
+all-worked s d e = eqb-true s d (not-false (eqb s d) e)
+
+module _ (n s d : ℕ) (p : Partly n s d) where
+  -- until then a row is left to be taken ..
+  pub row-left : not (eqb s d) ≡ true → T (within d s) × (s ≡ d → ⊥)
+  row-left e = (within-i n d s (p .rows-of) (p .of-rows) (p .inside), eqb-false s d (not-true (eqb s d) e))
+
+  -- .. and with it one row more is worked
+  module _ (r : ℕ) (next : Taken s d r) (e : ℕ) (is : e ≡ 2 ^ r) where
+    pub partly-with : Partly n s (bitOr d e)
+    partly-with = subst (λ (i : ℕ). Partly n s (bitOr d i)) (sym is) (partly-on n s d p r next s (p .of-rows) (λ q i. i))
+
+    pub less-left : n - tally (member (bitOr d e)) n < n - tally (member d) n
+    less-left = omega (arith, ap (λ (i : ℕ). tally (member (bitOr d i)) n) is, worked-more n s d p r next, tally-le (member (bitOr d (2 ^ r))) n)
+
 -- ---- sets gathered row by row
 
 -- the next row passes the test, or it does not
@@ -99,49 +154,141 @@ untrue-row P m f r = untrue-at (row P r) m f
 pub untrue-all : (P : List Row) (m : ℕ) (f : Bool) (n s : ℕ) → n ≡ length P → s ≡ mask (untrue-row P m f) n → s ≡ untrue P m f
 untrue-all P m f n s e p = p ∙ ap (mask (untrue-row P m f)) e ∙ sym (untrue-mask P m f)
 
--- what the rows of set k below r ask for under label l
-abbrev pub asked-below : List Row → ℕ → ℕ → ℕ → ℕ → Bool
-asked-below P k l r b = any (λ (q : ℕ). member k q && is-some (obliged (row P q) l) b) (upto r)
+-- ---- the boxes of each label
 
-member-obliged : (o : Option ℕ) (b : ℕ) → member (obliged-rows o) b ≡ is-some o b
-member-obliged none b = member-none b
-member-obliged (some c) b = member-one c b
+-- the set of label l of a table t, with row r where that looks along the label, read as x
+abbrev pub entered : PropertyRow → ℕ → List ℕ → ℕ → ℕ
+entered x r t l = cond ((looks x l) .along) (bitOr (getD t l 0) (2 ^ r)) (getD t l 0)
 
-pub asked-with : (P : List Row) (k l r s t : ℕ) → ((b : ℕ) → member s b ≡ asked-below P k l r b) → t ≡ obliged-rows (obliged (row P r) l) → member k r ≡ true
-    → (b : ℕ) → member (bitOr s t) b ≡ asked-below P k l (r + 1) b
-asked-with P k l r s t f q e b =
-    member-or s t b ∙ or-comm (member s b) (member t b)
-    ∙ ap₂ _||_ (ap (λ (n : ℕ). member n b) q ∙ member-obliged (obliged (row P r) l) b ∙ ap (λ (c : Bool). c && is-some (obliged (row P r) l) b) (sym e)) (f b)
-    ∙ ap (λ (n : ℕ). asked-below P k l n b) (sym (add-one r))
+-- the row is entered under the labels below l
+abbrev pub Entering : PropertyRow → ℕ → List ℕ → ℕ → List ℕ → Type 0
+Entering x r t₀ l t = (length t ≡ 9) × Bytes (entered x r t₀) t₀ 0 l t
 
-pub asked-without : (P : List Row) (k l r s : ℕ) → ((b : ℕ) → member s b ≡ asked-below P k l r b) → member k r ≡ false → (b : ℕ) → member s b ≡ asked-below P k l (r + 1) b
-asked-without P k l r s f e b =
-    f b ∙ ap (λ (c : Bool). c && is-some (obliged (row P r) l) b || asked-below P k l r b) (sym e) ∙ ap (λ (n : ℕ). asked-below P k l n b) (sym (add-one r))
-
--- what a row obliges to is a row
-pub obliged-lt : (n : ℕ) (x : Row) (l : ℕ) → T (names n x) → obliged-rows (obliged x l) < 2 ^ n
-obliged-lt n always l t = pow-pos n
-obliged-lt n never l t = pow-pos n
-obliged-lt n returns l t = pow-pos n
-obliged-lt n not-returns l t = pow-pos n
-obliged-lt n (in-method a) l t = pow-pos n
-obliged-lt n (not-in-method a) l t = pow-pos n
-obliged-lt n (both a b) l t = pow-pos n
-obliged-lt n (either a b) l t = pow-pos n
-obliged-lt n (box k b) l t = go (eqb k l)
+pub entering-on : (x : PropertyRow) (r : ℕ) (t₀ t t′ : List ℕ) (l : ℕ) → l < 9 → (b : Bool) → (looks x l) .along ≡ b
+    → t′ ≡ set t l (cond b (bitOr (getD t l 0) (2 ^ r)) (getD t l 0)) → Entering x r t₀ l t → Entering x r t₀ (l + 1) t′
+entering-on x r t₀ t t′ l h b along put y = (
+  ap length put ∙ length-set t l v ∙ y .0,
+  bytes-on (entered x r t₀) t₀ t t′ 0 l v (omega (arith, y .0)) (ap (λ (m : ℕ). cond b (bitOr m (2 ^ r)) m) (y .1 .1 l (inr (omega arith)))
+      ∙ ap (λ (c : Bool). cond c (bitOr (getD t₀ l 0) (2 ^ r)) (getD t₀ l 0)) (sym along)) (put ∙ ap (λ (i : ℕ). set t i v) (sym (zero-add l))) (y .1),
+)
   where
-    go : (c : Bool) → obliged-rows (cond c (some b) none) < 2 ^ n
-    go true = pow-lt (ltb→lt b n t)
-    go false = pow-pos n
-obliged-lt n (box-all a) l t = pow-lt (ltb→lt a n t)
+    v : ℕ
+    v = cond b (bitOr (getD t l 0) (2 ^ r)) (getD t l 0)
 
-pub asked-all : (P : List Row) (k l n s : ℕ) → n ≡ length P → k < 2 ^ n → s < 2 ^ n → ((b : ℕ) → member s b ≡ asked-below P k l n b) → s ≡ asked-of P k l
-asked-all P k l n s e h g f =
-    members-eq n s (asked-of P k l) g (subst (λ (m : ℕ). asked-of P k l < 2 ^ m) (sym e) (asked-lt P k l)) (λ b j. f b ∙ sym (digits b (omega arith)))
+pub entering-all : (x : PropertyRow) (r : ℕ) (t₀ t : List ℕ) (l : ℕ) → 9 ≤ l → Entering x r t₀ l t → (i : ℕ) → i < 9 → getD t i 0 ≡ entered x r t₀ i
+entering-all x r t₀ t l h y i k = ap (λ (j : ℕ). getD t j 0) (sym (zero-add i)) ∙ y .1 .0 i (omega arith)
+
+-- a row that is no box looks along nothing
+unboxed-looks : (x : PropertyRow) (l : ℕ) → is-box (x .operator) ≡ false → (looks x l) .along ≡ false
+unboxed-looks x l e =
+    let h = leb-false 9 (x .operator) e in rw (ne-eqb (x .operator) 10 (λ i. omega (arith, h)), ne-eqb (x .operator) 9 (λ i. omega (arith, h)))
+
+-- the rows of P that look along label l
+abbrev pub looks-along : List Row → ℕ → ℕ → Bool
+looks-along P l r = (looks (row-held (row P r)) l) .along
+
+-- row r, read as x, is entered where it looks along the label; no other need be
+module _ (P : List Row) (r : ℕ) (x : PropertyRow) (read : x ≡ row-held (row P r)) (l s : ℕ) (is : s ≡ mask (looks-along P l) r) where
+  here : looks-along P l r ≡ (looks x l) .along
+  here = ap (λ (y : PropertyRow). (looks y l) .along) (sym read)
+
+  pub boxed-with : cond ((looks x l) .along) (bitOr s (2 ^ r)) s ≡ mask (looks-along P l) (r + 1)
+  boxed-with = go ((looks x l) .along) here
+    where
+      go : (b : Bool) → looks-along P l r ≡ b → cond b (bitOr s (2 ^ r)) s ≡ mask (looks-along P l) (r + 1)
+      go true e = mask-with (looks-along P l) r s (2 ^ r) is refl e
+      go false e = mask-without (looks-along P l) r s is e
+
+  pub boxed-without : is-box (x .operator) ≡ false → s ≡ mask (looks-along P l) (r + 1)
+  boxed-without e = mask-without (looks-along P l) r s is (here ∙ unboxed-looks x l e)
+
+-- ---- what a set asks for
+
+-- what a row obliges to, if anything
+obliged-e : (o : Option ℕ) (b : ℕ) → T (member (obliged-rows o) b) → o ≡ some b
+obliged-e none b t = absurd (subst T (member-none b) t)
+obliged-e (some c) b t = ap some (eqb→eq c b (subst T (member-one c b) t))
+
+obliged-i : (o : Option ℕ) (b : ℕ) → o ≡ some b → T (member (obliged-rows o) b)
+obliged-i o b e = subst (λ (x : Option ℕ). T (member (obliged-rows x) b)) (sym e) (subst T (sym (member-one b b)) (eq-eqb b b refl))
+
+-- it is a row
+obliged-lt : (n : ℕ) (x : Row) (l : ℕ) → T (names n x) → obliged-rows (obliged x l) < 2 ^ n
+obliged-lt n x l t = go (obliged x l) refl
   where
-    digits : (b : ℕ) → b < length P → member (asked-of P k l) b ≡ asked-below P k l n b
-    digits b j =
-        member-asked P k l b j
-        ∙ asked-is P (rows (length P) k) l b
-        ∙ ap (λ (v : ℕ → Bool). any (λ (q : ℕ). v q && is-some (obliged (row P q) l) b) (upto (length P))) (rows-member (length P) k (subst (λ (m : ℕ). k < 2 ^ m) e h))
-        ∙ ap (λ (m : ℕ). asked-below P k l m b) (sym e)
+    go : (o : Option ℕ) → obliged x l ≡ o → obliged-rows o < 2 ^ n
+    go none e = pow-pos n
+    go (some b) e = pow-lt (obliged-named n x l b t e)
+
+-- a row that obliges looks along the label
+obliged-along : (x : Row) (l b : ℕ) → obliged x l ≡ some b → T ((looks (row-held x) l) .along)
+obliged-along x l b e = go ((looks (row-held x) l) .along) (sym (looks-obliged x l) ∙ e)
+  where
+    go : (c : Bool) → cond c (some ((looks (row-held x) l) .at)) none ≡ some b → T c
+    go true i = tt
+    go false i = absurd (Option·none-ne-some _ i)
+
+module _ (P : List Row) (l : ℕ) where
+  -- a row is asked for where a row of the set obliges to it
+  asked-of-e : (k b : ℕ) → b < length P → T (member (asked-of P k l) b) → (q : ℕ) × (q < length P) × T (member k q) × (obliged (row P q) l ≡ some b)
+  asked-of-e k b h t =
+      let a = asked-e P (rows (length P) k) l b (subst T (member-asked P k l b h) t) in
+      (a .0, a .1, subst T (has-tab (member k) (length P) (a .0) (a .1)) (a .2), a .3)
+
+  asked-of-i : (k b q : ℕ) → b < length P → q < length P → T (member k q) → obliged (row P q) l ≡ some b → T (member (asked-of P k l) b)
+  asked-of-i k b q h j t e =
+      subst T (sym (member-asked P k l b h)) (asked-i P (rows (length P) k) l b q j (subst T (sym (has-tab (member k) (length P) q j)) t) e)
+
+  -- the empty set asks for nothing
+  pub asked-none : 0 ≡ asked-of P 0 l
+  asked-none = empty-is (length P) (asked-of P 0 l) (asked-lt P 0 l)
+      (λ b t. let a = asked-of-e 0 b (member-lt (length P) (asked-of P 0 l) b (asked-lt P 0 l) t) t in subst T (member-none (a .0)) (a .2))
+
+  -- a set with one row more asks for what that row obliges to besides
+  pub asked-with : (d r s t e : ℕ) → r < length P → T (names (length P) (row P r)) → s ≡ asked-of P d l → t ≡ obliged-rows (obliged (row P r) l) → e ≡ 2 ^ r
+      → bitOr s t ≡ asked-of P (bitOr d e) l
+  asked-with d r s t e h named p q is =
+      ap₂ bitOr p q
+      ∙ members-eq (length P) (bitOr old own) (asked-of P (bitOr d (2 ^ r)) l)
+      (or-lt (length P) old own (asked-lt P d l) (obliged-lt (length P) (row P r) l named)) (asked-lt P (bitOr d (2 ^ r)) l)
+      (λ b j. same-test (member (bitOr old own) b) (member (asked-of P (bitOr d (2 ^ r)) l) b) (into b j) (back b j))
+      ∙ ap (λ (i : ℕ). asked-of P (bitOr d i) l) (sym is)
+    where
+      old : ℕ
+      old = asked-of P d l
+
+      own : ℕ
+      own = obliged-rows (obliged (row P r) l)
+
+      into : (b : ℕ) → b < length P → T (member (bitOr old own) b) → T (member (asked-of P (bitOr d (2 ^ r)) l) b)
+      into b j i = ⊎-elim
+          (λ u. let a = asked-of-e d b j u in asked-of-i (bitOr d (2 ^ r)) b (a .0) j (a .1) (union-l d (2 ^ r) (a .0) (a .2)) (a .3))
+          (λ u. asked-of-i (bitOr d (2 ^ r)) b r j h (with-i d r) (obliged-e (obliged (row P r) l) b u))
+          (union-e old own b i)
+
+      back : (b : ℕ) → b < length P → T (member (asked-of P (bitOr d (2 ^ r)) l) b) → T (member (bitOr old own) b)
+      back b j i =
+          let a = asked-of-e (bitOr d (2 ^ r)) b j i in
+          ⊎-elim (λ u. union-l old own b (asked-of-i d b (a .0) j (a .1) u (a .3)))
+          (λ u. union-r old own b (obliged-i (obliged (row P r) l) b (ap (λ (q : ℕ). obliged (row P q) l) u ∙ a .3)))
+          (with-e d r (a .0) (a .2))
+
+  -- the rows that do not look along the label ask for nothing under it
+  pub asked-among : (t : List ℕ) → Boxes P t → l < 9 → (k : ℕ) → asked-of P (bitAnd k (getD t l 0)) l ≡ asked-of P k l
+  asked-among t boxes h k = members-eq (length P) (asked-of P among l) (asked-of P k l) (asked-lt P among l) (asked-lt P k l)
+      (λ b j. same-test (member (asked-of P among l) b) (member (asked-of P k l) b) (fewer b j) (all b j))
+    where
+      among : ℕ
+      among = bitAnd k (getD t l 0)
+
+      fewer : (b : ℕ) → b < length P → T (member (asked-of P among l) b) → T (member (asked-of P k l) b)
+      fewer b j i =
+          let a = asked-of-e among b j i in
+          asked-of-i k b (a .0) j (a .1) (and-l (member k (a .0)) (member (getD t l 0) (a .0)) (subst T (member-and k (getD t l 0) (a .0)) (a .2))) (a .3)
+
+      all : (b : ℕ) → b < length P → T (member (asked-of P k l) b) → T (member (asked-of P among l) b)
+      all b j i =
+          let a = asked-of-e k b j i in
+          let along = ap (λ (n : ℕ). member n (a .0)) (boxes l h) ∙ member-mask (looks-along P l) (length P) (a .0) (a .1) in
+          asked-of-i among b (a .0) j (a .1) (subst T (sym (member-and k (getD t l 0) (a .0)))
+          (and-i (member k (a .0)) (member (getD t l 0) (a .0)) (a .2) (subst T (sym along) (obliged-along (row P (a .0)) l b (a .3))))) (a .3)

@@ -3,19 +3,17 @@ use mathlib.Core.Path.{_≡_, refl, sym, ap, ap₂, subst, _∙_}
 use mathlib.Core.Logic.{_⊎_, inl, inr, ⊎-elim}
 use mathlib.Core.Bool.{Bool, false, not, _&&_, _||_}
 use mathlib.Core.List.{List}
-use Prim.Native.Nat.{ℕ, _-_, _^_, _<_}
-use native.Mathlib.Omega.{arith}
+use Prim.Native.Nat.{ℕ, _^_, _<_}
 use lib.Bits.{bitAnd, bitOr, or-lt, and-lt}
 use lib.Dec.{T, T-not, not-T, eqb, eqb→eq, ltb, ltb→lt}
 use lib.ListN.{length}
 use lib.Pow.{pow-lt}
-use Rattle.files.specs.Basics.Tables.{tally, tally-le}
 use Rattle.files.specs.Basics.Tests.{same-test, eq-eqb, and-l, and-r, and-i, or-e, or-l, or-r}
 use Rattle.files.specs.Cells.{cell}
 use Rattle.files.specs.Property.{Row, always, never, returns, not-returns, in-method, not-in-method, both, either, box, box-all, row, names, Property}
-use Rattle.maximal.specs.Masks.{member, within, apart, joins, and-rows, completion, Taken}
-use Rattle.maximal.specs.Masks.Laws.{member-or, member-and, member-one, member-two, members-eq, within-i, apart-e, apart-i, completion-lt, completion-contains, completion-joins, completion-least}
-use Rattle.maximal.specs.Masks.Order.{taken-row, worked-more, member-ands, and-rows-lt}
+use Rattle.maximal.specs.Masks.{member, apart, joins, and-rows, completion, Taken}
+use Rattle.maximal.specs.Masks.Laws.{member-or, member-and, member-one, member-two, members-eq, apart-e, apart-i, completion-lt, completion-contains, completion-joins, completion-least}
+use Rattle.maximal.specs.Masks.Order.{taken-row, member-ands, and-rows-lt}
 use Rattle.maximal.specs.Collected.{unsettled, operands, Bounded, stopped, Tables}
 use Rattle.maximal.specs.Collected.Worked.{partly-ands, completion-ands, stopped-all, stopped-open, stopped-on}
 
@@ -53,11 +51,8 @@ module _ (P : List Row) (wf : Property P) (s d b : ℕ) (y : Bounded P s d b) wh
   bound-lt : b < 2 ^ n
   bound-lt = subst (λ (i : ℕ). i < 2 ^ n) (sym (y .bound-is)) (completion-lt P s)
 
-  pub bounded-within : T (within d s)
-  bounded-within = within-i n d s (y .partly .rows-of) (y .partly .of-rows) (y .partly .inside)
-
   module _ (r : ℕ) (t : Taken s d r) where
-    pub row-lt : r < n
+    row-lt : r < n
     row-lt = taken-row n s d (y .partly) r t
 
     in-bound : T (member b r)
@@ -168,11 +163,6 @@ module _ (P : List Row) (wf : Property P) (w : List ℕ) (tables : Tables P w) (
     -- the row taken is open
     pub opened-at : bitAnd b x ≡ 0 → record { row = r; set = s; worked = d } ≡ stopped P s₀ d₀ b
     opened-at e = sym (y .leads ∙ stopped-open P wf b s d (y .bounded .partly) r t (subst T test-is (eq-eqb (bitAnd b x) 0 e)))
-
-    -- one row more is worked
-    pub opening-less : (e : ℕ) → e ≡ 2 ^ r → length P - tally (member (bitOr d e)) (length P) < length P - tally (member d) (length P)
-    opening-less e q =
-        omega (arith, ap (λ (i : ℕ). tally (member (bitOr d i)) (length P)) q, worked-more (length P) s d (y .bounded .partly) r t, tally-le (member (bitOr d (2 ^ r))) (length P))
 
     -- it is not
     pub opening-on : (c e : ℕ) → c ≡ cell w 0 4 r → e ≡ 2 ^ r → (bitAnd b x ≡ 0 → ⊥) → Opening P s₀ d₀ b (bitOr s (bitAnd x c)) (bitOr d e)

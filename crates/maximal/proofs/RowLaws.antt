@@ -92,18 +92,6 @@ untrue-by-row (either a b) m f = refl
 untrue-by-row (box l b) m f = refl
 untrue-by-row (box-all a) m f = refl
 
-unboxed : (x : Row) (l : ℕ) → (row-held x) .operator < 9 → obliged x l ≡ none
-unboxed always l h = refl
-unboxed never l h = refl
-unboxed returns l h = refl
-unboxed not-returns l h = refl
-unboxed (in-method a) l h = refl
-unboxed (not-in-method a) l h = refl
-unboxed (both a b) l h = refl
-unboxed (either a b) l h = refl
-unboxed (box k b) l h = absurd (omega arith)
-unboxed (box-all a) l h = absurd (omega arith)
-
 -- row v, read as u
 module _ (x : RowAt) (u : PropertyRow) (v : Row) (is : x ≡ RowIs u) (holds : x ≡ RowIs (row-held v)) where
   held : u ≡ row-held v
@@ -111,10 +99,6 @@ module _ (x : RowAt) (u : PropertyRow) (v : Row) (is : x ≡ RowIs u) (holds : x
 
   pub operands-read : (last other : ℕ) → operands-by u last other ≡ operands-or v last other
   operands-read last other = ap (λ (y : PropertyRow). operands-by y last other) held
-
-  -- a row before the boxes obliges to nothing
-  pub unboxed-read : (l : ℕ) → u .operator < 9 → 0 ≡ obliged-rows (obliged v l)
-  unboxed-read l h = ap obliged-rows (sym (unboxed v l (subst (λ (y : PropertyRow). y .operator < 9) held h)))
 
   -- what it obliges to under a label is what the code finds that it looks at
   module _ (l : ℕ) (y : Looks) (looked : y ≡ looks u l) (b : Bool) (along : y .along ≡ b) where
@@ -140,7 +124,7 @@ module _ (p : List ℕ) (file : PropertyFile p) (n : ℕ) (n-is : n ≡ count p)
   pub rows-are : length (decode-property p) ≡ n
   rows-are = file-rows p file ∙ sym n-is
 
-  pub names-rows : (r : ℕ) → r < n → T (names n (row (decode-property p) r))
+  names-rows : (r : ℕ) → r < n → T (names n (row (decode-property p) r))
   names-rows r h =
       subst (λ (k : ℕ). T (names k (row (decode-property p) r))) rows-are
       (file-named p file .names-rows r (omega (arith, rows-are)))

@@ -12,7 +12,10 @@ ghost use Rattle.files.specs.Decode.{decode-interface, decode-property};
 ghost use Rattle.judging.specs.Chains.{Outside};
 ghost use Rattle.maximal.specs.Charting.{Scoped, target, Crowded, Charting, Asking, Charted};
 ghost use Rattle.maximal.specs.Collected.{Tables};
+ghost use Rattle.maximal.specs.Masks.{Boxes};
+use crate::masks::LABELS;
 use crate::masks::asked;
+use crate::masks::boxes_by_label;
 use crate::places::Places;
 use crate::places::Scope;
 use crate::states::admit;
@@ -106,12 +109,13 @@ fn follow(
     interface: &[u8],
     property: &[u8],
     s: Scope,
+    boxes: &[u32; LABELS],
     work: &mut [u8],
     i: usize,
     label: u8,
     c: usize,
 ) -> usize
-    requires { ⌜ (InterfaceFile (now interface)) × ((Scoped s (now property)) × ((i < c) × ((label < 9) × ((c ≤ s .states) × ((103456 ≤ length (now work)) × ((Tables (decode-property (now property)) (now work)) × (Charting (decode-interface (now interface)) (decode-property (now property)) c (9 * i + label) (now work)))))))) ⌝ }
+    requires { ⌜ (Boxes (decode-property (now property)) (now boxes)) × ((InterfaceFile (now interface)) × ((Scoped s (now property)) × ((i < c) × ((label < 9) × ((c ≤ s .states) × ((103456 ≤ length (now work)) × ((Tables (decode-property (now property)) (now work)) × (Charting (decode-interface (now interface)) (decode-property (now property)) c (9 * i + label) (now work))))))))) ⌝ }
     ensures { λ t. ⌜ (t ≤ s .states → (Charting (decode-interface (now (interface .entry))) (decode-property (now (property .entry))) t (9 * i + label + 1) (now (work .exit))) × ((Tables (decode-property (now (property .entry))) (now (work .exit))) × (c ≤ t))) × ((t ≤ s .states + 1) × (s .states < t → Crowded (decode-interface (now (interface .entry))) (decode-property (now (property .entry))) (s .states))) ⌝ }
 {
     let q = 9 * i + (label as usize);
@@ -121,7 +125,8 @@ fn follow(
         return c;
     }
     let method = get8(work, Places::KINDS, i) / 2;
-    let set = asked(property, s.rows, get32(work, Places::SETS, i), label);
+    let among = get32(work, Places::SETS, i) & boxes[label as usize];
+    let set = asked(property, s.rows, among, label);
     // The first slot below q with this method that asks for this set, or q.
     let p = find_pair(work, Places::METHODS, Places::ASKED, q, method, set);
     put8(work, Places::METHODS, q, method);
@@ -134,14 +139,22 @@ fn follow(
 }
 
 // Enters what follows state i under every label.
-fn expand(interface: &[u8], property: &[u8], s: Scope, work: &mut [u8], i: usize, c: usize) -> usize
-    requires { ⌜ (InterfaceFile (now interface)) × ((Scoped s (now property)) × ((i < c) × ((c ≤ s .states) × ((103456 ≤ length (now work)) × ((Tables (decode-property (now property)) (now work)) × (Charting (decode-interface (now interface)) (decode-property (now property)) c (9 * i) (now work))))))) ⌝ }
+fn expand(
+    interface: &[u8],
+    property: &[u8],
+    s: Scope,
+    boxes: &[u32; LABELS],
+    work: &mut [u8],
+    i: usize,
+    c: usize,
+) -> usize
+    requires { ⌜ (Boxes (decode-property (now property)) (now boxes)) × ((InterfaceFile (now interface)) × ((Scoped s (now property)) × ((i < c) × ((c ≤ s .states) × ((103456 ≤ length (now work)) × ((Tables (decode-property (now property)) (now work)) × (Charting (decode-interface (now interface)) (decode-property (now property)) c (9 * i) (now work)))))))) ⌝ }
     ensures { λ t. ⌜ (t ≤ s .states → (Charting (decode-interface (now (interface .entry))) (decode-property (now (property .entry))) t (9 * i + 9) (now (work .exit))) × ((Tables (decode-property (now (property .entry))) (now (work .exit))) × (c ≤ t))) × ((t ≤ s .states + 1) × (s .states < t → Crowded (decode-interface (now (interface .entry))) (decode-property (now (property .entry))) (s .states))) ⌝ }
 {
     let mut label = 0;
     let mut total = c;
     while label < 9 {
-        total = follow(interface, property, s, work, i, label, total);
+        total = follow(interface, property, s, boxes, work, i, label, total);
         if s.states < total {
             return total;
         }
@@ -159,13 +172,14 @@ pub(crate) fn explore(interface: &[u8], property: &[u8], s: Scope, work: &mut [u
         return 0;
     }
     tabulate(property, s.rows, work);
+    let boxes = boxes_by_label(property, s.rows);
     let mut c = enter_entries(interface, property, s, work);
     if s.states < c {
         return c;
     }
     let mut i = 0;
     while i < c {
-        c = expand(interface, property, s, work, i, c);
+        c = expand(interface, property, s, &boxes, work, i, c);
         if s.states < c {
             return c;
         }

@@ -1,16 +1,24 @@
 // Sets of rows as numbers: row r is in the set when its digit 2 ^ r is one. A set completed by what its "and" rows ask for, taken from the highest row downward; the
-// rows that are untrue at a method and flag; and what a state asks of its successors under a label.
+// rows that are untrue at a method and flag; the boxes that look along a label; and what a state asks of its successors under it.
 ghost use mathlib.Core.Path.{_≡_};
-ghost use Prim.Native.Nat.{_+_, _^_, _≤_, _<_};
+ghost use mathlib.Core.Bool.{cond};
+ghost use Prim.Native.Nat.{ℕ, _+_, _^_, _≤_, _<_};
+ghost use lib.Bits.{bitOr};
 ghost use lib.Dec.{T};
-ghost use Rattle.files.specs.Access.{PropertyFile};
+ghost use lib.ListN.{getD};
+ghost use Rattle.files.specs.Access.{PropertyFile, looks};
 ghost use Rattle.files.specs.Decode.{decode-property};
 ghost use Rattle.files.specs.Property.{row, obliged};
 ghost use Rattle.files.specs.Record.{count};
-ghost use Rattle.maximal.specs.Masks.{operands-or, member, within, Taken, and-rows, completion, untrue-at, untrue, obliged-rows, asked-of};
+ghost use Rattle.maximal.specs.Masks.{operands-or, member, within, Taken, and-rows, completion, untrue-at, untrue, obliged-rows, asked-of, Boxes};
+use files::property::PropertyRow;
 use files::property::RowAt;
+use files::property::is_box;
 use files::property::obliged;
 use files::property::row_at;
+
+// Internal steps, and calls of eight methods.
+pub const LABELS: usize = 9;
 
 // Row r is in the set.
 pub fn has_row(set: u32, r: usize) -> bool
@@ -122,10 +130,6 @@ fn obliged_rows(property: &[u8], n: usize, r: usize, label: u8) -> u32
     let RowAt::Is(x) = row_at(property, r, 2) else {
         return 0;
     };
-    // No box: most rows, so they are told apart first.
-    if x.operator < 9 {
-        return 0;
-    }
     let on = obliged(x, label);
     if on.along {
         return one_row(on.at as usize);
@@ -133,18 +137,54 @@ fn obliged_rows(property: &[u8], n: usize, r: usize, label: u8) -> u32
     0
 }
 
-// What all rows of a set do.
+// What all rows of a set do. The highest row not yet asked is taken next.
 pub fn asked(property: &[u8], n: usize, set: u32, label: u8) -> u32
     requires { ⌜ (PropertyFile (now property)) × ((n ≡ count (now property)) × ((n ≤ 32) × (set < 2 ^ n))) ⌝ }
     ensures { λ t. ⌜ t ≡ asked-of (decode-property (now (property .entry))) set label ⌝ }
 {
-    let mut r = 0;
+    let mut done = 0;
     let mut rows = 0;
+    while !(set == done) {
+        let r = next_row(set, done);
+        done = done | one_row(r);
+        rows = rows | obliged_rows(property, n, r, label);
+    }
+    rows
+}
+
+// Enters row r, read as x, under each label that it looks along.
+fn enter_box(boxes: [u32; LABELS], x: PropertyRow, r: usize) -> [u32; LABELS]
+    requires { ⌜ r < 32 ⌝ }
+    ensures { λ t. ⌜ ((l : ℕ) → l < 9 → getD t l 0 ≡ cond ((looks x l) .along) (bitOr (getD boxes l 0) (2 ^ r)) (getD boxes l 0)) ⌝ }
+{
+    let mut all = boxes;
+    let mut label = 0;
+    while label < LABELS {
+        let on = obliged(x, label as u8);
+        if on.along {
+            all[label] = all[label] | one_row(r);
+        }
+        label += 1;
+    }
+    all
+}
+
+// For each label the boxes that look along it, as a set: the rows of a state that ask for nothing under a label need not be read.
+pub fn boxes_by_label(property: &[u8], n: usize) -> [u32; LABELS]
+    requires { ⌜ (PropertyFile (now property)) × ((n ≡ count (now property)) × (n ≤ 32)) ⌝ }
+    ensures { λ t. ⌜ Boxes (decode-property (now (property .entry))) t ⌝ }
+{
+    let mut boxes = [0u32; LABELS];
+    let mut r = 0;
     while r < n {
-        if has_row(set, r) {
-            rows = rows | obliged_rows(property, n, r, label);
+        let RowAt::Is(x) = row_at(property, r, 2) else {
+            return boxes;
+        };
+        if is_box(x.operator) {
+            let with = enter_box(boxes, x, r);
+            boxes = with;
         }
         r += 1;
     }
-    rows
+    boxes
 }

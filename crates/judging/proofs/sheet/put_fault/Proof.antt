@@ -1,51 +1,92 @@
+-- The pair that is listed at place i, and its causes, are the record's six bytes.
 use mathlib.Core.Path.{ap, _∙_}
+use Prim.Native.Nat.{_*_, _/_, _%_, _<_}
 use native.Mathlib.Omega.{arith}
+use Rattle.files.specs.Cells.{put-at}
 use Rattle.files.specs.Decode.{decode-graph, decode-property}
 use Rattle.judging.proofs.SheetLaws.{listed-few, place-in, cause-bytes, fault-of}
-use Prim.Native.Nat.{_*_, _/_, _%_}
-use Rattle.files.specs.Cells.{put-at}
 use borrow.Author.Needs.{needs}
 use Rattle.judging.proofs.sheet.put_fault.Statement.{statement}
 use Rattle.judging.proofs.sheet.put_fault.Tie as tie
 
+-- the place that is listed is a pair of the graph and the property
+abbrev InRange : tie.After-get16 → Type 0
+InRange y =
+    let s = y .before .before .before .before .before .args .s in
+    (y .get16 .result / 32 < s .nodes) × (y .get16 .result % 32 < s .rows)
+
+in-range : (y : tie.After-get16) → InRange y
+in-range y =
+    let k = y .before .before .before .before .before in
+    let a = k .args in
+    place-in (a .s) (a .graph .now) (a .property .now) (k .pre .0) (a .n) (a .work .now) (k .pre .1 .0) (a .i) (y .get16 .result) (k .pre .1 .1 .0) (y .get16 .ensures)
+
+-- the causes fit bytes
+first-bytes : (y : tie.After-causes-of) → (y .causes-of .result .first .node < 256) × (y .causes-of .result .first .row < 256)
+first-bytes y =
+    let k = y .before .before .before .before .before .before in
+    let a = k .args in
+    let x = y .before .get16 .result in
+    let h = in-range (y .before) in
+    cause-bytes (a .s) (a .graph .now) (a .property .now) (k .pre .0) (x / 32) (x % 32) (h .0) (h .1) 0 (y .causes-of .result .first) (y .causes-of .ensures .0)
+
+second-bytes : (y : tie.After-causes-of) → (y .causes-of .result .second .node < 256) × (y .causes-of .result .second .row < 256)
+second-bytes y =
+    let k = y .before .before .before .before .before .before in
+    let a = k .args in
+    let x = y .before .get16 .result in
+    let h = in-range (y .before) in
+    cause-bytes (a .s) (a .graph .now) (a .property .now) (k .pre .0) (x / 32) (x % 32) (h .0) (h .1) 1 (y .causes-of .result .second) (y .causes-of .ensures .1)
+
 get16-requires : tie.Need-get16-requires
-get16-requires c κs = omega (arith, c .before .before .before .before .pre .1 .1 .0, listed-few (c .before .before .before .before .args .s) (c .before .before .before .before .args .graph .now) (c .before .before .before .before .args .property .now) (c .before .before .before .before .pre .0) (c .before .before .before .before .args .n) (c .before .before .before .before .args .work .now) (c .before .before .before .before .pre .1 .0), c .before .before .before .before .pre .1 .0 .settled .room)
+get16-requires c κs =
+    let k = c .before .before .before .before in
+    let a = k .args in
+    omega (arith, k .pre .1 .1 .0, listed-few (a .s) (a .graph .now) (a .property .now) (k .pre .0) (a .n) (a .work .now) (k .pre .1 .0), k .pre .1 .0 .settled .room)
 
 cast-p : tie.Need-cast-p
 cast-p c = search needs
 
-first-cause-requires : tie.Need-first-cause-requires
-first-cause-requires c κs = (c .before .before .before .before .before .pre .0, ((place-in (c .before .before .before .before .before .args .s) (c .before .before .before .before .before .args .graph .now) (c .before .before .before .before .before .args .property .now) (c .before .before .before .before .before .pre .0) (c .before .before .before .before .before .args .n) (c .before .before .before .before .before .args .work .now) (c .before .before .before .before .before .pre .1 .0) (c .before .before .before .before .before .args .i) (c .get16 .result) (c .before .before .before .before .before .pre .1 .1 .0) (c .get16 .ensures)) .0, ((place-in (c .before .before .before .before .before .args .s) (c .before .before .before .before .before .args .graph .now) (c .before .before .before .before .before .args .property .now) (c .before .before .before .before .before .pre .0) (c .before .before .before .before .before .args .n) (c .before .before .before .before .before .args .work .now) (c .before .before .before .before .before .pre .1 .0) (c .before .before .before .before .before .args .i) (c .get16 .result) (c .before .before .before .before .before .pre .1 .1 .0) (c .get16 .ensures)) .1, c .before .before .before .before .before .pre .1 .0 .settled)))
-
-second-cause-requires : tie.Need-second-cause-requires
-second-cause-requires c κs = (c .before .before .before .before .before .before .pre .0, ((place-in (c .before .before .before .before .before .before .args .s) (c .before .before .before .before .before .before .args .graph .now) (c .before .before .before .before .before .before .args .property .now) (c .before .before .before .before .before .before .pre .0) (c .before .before .before .before .before .before .args .n) (c .before .before .before .before .before .before .args .work .now) (c .before .before .before .before .before .before .pre .1 .0) (c .before .before .before .before .before .before .args .i) (c .before .get16 .result) (c .before .before .before .before .before .before .pre .1 .1 .0) (c .before .get16 .ensures)) .0, (place-in (c .before .before .before .before .before .before .args .s) (c .before .before .before .before .before .before .args .graph .now) (c .before .before .before .before .before .before .args .property .now) (c .before .before .before .before .before .before .pre .0) (c .before .before .before .before .before .before .args .n) (c .before .before .before .before .before .before .args .work .now) (c .before .before .before .before .before .before .pre .1 .0) (c .before .before .before .before .before .before .args .i) (c .before .get16 .result) (c .before .before .before .before .before .before .pre .1 .1 .0) (c .before .get16 .ensures)) .1))
+causes-of-requires : tie.Need-causes-of-requires
+causes-of-requires c κs =
+    let k = c .before .before .before .before .before in
+    let h = in-range c in
+    (k .pre .0, (h .0, (h .1, k .pre .1 .0 .settled)))
 
 cast-put-six : tie.Need-cast-put-six
-cast-put-six c = omega (arith, (place-in (c .before .before .before .before .before .before .before .before .args .s) (c .before .before .before .before .before .before .before .before .args .graph .now) (c .before .before .before .before .before .before .before .before .args .property .now) (c .before .before .before .before .before .before .before .before .pre .0) (c .before .before .before .before .before .before .before .before .args .n) (c .before .before .before .before .before .before .before .before .args .work .now) (c .before .before .before .before .before .before .before .before .pre .1 .0) (c .before .before .before .before .before .before .before .before .args .i) (c .before .before .before .get16 .result) (c .before .before .before .before .before .before .before .before .pre .1 .1 .0) (c .before .before .before .get16 .ensures)) .0, c .before .before .before .before .before .before .before .before .pre .0 .few-nodes)
+cast-put-six c = omega (arith, in-range (c .before .before))
 
 cast-put-six-2 : tie.Need-cast-put-six-2
-cast-put-six-2 c = search needs
+cast-put-six-2 c = omega arith
 
 cast-put-six-3 : tie.Need-cast-put-six-3
-cast-put-six-3 c = omega (arith, (cause-bytes (c .before .before .before .before .before .before .before .before .before .args .s) (c .before .before .before .before .before .before .before .before .before .args .graph .now) (c .before .before .before .before .before .before .before .before .before .args .property .now) (c .before .before .before .before .before .before .before .before .before .pre .0) (c .before .before .before .before .get16 .result / 32) (c .before .before .before .before .get16 .result % 32) ((place-in (c .before .before .before .before .before .before .before .before .before .args .s) (c .before .before .before .before .before .before .before .before .before .args .graph .now) (c .before .before .before .before .before .before .before .before .before .args .property .now) (c .before .before .before .before .before .before .before .before .before .pre .0) (c .before .before .before .before .before .before .before .before .before .args .n) (c .before .before .before .before .before .before .before .before .before .args .work .now) (c .before .before .before .before .before .before .before .before .before .pre .1 .0) (c .before .before .before .before .before .before .before .before .before .args .i) (c .before .before .before .before .get16 .result) (c .before .before .before .before .before .before .before .before .before .pre .1 .1 .0) (c .before .before .before .before .get16 .ensures)) .0) ((place-in (c .before .before .before .before .before .before .before .before .before .args .s) (c .before .before .before .before .before .before .before .before .before .args .graph .now) (c .before .before .before .before .before .before .before .before .before .args .property .now) (c .before .before .before .before .before .before .before .before .before .pre .0) (c .before .before .before .before .before .before .before .before .before .args .n) (c .before .before .before .before .before .before .before .before .before .args .work .now) (c .before .before .before .before .before .before .before .before .before .pre .1 .0) (c .before .before .before .before .before .before .before .before .before .args .i) (c .before .before .before .before .get16 .result) (c .before .before .before .before .before .before .before .before .before .pre .1 .1 .0) (c .before .before .before .before .get16 .ensures)) .1) 0 (c .before .before .before .first-cause .result) (c .before .before .before .first-cause .ensures)) .0)
+cast-put-six-3 c = omega (arith, first-bytes (c .before .before) .0)
 
 cast-put-six-4 : tie.Need-cast-put-six-4
-cast-put-six-4 c = omega (arith, (cause-bytes (c .before .before .before .before .before .before .before .before .before .before .args .s) (c .before .before .before .before .before .before .before .before .before .before .args .graph .now) (c .before .before .before .before .before .before .before .before .before .before .args .property .now) (c .before .before .before .before .before .before .before .before .before .before .pre .0) (c .before .before .before .before .before .get16 .result / 32) (c .before .before .before .before .before .get16 .result % 32) ((place-in (c .before .before .before .before .before .before .before .before .before .before .args .s) (c .before .before .before .before .before .before .before .before .before .before .args .graph .now) (c .before .before .before .before .before .before .before .before .before .before .args .property .now) (c .before .before .before .before .before .before .before .before .before .before .pre .0) (c .before .before .before .before .before .before .before .before .before .before .args .n) (c .before .before .before .before .before .before .before .before .before .before .args .work .now) (c .before .before .before .before .before .before .before .before .before .before .pre .1 .0) (c .before .before .before .before .before .before .before .before .before .before .args .i) (c .before .before .before .before .before .get16 .result) (c .before .before .before .before .before .before .before .before .before .before .pre .1 .1 .0) (c .before .before .before .before .before .get16 .ensures)) .0) ((place-in (c .before .before .before .before .before .before .before .before .before .before .args .s) (c .before .before .before .before .before .before .before .before .before .before .args .graph .now) (c .before .before .before .before .before .before .before .before .before .before .args .property .now) (c .before .before .before .before .before .before .before .before .before .before .pre .0) (c .before .before .before .before .before .before .before .before .before .before .args .n) (c .before .before .before .before .before .before .before .before .before .before .args .work .now) (c .before .before .before .before .before .before .before .before .before .before .pre .1 .0) (c .before .before .before .before .before .before .before .before .before .before .args .i) (c .before .before .before .before .before .get16 .result) (c .before .before .before .before .before .before .before .before .before .before .pre .1 .1 .0) (c .before .before .before .before .before .get16 .ensures)) .1) 0 (c .before .before .before .before .first-cause .result) (c .before .before .before .before .first-cause .ensures)) .1)
+cast-put-six-4 c = omega (arith, first-bytes (c .before .before .before) .1)
 
 cast-put-six-5 : tie.Need-cast-put-six-5
-cast-put-six-5 c = omega (arith, (cause-bytes (c .before .before .before .before .before .before .before .before .before .before .before .args .s) (c .before .before .before .before .before .before .before .before .before .before .before .args .graph .now) (c .before .before .before .before .before .before .before .before .before .before .before .args .property .now) (c .before .before .before .before .before .before .before .before .before .before .before .pre .0) (c .before .before .before .before .before .before .get16 .result / 32) (c .before .before .before .before .before .before .get16 .result % 32) ((place-in (c .before .before .before .before .before .before .before .before .before .before .before .args .s) (c .before .before .before .before .before .before .before .before .before .before .before .args .graph .now) (c .before .before .before .before .before .before .before .before .before .before .before .args .property .now) (c .before .before .before .before .before .before .before .before .before .before .before .pre .0) (c .before .before .before .before .before .before .before .before .before .before .before .args .n) (c .before .before .before .before .before .before .before .before .before .before .before .args .work .now) (c .before .before .before .before .before .before .before .before .before .before .before .pre .1 .0) (c .before .before .before .before .before .before .before .before .before .before .before .args .i) (c .before .before .before .before .before .before .get16 .result) (c .before .before .before .before .before .before .before .before .before .before .before .pre .1 .1 .0) (c .before .before .before .before .before .before .get16 .ensures)) .0) ((place-in (c .before .before .before .before .before .before .before .before .before .before .before .args .s) (c .before .before .before .before .before .before .before .before .before .before .before .args .graph .now) (c .before .before .before .before .before .before .before .before .before .before .before .args .property .now) (c .before .before .before .before .before .before .before .before .before .before .before .pre .0) (c .before .before .before .before .before .before .before .before .before .before .before .args .n) (c .before .before .before .before .before .before .before .before .before .before .before .args .work .now) (c .before .before .before .before .before .before .before .before .before .before .before .pre .1 .0) (c .before .before .before .before .before .before .before .before .before .before .before .args .i) (c .before .before .before .before .before .before .get16 .result) (c .before .before .before .before .before .before .before .before .before .before .before .pre .1 .1 .0) (c .before .before .before .before .before .before .get16 .ensures)) .1) 1 (c .before .before .before .before .second-cause .result) (c .before .before .before .before .second-cause .ensures)) .0)
+cast-put-six-5 c = omega (arith, second-bytes (c .before .before .before .before) .0)
 
 cast-put-six-6 : tie.Need-cast-put-six-6
-cast-put-six-6 c = omega (arith, (cause-bytes (c .before .before .before .before .before .before .before .before .before .before .before .before .args .s) (c .before .before .before .before .before .before .before .before .before .before .before .before .args .graph .now) (c .before .before .before .before .before .before .before .before .before .before .before .before .args .property .now) (c .before .before .before .before .before .before .before .before .before .before .before .before .pre .0) (c .before .before .before .before .before .before .before .get16 .result / 32) (c .before .before .before .before .before .before .before .get16 .result % 32) ((place-in (c .before .before .before .before .before .before .before .before .before .before .before .before .args .s) (c .before .before .before .before .before .before .before .before .before .before .before .before .args .graph .now) (c .before .before .before .before .before .before .before .before .before .before .before .before .args .property .now) (c .before .before .before .before .before .before .before .before .before .before .before .before .pre .0) (c .before .before .before .before .before .before .before .before .before .before .before .before .args .n) (c .before .before .before .before .before .before .before .before .before .before .before .before .args .work .now) (c .before .before .before .before .before .before .before .before .before .before .before .before .pre .1 .0) (c .before .before .before .before .before .before .before .before .before .before .before .before .args .i) (c .before .before .before .before .before .before .before .get16 .result) (c .before .before .before .before .before .before .before .before .before .before .before .before .pre .1 .1 .0) (c .before .before .before .before .before .before .before .get16 .ensures)) .0) ((place-in (c .before .before .before .before .before .before .before .before .before .before .before .before .args .s) (c .before .before .before .before .before .before .before .before .before .before .before .before .args .graph .now) (c .before .before .before .before .before .before .before .before .before .before .before .before .args .property .now) (c .before .before .before .before .before .before .before .before .before .before .before .before .pre .0) (c .before .before .before .before .before .before .before .before .before .before .before .before .args .n) (c .before .before .before .before .before .before .before .before .before .before .before .before .args .work .now) (c .before .before .before .before .before .before .before .before .before .before .before .before .pre .1 .0) (c .before .before .before .before .before .before .before .before .before .before .before .before .args .i) (c .before .before .before .before .before .before .before .get16 .result) (c .before .before .before .before .before .before .before .before .before .before .before .before .pre .1 .1 .0) (c .before .before .before .before .before .before .before .get16 .ensures)) .1) 1 (c .before .before .before .before .before .second-cause .result) (c .before .before .before .before .before .second-cause .ensures)) .1)
+cast-put-six-6 c = omega (arith, second-bytes (c .before .before .before .before .before) .1)
 
 put-six-requires : tie.Need-put-six-requires
-put-six-requires c κs = search needs
+put-six-requires c κs = c .before .before .before .before .before .before .before .before .before .before .before .pre .1 .1 .1
 
 same-length : tie.Need-same-length
 same-length c = search needs
 
 returns : tie.Need-returns
-returns c = let a = c .before .before .before .before .before .before .before .before .before .before .before .before .before .before .before .args in c .before .before .put-six .ensures ∙ ap (put-at (a .out .now) (6 * a .i)) (fault-of (decode-graph (a .graph .now)) (decode-property (a .property .now)) (a .work .now) (a .i) (c .before .before .before .before .before .before .before .before .before .before .get16 .result) (c .before .before .before .before .before .before .before .before .before .first-cause .result) (c .before .before .before .before .before .before .before .before .second-cause .result) (c .before .before .before .before .before .before .before .before .before .before .get16 .ensures) (c .before .before .before .before .before .before .before .before .before .first-cause .ensures) (c .before .before .before .before .before .before .before .before .second-cause .ensures))
+returns c =
+    let y = c .before .before .before .before .before .before .before .before in
+    let a = y .before .before .before .before .before .before .args in
+    let x = y .before .get16 in
+    let f = y .causes-of in
+    c .before .before .put-six .ensures
+    ∙ ap (put-at (a .out .now) (6 * a .i))
+    (fault-of (decode-graph (a .graph .now)) (decode-property (a .property .now)) (a .work .now) (a .i) (x .result) (f .result .first) (f .result .second) (x .ensures) (f .ensures .0)
+    (f .ensures .1))
 
 pub put-fault-spec : {M : Type 1} → statement M
 put-fault-spec =
@@ -53,8 +94,7 @@ put-fault-spec =
     (tie.spec
     get16-requires
     cast-p
-    first-cause-requires
-    second-cause-requires
+    causes-of-requires
     cast-put-six
     cast-put-six-2
     cast-put-six-3

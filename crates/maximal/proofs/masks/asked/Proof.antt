@@ -1,69 +1,80 @@
--- The rows gathered so far are those that the rows of the set below r ask for.
-use mathlib.Core.Path.{_≡_, sym, ap, subst, _∙_}
-use mathlib.Core.Logic.{⊎-elim}
-use Prim.Native.Nat.{ℕ, _-_, _^_, _≤_, _<_}
+-- The rows gathered so far are those that the worked rows of the set ask for. Each turn works one row more, until all are worked.
+use mathlib.Core.Path.{_≡_, sym, ap, _∙_}
+use Prim.Native.Nat.{ℕ, _-_, _<_}
 use native.Mathlib.Omega.{arith}
-use lib.Bits.{or-lt}
-use lib.Pow.{pow-pos}
+use lib.ListN.{length}
+use Rattle.files.specs.Basics.Tables.{tally}
 use Rattle.files.specs.Decode.{decode-property}
-use Rattle.files.specs.Property.{row}
-use Rattle.maximal.specs.Masks.{member}
-use Rattle.maximal.specs.Masks.Laws.{member-none}
-use Rattle.maximal.proofs.MaskLaws.{asked-below, asked-with, asked-without, asked-all, obliged-lt}
-use Rattle.maximal.proofs.RowLaws.{names-rows, rows-are}
+use Rattle.maximal.specs.Charting.Files.{file-named}
+use Rattle.maximal.specs.Masks.{member, Partly, asked-of}
+use Rattle.maximal.specs.Masks.Order.{taken-row}
+use Rattle.maximal.proofs.MaskLaws.{partly-none, all-worked, row-left, partly-with, less-left, asked-none, asked-with}
+use Rattle.maximal.proofs.RowLaws.{rows-are}
 use Rattle.maximal.proofs.masks.asked.Statement.{statement}
 use Rattle.maximal.proofs.masks.asked.Tie as tie
 
 abbrev Inv-loop : tie.InvT-loop
-Inv-loop property n set label r₀ rows₀ r rows = (r ≤ n) × (rows < 2 ^ n) × ((b : ℕ) → member rows b ≡ asked-below (decode-property property) set label r b)
+Inv-loop property n set label done₀ rows₀ done rows = Partly n set done × (rows ≡ asked-of (decode-property property) done label)
 
 abbrev μ-loop : tie.MeasureT-loop
-μ-loop property n set label r₀ rows₀ r rows = n - r
+μ-loop property n set label done₀ rows₀ done rows = n - tally (member done) n
+
+-- the row taken is one of the rows
+row-taken : (p : tie.After-next-row Inv-loop μ-loop) → p .next-row .result < p .before .before .before .before .args .n
+row-taken p =
+    let a = p .before .before .before .before .args in
+    let l = p .before .before .loop in
+    taken-row (a .n) (a .set) (l .done) (l .inv .0) (p .next-row .result) (p .next-row .ensures)
 
 loop-holds : tie.Need-loop-holds Inv-loop μ-loop
-loop-holds c = (omega arith, pow-pos (c .before .args .n), member-none)
+loop-holds c =
+    let k = c .before in
+    let a = k .args in
+    (partly-none (a .n) (a .set) (k .pre .1 .1 .1), asked-none (decode-property (a .property .now)) (a .label))
 
-has-row-requires : tie.Need-has-row-requires Inv-loop μ-loop
-has-row-requires c κs = omega arith
+next-row-requires : tie.Need-next-row-requires Inv-loop μ-loop
+next-row-requires c κs =
+    let a = c .before .before .before .args in
+    let l = c .before .loop in
+    row-left (a .n) (a .set) (l .done) (l .inv .0) (c .loop-test .taken)
+
+one-row-requires : tie.Need-one-row-requires Inv-loop μ-loop
+one-row-requires c κs = omega (arith, row-taken c, c .before .before .before .before .pre .1 .1 .0)
 
 obliged-rows-requires : tie.Need-obliged-rows-requires Inv-loop μ-loop
-obliged-rows-requires c κs = let k = c .before .before .before .before .before in (k .pre .0, (k .pre .1 .0, (k .pre .1 .1 .0, c .before .before .loop-test .taken)))
-
-add-r : tie.Need-add-r Inv-loop μ-loop
-add-r c = omega arith
+obliged-rows-requires c κs =
+    let h = c .before .before .before .before .before .pre in
+    (h .0, (h .1 .0, (h .1 .1 .0, row-taken (c .before))))
 
 loop-less : tie.Need-loop-less Inv-loop μ-loop
-loop-less c = omega arith
+loop-less c =
+    let a = c .before .before .before .before .before .before .args in
+    let l = c .before .before .before .before .loop in
+    let h = c .before .before .next-row in
+    let o = c .before .one-row in
+    less-left (a .n) (a .set) (l .done) (l .inv .0) (h .result) (h .ensures) (o .result) (o .ensures)
 
 loop-again : tie.Need-loop-again Inv-loop μ-loop
 loop-again c =
-    let k = c .before .before .before .before .before in
+    let k = c .before .before .before .before .before .before in
     let a = k .args in
     let P = decode-property (a .property .now) in
-    let l = c .before .before .before .loop in
-    let h = c .before .has-row in
-    let named = names-rows (k .args .property .now) (k .pre .0) (k .args .n) (k .pre .1 .0) (l .r) (c .before .before .loop-test .taken) in
-    ⊎-elim
-    (λ u. (
-      omega arith,
-      subst (λ (s : ℕ). s < 2 ^ a .n) (sym (u .2)) (or-lt (a .n) (l .rows) (u .1 .result) (l .inv .1) (subst (λ (s : ℕ). s < 2 ^ a .n) (sym (u .1 .ensures)) (obliged-lt (a .n) (row P (l .r)) (a .label) named))),
-      λ b. ap (λ (s : ℕ). member s b) (u .2) ∙ asked-with P (a .set) (a .label) (l .r) (l .rows) (u .1 .result) (l .inv .2) (u .1 .ensures) (sym (h .ensures) ∙ u .0 .taken) b,
-    ))
-    (λ u. (
-      omega arith,
-      subst (λ (s : ℕ). s < 2 ^ a .n) (sym (u .1)) (l .inv .1),
-      λ b. ap (λ (s : ℕ). member s b) (u .1) ∙ asked-without P (a .set) (a .label) (l .r) (l .rows) (l .inv .2) (sym (h .ensures) ∙ u .0 .left) b,
-    ))
-    (c .if1 .came)
+    let l = c .before .before .before .before .loop in
+    let h = c .before .before .next-row in
+    let o = c .before .one-row in
+    let e = rows-are (a .property .now) (k .pre .0) (a .n) (k .pre .1 .0) in
+    let row : h .result < length P = omega (arith, row-taken (c .before .before), e) in
+    let named = file-named (a .property .now) (k .pre .0) .names-rows (h .result) row in
+    let b = c .obliged-rows in (
+      partly-with (a .n) (a .set) (l .done) (l .inv .0) (h .result) (h .ensures) (o .result) (o .ensures),
+      asked-with P (a .label) (l .done) (h .result) (l .rows) (b .result) (o .result) row named (l .inv .1) (b .ensures) (o .ensures),
+    )
 
 returns : tie.Need-returns Inv-loop μ-loop
 returns c =
-    let k = c .before .before .before in
-    let a = k .args in
-    let P = decode-property (a .property .now) in
+    let a = c .before .before .before .args in
     let l = c .before .loop in
-    let e : l .r ≡ a .n = omega arith in
-    asked-all P (a .set) (a .label) (a .n) (l .rows) (sym (rows-are (k .args .property .now) (k .pre .0) (k .args .n) (k .pre .1 .0))) (k .pre .1 .1 .1) (l .inv .1) (λ b. l .inv .2 b ∙ ap (λ (r : ℕ). asked-below P (a .set) (a .label) r b) e)
+    l .inv .1 ∙ ap (λ (d : ℕ). asked-of (decode-property (a .property .now)) d (a .label)) (sym (all-worked (a .set) (l .done) (c .loop-test .left)))
 
 pub asked-spec : {M : Type 1} → statement M
 asked-spec =
@@ -72,9 +83,9 @@ asked-spec =
     Inv-loop
     μ-loop
     loop-holds
-    has-row-requires
+    next-row-requires
+    one-row-requires
     obliged-rows-requires
-    add-r
     loop-less
     loop-again
     returns)

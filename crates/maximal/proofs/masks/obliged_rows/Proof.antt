@@ -1,9 +1,10 @@
+-- The row is read as it stands in the file, and obliges to what it looks at where it looks along the label, and otherwise to nothing.
 use mathlib.Core.Path.{_∙_}
 use mathlib.Core.Bool.{true, false}
 use native.Mathlib.Omega.{arith}
 use Rattle.files.specs.Decode.{decode-property}
 use Rattle.files.specs.Property.{row}
-use Rattle.maximal.proofs.RowLaws.{obliged-rows-read, unboxed-read, looked-below}
+use Rattle.maximal.proofs.RowLaws.{obliged-rows-read, looked-below}
 use borrow.Author.Needs.{needs}
 use Rattle.maximal.proofs.masks.obliged_rows.Statement.{statement}
 use Rattle.maximal.proofs.masks.obliged_rows.Tie as tie
@@ -20,12 +21,6 @@ enum-told c = search needs
 returns : tie.Need-returns
 returns c = search needs
 
-returns-2 : tie.Need-returns-2
-returns-2 c =
-    let y = c .before .before .before in
-    let k = y .before .before .before .before in
-    unboxed-read (y .before .before .row-at .result) _ (row (decode-property (k .args .property .now)) (k .args .r)) (y .x .given .1) (y .before .before .row-at .ensures) (k .args .label) (c .if1 .taken)
-
 obliged-requires : tie.Need-obliged-requires
 obliged-requires c κs = search needs
 
@@ -34,21 +29,32 @@ cast-one-row c = search needs
 
 one-row-requires : tie.Need-one-row-requires
 one-row-requires c κs =
-    let y = c .before .before .before .before .before .before in
+    let y = c .before .before .before .before in
     let k = y .before .before .before .before in
-    omega (arith, looked-below (k .args .property .now) (k .pre .0) (k .args .n) (k .pre .1 .0) (k .args .r) (k .pre .1 .1 .1) (y .before .before .row-at .result) _ (y .x .given .1) (y .before .before .row-at .ensures) (k .args .label) (c .before .before .obliged .result) (c .before .before .obliged .ensures) (c .before .if2 .taken))
+    let a = k .args in
+    let f = y .before .before .row-at in
+    let on = c .before .before .obliged in
+    let below = looked-below (a .property .now) (k .pre .0) (a .n) (k .pre .1 .0) (a .r) (k .pre .1 .1 .1) in
+    omega (arith, below (f .result) _ (y .x .given .1) (f .ensures) (a .label) (on .result) (on .ensures) (c .before .if1 .taken))
+
+returns-2 : tie.Need-returns-2
+returns-2 c =
+    let y = c .before .before .before .before .before in
+    let a = y .before .before .before .before .args in
+    let f = y .before .before .row-at in
+    let on = c .before .before .before .obliged in
+    let v = row (decode-property (a .property .now)) (a .r) in
+    let along = c .before .before .if1 .taken in
+    c .one-row .ensures ∙ obliged-rows-read (f .result) _ v (y .x .given .1) (f .ensures) (a .label) (on .result) (on .ensures) true along
 
 returns-3 : tie.Need-returns-3
 returns-3 c =
-    let y = c .before .before .before .before .before .before .before in
-    let k = y .before .before .before .before in
-    c .one-row .ensures ∙ obliged-rows-read (y .before .before .row-at .result) _ (row (decode-property (k .args .property .now)) (k .args .r)) (y .x .given .1) (y .before .before .row-at .ensures) (k .args .label) (c .before .before .before .obliged .result) (c .before .before .before .obliged .ensures) true (c .before .before .if2 .taken)
-
-returns-4 : tie.Need-returns-4
-returns-4 c =
-    let y = c .before .before .before .before .before in
-    let k = y .before .before .before .before in
-    obliged-rows-read (y .before .before .row-at .result) _ (row (decode-property (k .args .property .now)) (k .args .r)) (y .x .given .1) (y .before .before .row-at .ensures) (k .args .label) (c .before .obliged .result) (c .before .obliged .ensures) false (c .if2 .left)
+    let y = c .before .before .before in
+    let a = y .before .before .before .before .args in
+    let f = y .before .before .row-at in
+    let on = c .before .obliged in
+    let v = row (decode-property (a .property .now)) (a .r) in
+    obliged-rows-read (f .result) _ v (y .x .given .1) (f .ensures) (a .label) (on .result) (on .ensures) false (c .if1 .left)
 
 pub obliged-rows-spec : {M : Type 1} → statement M
 obliged-rows-spec =
@@ -58,9 +64,8 @@ obliged-rows-spec =
     enum-known-x
     enum-told
     returns
-    returns-2
     obliged-requires
     cast-one-row
     one-row-requires
-    returns-3
-    returns-4)
+    returns-2
+    returns-3)
