@@ -18,6 +18,7 @@ use Rattle.files.specs.Decode.{graph-bytes}
 pub mod Calls
 pub mod Laws
 pub mod Ends
+pub mod Order
 pub mod Meaning
 
 -- "A refusal carries number, file position from 1 and first offending record from 0."
