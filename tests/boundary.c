@@ -66,14 +66,16 @@ static int wrong_answers(const struct example *e, size_t work_length)
         + !answers(e, e->result_length, work_length - 1, 0, 13);
 }
 
-/* Example P6. */
+/* Example P6, and the same with the box over every label. */
 static int wrong_judging(void)
 {
     static const uint8_t graph[] = {1, 1, 0, 1, 0, 0, 1, 1, 1, 0, 0, 0, 2, 0, 1, 1, 0, 0};
     static const uint8_t property[] = {3, 9, 1, 1, 0, 0, 3, 6, 0, 0, 0, 0};
+    static const uint8_t any_label[] = {3, 10, 1, 0, 0, 0, 3, 6, 0, 0, 0, 0};
     static const uint8_t sheet[] = {0, 0, 1, 1, 0, 255, 1, 1, 0, 255, 0, 255};
     static const struct example p6 = {tintboulder_judge, graph, property, sheet, sizeof graph, sizeof property, sizeof sheet, 2, {2, 0}};
-    return wrong_answers(&p6, 41664) + (tintboulder_work(1) != 41664);
+    static const struct example any = {tintboulder_judge, graph, any_label, sheet, sizeof graph, sizeof any_label, sizeof sheet, 2, {2, 0}};
+    return wrong_answers(&p6, 41664) + wrong_answers(&any, 41664) + (tintboulder_work(1) != 41664);
 }
 
 /* Example P9 behind a node that has nothing to match: the entry is node 1. */

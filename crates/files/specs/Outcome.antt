@@ -17,7 +17,8 @@ use Rattle.files.specs.Table.{Applies}
 use Rattle.files.specs.Decode.{graph-bytes}
 pub mod Calls
 pub mod Laws
-pub mod Steps
+pub mod Ends
+pub mod Order
 pub mod Meaning
 
 -- "A refusal carries number, file position from 1 and first offending record from 0."
@@ -75,6 +76,12 @@ pub record Answers (o : Outcome) (out out′ : List ℕ) (a : Answer) : Type 0 w
 
 pub record Does (o : Outcome) (out work out′ work′ : List ℕ) (a : Answer) : Type 0 where
   pub answers : Answers o out out′ a
+  pub work-is : work′ ≡ work-after o work
+
+-- the same of a call that borrows two work buffers
+pub record DoesBoth (o : Outcome) (out store work out′ store′ work′ : List ℕ) (a : Answer) : Type 0 where
+  pub answers : Answers o out out′ a
+  pub store-is : store′ ≡ work-after o store
   pub work-is : work′ ≡ work-after o work
 
 -- ---- the order of refusals, computed
@@ -153,22 +160,39 @@ Matches (c ∷ cs) (line k g A ls) = (c .number ≡ k) × ((c .file ≡ g) × (F
 -- ---- the published order
 
 -- "Order: 13; then each file in argument order, its lowest number among 1..8; then the start method's 3; then 9 to 12. .. Within 9, graphs come in argument
--- order before a shared method." Where a number of a file stands in it: lists compare by the first place at which they differ. (Showing's own 7, of no file,
--- stands where the start method's 3 does.)
-abbrev pub place : ℕ → ℕ → List ℕ
-place n f =
-    cond (eqb n 13) (0 ∷ 0 ∷ 0 ∷ [])
-    (cond (leb n 8) (cond (eqb f 0) (2 ∷ n ∷ 0 ∷ []) (1 ∷ f ∷ n ∷ [])) (3 ∷ n ∷ cond (eqb f 0) 9 f ∷ []))
+-- order before a shared method." A new number is a new entry. (Showing's own 7, of no file, stands where the start method's 3 does.)
+pub data Entry : Type 0 where
+  of-call : ℕ → Entry
+  of-each-file : List ℕ → Entry
+  of-graphs-first : ℕ → Entry
 
--- each line stands before the next
-abbrev pub ascends-from : List ℕ → Lines → Bool
-ascends-from k no-lines = true
-ascends-from k (line n f A ls) = before k (place n f) && ascends-from (place n f) ls
+abbrev pub published-order : List Entry
+published-order =
+    of-call 13 ∷ of-each-file (1 ∷ 2 ∷ 3 ∷ 4 ∷ 5 ∷ 6 ∷ 7 ∷ 8 ∷ []) ∷ of-call 3 ∷ of-call 7 ∷ of-graphs-first 9 ∷ of-call 10 ∷ of-call 11 ∷ of-call 12 ∷ []
+
+-- where n stands among numbers, or their count
+abbrev pub index-of : ℕ → List ℕ → ℕ
+index-of n [] = 0
+index-of n (m ∷ ms) = cond (eqb n m) 0 (suc (index-of n ms))
+
+-- Where number n of file f stands in an order whose first entry has place k: lists compare by the first place at which they differ. Nowhere, if it has no entry.
+abbrev pub place-in : ℕ → List Entry → ℕ → ℕ → List ℕ
+place-in k [] n f = []
+place-in k (of-call m ∷ es) n f = cond (eqb n m && eqb f 0) (k ∷ 0 ∷ 0 ∷ []) (place-in (suc k) es n f)
+place-in k (of-each-file ms ∷ es) n f = cond (not (eqb f 0) && ltb (index-of n ms) (length ms)) (k ∷ f ∷ index-of n ms ∷ []) (place-in (suc k) es n f)
+place-in k (of-graphs-first m ∷ es) n f = cond (eqb n m) (k ∷ cond (eqb f 0) 1 0 ∷ f ∷ []) (place-in (suc k) es n f)
+
+-- each line has a place, and stands before the next
+abbrev pub ascends-from : List Entry → List ℕ → Lines → Bool
+ascends-from es k no-lines = true
+ascends-from es k (line n f A ls) = before k (place-in 1 es n f) && ascends-from es (place-in 1 es n f) ls
+
+abbrev pub published-by : List Entry → Lines → Bool
+published-by es ls = ascends-from es (0 ∷ []) ls
 
 -- the lines of a call stand in the published order
 abbrev pub published : Lines → Bool
-published no-lines = true
-published (line n f A ls) = ascends-from (place n f) ls
+published ls = published-by published-order ls
 
 -- ---- numbers that several calls share
 

@@ -56,27 +56,27 @@ module _ (s : Shape) (g p : List ℕ) (ready : Ready s g p) where
   abbrev P : List Row
   P = decode-property p
 
-  pub pairs-fit : s .nodes * s .rows ≤ 8192
-  pairs-fit = omega (arith, mul-le-mul (ready .few-nodes) (ready .few-rows))
+  pub pairs-fit : s .graph .nodes * s .rows ≤ 8192
+  pairs-fit = omega (arith, mul-le-mul (ready .held .few-nodes) (ready .few-rows))
 
-  as-node : (v : ℕ) → v < s .nodes → v < size G
+  as-node : (v : ℕ) → v < s .graph .nodes → v < size G
   as-node v h = omega (arith, size-is s g p ready)
 
   as-row : (r : ℕ) → r < s .rows → r < length P
   as-row r h = omega (arith, rows-is s g p ready)
 
   module _ (w : List ℕ) (found : Ranked G P w) where
-    module _ (v r x : ℕ) (hv : v < s .nodes) (hr : r < s .rows) (is : x ≡ rank-at w v r) where
-      pub rank-past : x ≡ 0 → s .nodes * s .rows + 1 ≡ rank G P v r
+    module _ (v r x : ℕ) (hv : v < s .graph .nodes) (hr : r < s .rows) (is : x ≡ rank-at w v r) where
+      pub rank-past : x ≡ 0 → s .graph .nodes * s .rows + 1 ≡ rank G P v r
       rank-past e =
           let a = rank-zero G P (is-flow s g p ready) (is-property s g p ready) w found v r (as-node v hv) (as-row r hr) (sym is ∙ e) in
-          let b : size G * length P ≡ s .nodes * s .rows = ap₂ _*_ (size-is s g p ready) (rows-is s g p ready) in
+          let b : size G * length P ≡ s .graph .nodes * s .rows = ap₂ _*_ (size-is s g p ready) (rows-is s g p ready) in
           omega (arith, a, b)
 
       pub rank-read : (x ≡ 0 → ⊥) → x ≡ rank G P v r
       rank-read f = is ∙ rank-found G P (is-flow s g p ready) (is-property s g p ready) w found v r (as-node v hv) (as-row r hr) (λ e. f (is ∙ e))
 
-    pub root-holds : (v x : ℕ) → v < s .nodes → x ≡ cell w 0 2 (32 * v) → eqb x 0 ≡ holds G P v 0
+    pub root-holds : (v x : ℕ) → v < s .graph .nodes → x ≡ cell w 0 2 (32 * v) → eqb x 0 ≡ holds G P v 0
     root-holds v x h is =
         let e : 32 * v ≡ 32 * v + 0 = omega arith in
         ap (λ (n : ℕ). eqb n 0) (is ∙ ap (cell w 0 2) e)
@@ -88,7 +88,7 @@ module _ (s : Shape) (g p : List ℕ) (ready : Ready s g p) where
   Firsts w v = (u : ℕ) → u < v → cell w 33792 2 u ≡ first-edge G u
 
   pub few-first : (v : ℕ) → first-edge G v ≤ 4096
-  few-first v = omega (arith, first-edge-le G v, edges-is s g p ready, ready .few-edges)
+  few-first v = omega (arith, first-edge-le G v, edges-is s g p ready, ready .held .few-edges)
 
   module _ (w w′ : List ℕ) (v first : ℕ) (put : w′ ≡ put-cell w 33792 2 v first) where
     pub firsts-on : 41664 ≤ length w → v ≤ 256 → first ≡ first-edge G v → Firsts w v → Firsts w′ (v + 1)
@@ -102,10 +102,10 @@ module _ (s : Shape) (g p : List ℕ) (ready : Ready s g p) where
 
   -- ---- the edges of a node
 
-  filed : Filed (ready .graph-file .limits) G
-  filed = decoded-filed (ready .graph-file .limits) g (ready .graph-file .accepted)
+  filed : Filed (ready .held .views .graph-file .limits) G
+  filed = decoded-filed (ready .held .views .graph-file .limits) g (ready .held .views .graph-file .accepted)
 
-  pub to-node : (j : ℕ) (u : GraphEdge) → j < s .edges → u ≡ edge-held (getD (G .edges) j no-edge) → u .to < s .nodes
+  pub to-node : (j : ℕ) (u : GraphEdge) → j < s .graph .edges → u ≡ edge-held (getD (G .edges) j no-edge) → u .to < s .graph .nodes
   to-node j u h e =
       let t : (getD (G .edges) j no-edge) .to < size G = (is-flow s g p ready) .to-node (getD (G .edges) j no-edge) (index-e no-edge (G .edges) j (omega (arith, edges-is s g p ready))) in
       let q : u .to ≡ (getD (G .edges) j no-edge) .to = ap (λ (x : GraphEdge). x .to) e in
@@ -116,61 +116,61 @@ module _ (s : Shape) (g p : List ℕ) (ready : Ready s g p) where
     next-is = ap (first-edge G) (add-one v)
 
     pub edges-start : first-edge G v ≤ first-edge G (v + 1)
-    edges-start = scan-starts g (ready .graph-file) v
+    edges-start = scan-starts g (ready .held .views .graph-file) v
 
-    pub edge-there : (j : ℕ) → j < first-edge G (v + 1) → j < s .edges
+    pub edge-there : (j : ℕ) → j < first-edge G (v + 1) → j < s .graph .edges
     edge-there j h = omega (arith, first-edge-le G (v + 1), edges-is s g p ready)
 
-    pub best-start : s .nodes ≡ first-or (best-target G P v l b (first-edge G v)) (s .nodes)
+    pub best-start : s .graph .nodes ≡ first-or (best-target G P v l b (first-edge G v)) (s .graph .nodes)
     best-start =
-        ap (λ (o : Option ℕ). first-or o (s .nodes))
-        (sym (best-none G P v l b (first-edge G v) (λ i h e. absurd (omega (arith, h, (leaves-in (ready .graph-file .limits) G filed v i (omega (arith, first-edge-le G v)) e) .0)))))
+        ap (λ (o : Option ℕ). first-or o (s .graph .nodes))
+        (sym (best-none G P v l b (first-edge G v) (λ i h e. absurd (omega (arith, h, (leaves-in (ready .held .views .graph-file .limits) G filed v i (omega (arith, first-edge-le G v)) e) .0)))))
 
-    is-within : (j : ℕ) → j ≤ s .edges → T (within (s .nodes) (best-target G P v l b j))
+    is-within : (j : ℕ) → j ≤ s .graph .edges → T (within (s .graph .nodes) (best-target G P v l b j))
     is-within j h =
         subst (λ (n : ℕ). T (within n (best-target G P v l b j))) (size-is s g p ready)
         (best-within G P v l b (is-flow s g p ready) j (omega (arith, edges-is s g p ready)))
 
-    module _ (j best : ℕ) (is : best ≡ first-or (best-target G P v l b j) (s .nodes)) where
-      pub best-le : j ≤ first-edge G (v + 1) → best ≤ s .nodes
+    module _ (j best : ℕ) (is : best ≡ first-or (best-target G P v l b j) (s .graph .nodes)) where
+      pub best-le : j ≤ first-edge G (v + 1) → best ≤ s .graph .nodes
       best-le h = omega (arith, is, go (best-target G P v l b j) (is-within j (omega (arith, first-edge-le G (v + 1), edges-is s g p ready))))
         where
-          go : (o : Option ℕ) → T (within (s .nodes) o) → first-or o (s .nodes) ≤ s .nodes
+          go : (o : Option ℕ) → T (within (s .graph .nodes) o) → first-or o (s .graph .nodes) ≤ s .graph .nodes
           go none t = omega arith
-          go (some x) t = omega (arith, ltb→lt x (s .nodes) t)
+          go (some x) t = omega (arith, ltb→lt x (s .graph .nodes) t)
 
-      pub best-turn : (r : ℕ) → first-edge G v ≤ j → j < first-edge G (v + 1) → r ≡ better G P l b (s .nodes) best j → r ≡ first-or (best-target G P v l b (j + 1)) (s .nodes)
+      pub best-turn : (r : ℕ) → first-edge G v ≤ j → j < first-edge G (v + 1) → r ≡ better G P l b (s .graph .nodes) best j → r ≡ first-or (best-target G P v l b (j + 1)) (s .graph .nodes)
       best-turn r h k e =
           e
-          ∙ best-on G P v l b (s .nodes) j best
-          (in-leaves (ready .graph-file .limits) G filed v j (omega (arith, edge-there j k, edges-is s g p ready)) h (omega (arith, next-is)))
+          ∙ best-on G P v l b (s .graph .nodes) j best
+          (in-leaves (ready .held .views .graph-file .limits) G filed v j (omega (arith, edge-there j k, edges-is s g p ready)) h (omega (arith, next-is)))
           (is-within j (omega (arith, edge-there j k)))
           is
-          ∙ ap (λ (n : ℕ). first-or (best-target G P v l b n) (s .nodes)) (sym (add-one j))
+          ∙ ap (λ (n : ℕ). first-or (best-target G P v l b n) (s .graph .nodes)) (sym (add-one j))
 
-      pub best-end : j ≡ first-edge G (v + 1) → best ≡ first-or (best-target G P v l b (s .edges)) (s .nodes)
+      pub best-end : j ≡ first-edge G (v + 1) → best ≡ first-or (best-target G P v l b (s .graph .edges)) (s .graph .nodes)
       best-end e =
           is
-          ∙ ap (λ (o : Option ℕ). first-or o (s .nodes))
-          (sym (best-still G P v l b (s .edges) j (omega (arith, e, first-edge-le G (v + 1), edges-is s g p ready))
-          (λ i a c d. absurd (omega (arith, a, e, next-is, (leaves-in (ready .graph-file .limits) G filed v i (omega (arith, c, edges-is s g p ready)) d) .1)))))
+          ∙ ap (λ (o : Option ℕ). first-or o (s .graph .nodes))
+          (sym (best-still G P v l b (s .graph .edges) j (omega (arith, e, first-edge-le G (v + 1), edges-is s g p ready))
+          (λ i a c d. absurd (omega (arith, a, e, next-is, (leaves-in (ready .held .views .graph-file .limits) G filed v i (omega (arith, c, edges-is s g p ready)) d) .1)))))
 
     -- ---- the cause of a box
 
-    module _ (t : ℕ) (is : t ≡ first-or (best-target G P v l b (s .edges)) (s .nodes)) where
-      pub box-found : t < s .nodes → record { node = t; row = b } ≡ cause-held (getD (as-causes b (best-target G P v l b (s .edges))) 0 no-cause)
-      box-found h = go (best-target G P v l b (s .edges)) is
+    module _ (t : ℕ) (is : t ≡ first-or (best-target G P v l b (s .graph .edges)) (s .graph .nodes)) where
+      pub box-found : t < s .graph .nodes → record { node = t; row = b } ≡ cause-held (getD (as-causes b (best-target G P v l b (s .graph .edges))) 0 no-cause)
+      box-found h = go (best-target G P v l b (s .graph .edges)) is
         where
-          go : (o : Option ℕ) → t ≡ first-or o (s .nodes) → record { node = t; row = b } ≡ cause-held (getD (as-causes b o) 0 no-cause)
+          go : (o : Option ℕ) → t ≡ first-or o (s .graph .nodes) → record { node = t; row = b } ≡ cause-held (getD (as-causes b o) 0 no-cause)
           go none e = absurd (omega arith)
           go (some x) e = ap (λ (n : ℕ). record { node = n; row = b }) e
 
-      pub box-not-found : s .nodes ≤ t → record { node = 0; row = 255 } ≡ cause-held (getD (as-causes b (best-target G P v l b (s .edges))) 0 no-cause)
-      box-not-found h = go (best-target G P v l b (s .edges)) is (is-within (s .edges) (omega arith))
+      pub box-not-found : s .graph .nodes ≤ t → record { node = 0; row = 255 } ≡ cause-held (getD (as-causes b (best-target G P v l b (s .graph .edges))) 0 no-cause)
+      box-not-found h = go (best-target G P v l b (s .graph .edges)) is (is-within (s .graph .edges) (omega arith))
         where
-          go : (o : Option ℕ) → t ≡ first-or o (s .nodes) → T (within (s .nodes) o) → record { node = 0; row = 255 } ≡ cause-held (getD (as-causes b o) 0 no-cause)
+          go : (o : Option ℕ) → t ≡ first-or o (s .graph .nodes) → T (within (s .graph .nodes) o) → record { node = 0; row = 255 } ≡ cause-held (getD (as-causes b o) 0 no-cause)
           go none e m = refl
-          go (some x) e m = absurd (omega (arith, e, ltb→lt x (s .nodes) m))
+          go (some x) e m = absurd (omega (arith, e, ltb→lt x (s .graph .nodes) m))
 
 -- ---- comparing
 
@@ -248,7 +248,7 @@ module _ (s : Shape) (g p : List ℕ) (ready : Ready s g p) (v r : ℕ) (hr : r 
   either-causes e = as-listed ((v, u .a) ∷ (v, u .b) ∷ []) (causes-either (decode-graph g) (decode-property p) v r (u .a) (u .b) (either-read e))
 
   pub box-causes-of : (c : Cause) → is-box (u .operator) ≡ true
-      → c ≡ cause-held (getD (as-causes (box-row (u .operator) (u .a) (u .b)) (best-target (decode-graph g) (decode-property p) v (aims (u .operator) (u .a)) (box-row (u .operator) (u .a) (u .b)) (s .edges))) 0 no-cause)
+      → c ≡ cause-held (getD (as-causes (box-row (u .operator) (u .a) (u .b)) (best-target (decode-graph g) (decode-property p) v (aims (u .operator) (u .a)) (box-row (u .operator) (u .a) (u .b)) (s .graph .edges))) 0 no-cause)
       → Answers c (cause-held no-cause)
   box-causes-of c e q =
       let b = box-row (u .operator) (u .a) (u .b) in

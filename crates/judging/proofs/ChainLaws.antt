@@ -158,7 +158,7 @@ module _ (s : Shape) (g p : List ℕ) (ready : Ready s g p) where
   module _ (w ys : List ℕ) (room : 41664 ≤ length w) where
     pub edges-none : ys ≡ replicate (length (midOf 32768 512 w)) 0 → Chained (putMid 32768 512 w ys) 32768 33280 (into (decode-graph g)) (size (decode-graph g)) 0
     edges-none z = chained-none (putMid 32768 512 w ys) 32768 33280 (into (decode-graph g)) (size (decode-graph g))
-        (λ q a b. cleared-inside 32768 512 w ys z (omega arith) q a (omega (arith, size-is s g p ready, ready .few-nodes)))
+        (λ q a b. cleared-inside 32768 512 w ys z (omega arith) q a (omega (arith, size-is s g p ready, ready .held .few-nodes)))
 
     pub places-none : ys ≡ replicate (length (midOf 41472 64 w)) 0 → Chained (putMid 41472 64 w ys) 41472 41536 (uses (decode-property p)) (s .rows) 0
     places-none z = chained-none (putMid 41472 64 w ys) 41472 41536 (uses (decode-property p)) (s .rows)
@@ -171,6 +171,6 @@ module _ (s : Shape) (g p : List ℕ) (ready : Ready s g p) where
   pub indexed : (w w′ : List ℕ) → Chained w 32768 33280 (into (decode-graph g)) (size (decode-graph g)) (length ((decode-graph g) .edges)) → Outside 41472 41664 w w′
       → Chained w′ 41472 41536 (uses (decode-property p)) (s .rows) (2 * s .rows) → Index (decode-graph g) (decode-property p) w′
   indexed w w′ c o d = record {
-    by-node = chained-kept w w′ 32768 33280 (into (decode-graph g)) (size (decode-graph g)) (length ((decode-graph g) .edges)) 41472 41664 (omega (arith, size-is s g p ready, ready .few-nodes)) (omega (arith, edges-is s g p ready, ready .few-edges)) o c;
+    by-node = chained-kept w w′ 32768 33280 (into (decode-graph g)) (size (decode-graph g)) (length ((decode-graph g) .edges)) 41472 41664 (omega (arith, size-is s g p ready, ready .held .few-nodes)) (omega (arith, edges-is s g p ready, ready .held .few-edges)) o c;
     by-row = subst (λ (n : ℕ). Chained w′ 41472 41536 (uses (decode-property p)) n (2 * n)) (sym (rows-is s g p ready)) d;
   }

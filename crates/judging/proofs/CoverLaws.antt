@@ -28,10 +28,10 @@ module _ (s : Sizes) (f g : List ℕ) (both : Both s f g) where
 
   -- ---- the lowest uncovered entry
 
-  pub lowest-at : (v : ℕ) → v < s .nodes → ((u : ℕ) → u < v → T (not (misses G H u))) → (t : Bool) → t ≡ misses G H v → t ≡ true → v ≡ uncovered G H
+  pub lowest-at : (v : ℕ) → v < s .first .nodes → ((u : ℕ) → u < v → T (not (misses G H u))) → (t : Bool) → t ≡ misses G H v → t ≡ true → v ≡ uncovered G H
   lowest-at v h n t e d = sym (uncovered-at G H v (omega (arith, h, first-size s f g both)) n (subst T (sym (sym e ∙ d)) tt))
 
-  pub lowest-none : (v : ℕ) → v ≤ s .nodes → s .nodes ≤ v → ((u : ℕ) → u < v → T (not (misses G H u))) → v ≡ uncovered G H
+  pub lowest-none : (v : ℕ) → v ≤ s .first .nodes → s .first .nodes ≤ v → ((u : ℕ) → u < v → T (not (misses G H u))) → v ≡ uncovered G H
   lowest-none v a b n =
       let e : v ≡ size G = omega (arith, a, b, first-size s f g both) in
       e ∙ sym (uncovered-none G H (λ u h. n u (omega (arith, h, e))))
@@ -42,24 +42,24 @@ module _ (s : Sizes) (f g : List ℕ) (both : Both s f g) where
     abbrev entry : ℕ → Bool
     entry h = (node H h) .entry
 
-    pub covered-by : (c : List ℕ) → Chosen entry (s .nodes2) c → (v : ℕ) → v < s .nodes → (t : Bool)
+    pub covered-by : (c : List ℕ) → Chosen entry (s .second .nodes) c → (v : ℕ) → v < s .first .nodes → (t : Bool)
         → (T t → (h : ℕ) × (h < 256) × T (has-bit c 0 h) × T (has-bit w (32 * v) h)) → (T (not t) → (h : ℕ) → h < 256 → T (has-bit c 0 h) → T (has-bit w (32 * v) h) → ⊥) → t ≡ covered G H v
     covered-by c chosen v is-node true some no-other =
         let a = some tt in
-        let is : T (entry (a .0) && ltb (a .0) (s .nodes2)) = subst T (chosen (a .0) (a .1)) (a .2) in
-        let below : a .0 < s .nodes2 = ltb→lt (a .0) (s .nodes2) (and-r (entry (a .0)) (ltb (a .0) (s .nodes2)) is) in
+        let is : T (entry (a .0) && ltb (a .0) (s .second .nodes)) = subst T (chosen (a .0) (a .1)) (a .2) in
+        let below : a .0 < s .second .nodes = ltb→lt (a .0) (s .second .nodes) (and-r (entry (a .0)) (ltb (a .0) (s .second .nodes)) is) in
         let kept : T (related G H v (a .0)) = subst T (settled-e G H w found v (a .0) (omega (arith, is-node, first-size s f g both)) (a .1)) (a .3) in
-        sym (covered-at G H v (a .0) (omega (arith, below, second-size s f g both)) (and-i (entry (a .0)) (related G H v (a .0)) (and-l (entry (a .0)) (ltb (a .0) (s .nodes2)) is) kept))
+        sym (covered-at G H v (a .0) (omega (arith, below, second-size s f g both)) (and-i (entry (a .0)) (related G H v (a .0)) (and-l (entry (a .0)) (ltb (a .0) (s .second .nodes)) is) kept))
     covered-by c chosen v is-node false some no-other = sym (covered-none G H v (λ h l. not-T (meets G H v h) (λ m.
-        let below : h < s .nodes2 = omega (arith, l, second-size s f g both) in
-        let few : h < 256 = omega (arith, below, both .few-second-nodes) in
+        let below : h < s .second .nodes = omega (arith, l, second-size s f g both) in
+        let few : h < 256 = omega (arith, below, both .second-held .few-nodes) in
         no-other tt h few
-        (subst T (sym (chosen h few)) (and-i (entry h) (ltb h (s .nodes2)) (and-l (entry h) (related G H v h) m) (lt→ltb h (s .nodes2) below)))
+        (subst T (sym (chosen h few)) (and-i (entry h) (ltb h (s .second .nodes)) (and-l (entry h) (related G H v h) m) (lt→ltb h (s .second .nodes) below)))
         (subst T (sym (settled-e G H w found v h (omega (arith, is-node, first-size s f g both)) few)) (and-r (entry h) (related G H v h) m)))))
 
     -- ---- the relation's lines
 
-    pub line-on : (out₀ out out′ : List ℕ) (v : ℕ) → v < s .nodes → out ≡ put-at out₀ 0 (lines-of G H v) → out′ ≡ put-at out (32 * v) (relation-line (has-bit w (32 * v)))
+    pub line-on : (out₀ out out′ : List ℕ) (v : ℕ) → v < s .first .nodes → out ≡ put-at out₀ 0 (lines-of G H v) → out′ ≡ put-at out (32 * v) (relation-line (has-bit w (32 * v)))
         → out′ ≡ put-at out₀ 0 (lines-of G H (v + 1))
     line-on out₀ out out′ v h e d =
         d
@@ -67,6 +67,6 @@ module _ (s : Sizes) (f g : List ℕ) (both : Both s f g) where
         ∙ lines-more G H w out₀ v found (omega (arith, h, first-size s f g both))
         ∙ ap (λ (k : ℕ). put-at out₀ 0 (lines-of G H k)) (sym (add-one v))
 
-    pub line-end : (out₀ out : List ℕ) (v : ℕ) → v ≤ s .nodes → s .nodes ≤ v → out ≡ put-at out₀ 0 (lines-of G H v)
+    pub line-end : (out₀ out : List ℕ) (v : ℕ) → v ≤ s .first .nodes → s .first .nodes ≤ v → out ≡ put-at out₀ 0 (lines-of G H v)
         → out ≡ relation-bytes G H ++ drop (length (relation-bytes G H)) out₀
     line-end out₀ out v a b e = e ∙ lines-all G H out₀ v (omega (arith, a, b, first-size s f g both))

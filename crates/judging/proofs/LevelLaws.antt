@@ -99,28 +99,28 @@ module _ (s : Shape) (g p : List ℕ) (ready : Ready s g p) where
   abbrev P : List Row
   P = decode-property p
 
-  pub node-in : (v : ℕ) → v < s .nodes → v < size G
+  pub node-in : (v : ℕ) → v < s .graph .nodes → v < size G
   node-in v h = omega (arith, size-is s g p ready)
 
   pub row-in : (r : ℕ) → r < s .rows → r < length P
   row-in r h = omega (arith, rows-is s g p ready)
 
-  pub node-of : (v : ℕ) → v < size G → v < s .nodes
+  pub node-of : (v : ℕ) → v < size G → v < s .graph .nodes
   node-of v h = omega (arith, size-is s g p ready)
 
   pub row-of : (r : ℕ) → r < length P → r < s .rows
   row-of r h = omega (arith, rows-is s g p ready)
 
-  pub from-in : (e : ℕ) → e < s .edges → (getD (G .edges) e no-edge) .from < s .nodes
+  pub from-in : (e : ℕ) → e < s .graph .edges → (getD (G .edges) e no-edge) .from < s .graph .nodes
   from-in e h =
       node-of ((getD (G .edges) e no-edge) .from)
       ((is-flow s g p ready) .from-node (getD (G .edges) e no-edge) (index-e no-edge (G .edges) e (omega (arith, edges-is s g p ready))))
 
   -- ---- a rank given
 
-  module _ (k tail : ℕ) (w : List ℕ) (f : Finding G P k tail w) (v r : ℕ) (hv : v < s .nodes) (hr : r < s .rows) where
+  module _ (k tail : ℕ) (w : List ℕ) (f : Finding G P k tail w) (v r : ℕ) (hv : v < s .graph .nodes) (hr : r < s .rows) where
     pair-fits : pair v r < 8192
-    pair-fits = omega (arith, ready .few-nodes, ready .few-rows)
+    pair-fits = omega (arith, ready .held .few-nodes, ready .few-rows)
 
     module _ (turns : T (not (level G P (suc k) v r))) where
       pub may-give : (pair v r < 8192) × ((rank-at w v r ≡ 0 → tail < 8192) × ((41664 ≤ length w) × (k ≤ 8192)))
@@ -140,7 +140,7 @@ module _ (s : Shape) (g p : List ℕ) (ready : Ready s g p) where
 
   -- ---- a row that names the row of a popped pair
 
-  module _ (k tail : ℕ) (w : List ℕ) (f : Finding G P k tail w) (v r q : ℕ) (hv : v < s .nodes) (hq : q < s .rows) (falls : T (not (level G P k v r))) (names : Names (row P q) r)
+  module _ (k tail : ℕ) (w : List ℕ) (f : Finding G P k tail w) (v r q : ℕ) (hv : v < s .graph .nodes) (hq : q < s .rows) (falls : T (not (level G P k v r))) (names : Names (row P q) r)
       (u : PropertyRow) (is : u ≡ row-held (row P q)) where
     -- a box obliges to the row where the code says that it looks along the edge, and only there
     module _ (e : is-box (u .operator) ≡ true) where
@@ -171,10 +171,10 @@ module _ (s : Shape) (g p : List ℕ) (ready : Ready s g p) where
       b-is = ap (λ (y : PropertyRow). y .b) is ∙ two .is-b
 
       pub a-fits : (pair v (u .a) < 8192) × (41664 ≤ length w)
-      a-fits = (omega (arith, a-is, two .a-row, rows-fit s g p ready, ready .few-nodes), f .room)
+      a-fits = (omega (arith, a-is, two .a-row, rows-fit s g p ready, ready .held .few-nodes), f .room)
 
       pub b-fits : (pair v (u .b) < 8192) × (41664 ≤ length w)
-      b-fits = (omega (arith, b-is, two .b-row, rows-fit s g p ready, ready .few-nodes), f .room)
+      b-fits = (omega (arith, b-is, two .b-row, rows-fit s g p ready, ready .held .few-nodes), f .room)
 
       -- it has a rank where the pair is, and so is done
       pub given-done : (w′ : List ℕ) → Given w′ v q → RowDone G P k w′ v r q
@@ -247,7 +247,7 @@ module _ (s : Shape) (g p : List ℕ) (ready : Ready s g p) where
     row-held-there = omega (arith, held, f .queued i hi .is-row, rows-fit s g p ready)
 
     -- the pair that stands there may be popped
-    pub popped : (at / 32 < s .nodes) × (at % 32 < s .rows) × T (not (level G P k (at / 32) (at % 32)))
+    pub popped : (at / 32 < s .graph .nodes) × (at % 32 < s .rows) × T (not (level G P k (at / 32) (at % 32)))
     popped = (
       node-of (at / 32) (subst (λ (n : ℕ). n < size G) (sym node-held-there) (f .queued i hi .is-node)),
       row-of (at % 32) (subst (λ (n : ℕ). n < length P) (sym row-held-there) (f .queued i hi .is-row)),

@@ -149,17 +149,17 @@ module _ (s : Sizes) (f g : List ℕ) (x : Both s f g) where
 
   -- ---- a walk along the edges of a slot
 
-  module _ (k : ℕ) (hk : k < 9 * s .nodes) where
+  module _ (k : ℕ) (hk : k < 9 * s .first .nodes) where
     pub slot-start : (w : List ℕ) (at : ℕ) (D : ℕ → Type 0) → Refining G H w → at ≡ cell w 16960 2 k → Walk (labelled-into G k) (length (G .edges)) at D
     slot-start w at D r e = walk-start (labelled-into G k) (length (G .edges)) at D (e ∙ r .by-slot .heads-are k (omega (arith, hk, first-size s f g x)))
 
     pub slot-next : (w : List ℕ) (at next : ℕ) (D : ℕ → Type 0) → Refining G H w → Walk (labelled-into G k) (length (G .edges)) at D → 0 < at → next ≡ cell w 21568 2 (at - 1) → next ≡ last-where (labelled-into G k) (at - 1)
     slot-next w at next D r y l e = let i = walk-item (labelled-into G k) (length (G .edges)) at D y l in e ∙ r .by-slot .nexts-are k (at - 1) (omega (arith, hk, first-size s f g x)) (i .1) (i .0)
 
-    pub slot-item : (at : ℕ) (D : ℕ → Type 0) → Walk (labelled-into G k) (length (G .edges)) at D → 0 < at → (at - 1 < s .edges) × ((edge G (at - 1)) .from < s .nodes)
+    pub slot-item : (at : ℕ) (D : ℕ → Type 0) → Walk (labelled-into G k) (length (G .edges)) at D → 0 < at → (at - 1 < s .first .edges) × ((edge G (at - 1)) .from < s .first .nodes)
     slot-item at D y l =
         let i = walk-item (labelled-into G k) (length (G .edges)) at D y l in
-        let e : at - 1 < s .edges = omega (arith, i .1, first-edges s f g x) in
+        let e : at - 1 < s .first .edges = omega (arith, i .1, first-edges s f g x) in
         (e, (first-edge-in s f g x (at - 1) e) .0)
 
     pub slot-less : (w : List ℕ) (at next : ℕ) (D : ℕ → Type 0) → Refining G H w → Walk (labelled-into G k) (length (G .edges)) at D → 0 < at → next ≡ cell w 21568 2 (at - 1) → next < at
@@ -170,7 +170,7 @@ module _ (s : Sizes) (f g : List ℕ) (x : Both s f g) where
     Added w c e = (h : ℕ) → h < 256 → T (rel w ((edge G e) .from) h) → In c h
 
     pub source-added : (w c c′ : List ℕ) (at next u : ℕ) → Refining G H w → Walk (labelled-into G k) (length (G .edges)) at (Added w c) → 0 < at → next ≡ cell w 21568 2 (at - 1) → u ≡ (edge G (at - 1)) .from
-        → ((h : ℕ) → h < 256 → has-bit c′ 0 h ≡ (has-bit c 0 h || has-bit w (32 * u) h)) → Within (s .nodes2) c → Within (s .nodes2) c′ × Walk (labelled-into G k) (length (G .edges)) next (Added w c′)
+        → ((h : ℕ) → h < 256 → has-bit c′ 0 h ≡ (has-bit c 0 h || has-bit w (32 * u) h)) → Within (s .second .nodes) c → Within (s .second .nodes) c′ × Walk (labelled-into G k) (length (G .edges)) next (Added w c′)
     source-added w c c′ at next u r y l e is bits i = (
       λ h b t. inside h b (or-e (has-bit c 0 h) (has-bit w (32 * u) h) (subst T (bits h b) t)),
       walk-turn (labelled-into G k) (length (G .edges)) at next (Added w c) (Added w c′) y l (slot-next w at next (Added w c) r y l e)
@@ -181,11 +181,11 @@ module _ (s : Sizes) (f g : List ℕ) (x : Both s f g) where
         low : u < size G
         low = let z = slot-item at (Added w c) y l in omega (arith, is, z .1, first-size s f g x)
 
-        inside : (h : ℕ) → h < 256 → In c h ⊎ T (rel w u h) → h < s .nodes2
+        inside : (h : ℕ) → h < 256 → In c h ⊎ T (rel w u h) → h < s .second .nodes
         inside h b (inl t) = i h b t
         inside h b (inr t) = let z = (r .inside u h low b t) .0 in omega (arith, z, second-size s f g x)
 
-    pub all-added : (w c : List ℕ) (at : ℕ) → at ≤ 0 → Walk (labelled-into G k) (length (G .edges)) at (Added w c) → (e h : ℕ) → e < s .edges → T (labelled-into G k e) → h < 256 → T (rel w ((edge G e) .from) h) → In c h
+    pub all-added : (w c : List ℕ) (at : ℕ) → at ≤ 0 → Walk (labelled-into G k) (length (G .edges)) at (Added w c) → (e h : ℕ) → e < s .first .edges → T (labelled-into G k e) → h < 256 → T (rel w ((edge G e) .from) h) → In c h
     all-added w c at z y e h he t b = y .3 e (omega (arith, he, first-edges s f g x)) t (omega arith) h b
 
     -- none of the row is left to the source of an edge
@@ -194,7 +194,7 @@ module _ (s : Sizes) (f g : List ℕ) (x : Both s f g) where
 
     pub source-dropped : (w₀ w w′ c : List ℕ) (at next u : ℕ) → Shrank G H w₀ w → Walk (labelled-into G k) (length (G .edges)) at (Gone c w) → 0 < at → next ≡ cell w′ 21568 2 (at - 1) → u ≡ (edge G (at - 1)) .from
         → ((h : ℕ) → h < 256 → has-bit w′ (32 * u) h ≡ (has-bit w (32 * u) h && not (has-bit c 0 h))) → Outside (32 * u) (32 * u + 32) w w′ → length w′ ≡ length w
-        → ((e h : ℕ) → e < s .edges → T (labelled-into G k e) → h < 256 → In c h → T (related G H ((edge G e) .from) h) → ⊥)
+        → ((e h : ℕ) → e < s .first .edges → T (labelled-into G k e) → h < 256 → In c h → T (related G H ((edge G e) .from) h) → ⊥)
         → Shrank G H w₀ w′ × Walk (labelled-into G k) (length (G .edges)) next (Gone c w′)
     source-dropped w₀ w w′ c at next u y z l e is bits o long apart =
         let i = walk-item (labelled-into G k) (length (G .edges)) at (Gone c w) z l in
@@ -207,14 +207,14 @@ module _ (s : Sizes) (f g : List ℕ) (x : Both s f g) where
               (λ h b t. d .1 h b (subst (λ (m : ℕ). T (rel w′ m h)) (sym is) t)),
         )
 
-    pub all-dropped : (w c : List ℕ) (at : ℕ) → at ≤ 0 → Walk (labelled-into G k) (length (G .edges)) at (Gone c w) → (e h : ℕ) → e < s .edges → T (labelled-into G k e) → h < 256 → T (rel w ((edge G e) .from) h) → In c h → ⊥
+    pub all-dropped : (w c : List ℕ) (at : ℕ) → at ≤ 0 → Walk (labelled-into G k) (length (G .edges)) at (Gone c w) → (e h : ℕ) → e < s .first .edges → T (labelled-into G k e) → h < 256 → T (rel w ((edge G e) .from) h) → In c h → ⊥
     all-dropped w c at z y e h he t b = y .3 e (omega (arith, he, first-edges s f g x)) t (omega arith) h b
 
   -- ---- candidates
 
-  module _ (w : List ℕ) (r : Refining G H w) (v l : ℕ) (hv : v < s .nodes) (hl : l < 9) (row : List ℕ) where
-    pub found : (m a c : List ℕ) → NodeMatched G H w v → LostMet H w v row m → Within (s .nodes2) a
-        → ((e h : ℕ) → e < s .edges → T (labelled-into G (9 * v + l) e) → h < 256 → T (rel w ((edge G e) .from) h) → In a h) → ((h : ℕ) → h < 256 → has-bit c 0 h ≡ (has-bit a 0 h && has-bit m 0 h)) → Candidates G H w v l row c
+  module _ (w : List ℕ) (r : Refining G H w) (v l : ℕ) (hv : v < s .first .nodes) (hl : l < 9) (row : List ℕ) where
+    pub found : (m a c : List ℕ) → NodeMatched G H w v → LostMet H w v row m → Within (s .second .nodes) a
+        → ((e h : ℕ) → e < s .first .edges → T (labelled-into G (9 * v + l) e) → h < 256 → T (rel w ((edge G e) .from) h) → In a h) → ((h : ℕ) → h < 256 → has-bit c 0 h ≡ (has-bit a 0 h && has-bit m 0 h)) → Candidates G H w v l row c
     found m a c matched met i sources =
         candidates-met G H (first-flow s f g x) (second-flow s f g x) (first-fits s f g x) (second-fits s f g x) (first-edges-fit s f g x) w v l row m a c matched met
         (λ h b t. let z = i h b t in omega (arith, z, second-size s f g x)) (λ e h he t b u. sources e h (omega (arith, he, first-edges s f g x)) t b u)
@@ -231,7 +231,7 @@ module _ (s : Sizes) (f g : List ℕ) (x : Both s f g) where
     slot-told : (e : ℕ) → (edge G e) .to ≡ v → (edge G e) .label ≡ l → T (labelled-into G (9 * v + l) e)
     slot-told e a b = eq-eqb (9 * (edge G e) .to + (edge G e) .label) (9 * v + l) (omega arith)
 
-    pub lacking-drop : Lacking w l (s .nodes2) row → (e h : ℕ) → e < s .edges → T (labelled-into G (9 * v + l) e) → h < 256 → In row h → T (related G H ((edge G e) .from) h) → ⊥
+    pub lacking-drop : Lacking w l (s .second .nodes) row → (e h : ℕ) → e < s .first .edges → T (labelled-into G (9 * v + l) e) → h < 256 → In row h → T (related G H ((edge G e) .from) h) → ⊥
     lacking-drop y e h he t b i z =
         let he′ : e < length (G .edges) = omega (arith, he, first-edges s f g x) in
         lacking-apart G H (first-flow s f g x) (second-flow s f g x) (first-fits s f g x) (second-fits s f g x) (first-edges-fit s f g x) w r l h hl ((y .without-edge h b i) .1) e he′ ((slot-tells e he′ t) .1) z
@@ -242,7 +242,7 @@ module _ (s : Sizes) (f g : List ℕ) (x : Both s f g) where
     all-sifted c a d₀ d m k all out kept y =
         sifted-near H (second-flow s f g x) (second-fits s f g x) w (r .neighbours) row l hl c a d₀ (replicate 32 0) d m (k .within) all out kept (λ h b t. let z = none-within 0 h b t in omega (arith, z)) y
 
-    pub may-drop : (c d : List ℕ) → Contained G H v row → Sifted w l row c (replicate 32 0) d 0 256 → (e h : ℕ) → e < s .edges → T (labelled-into G (9 * v + l) e) → h < 256 → In d h → T (related G H ((edge G e) .from) h) → ⊥
+    pub may-drop : (c d : List ℕ) → Contained G H v row → Sifted w l row c (replicate 32 0) d 0 256 → (e h : ℕ) → e < s .first .edges → T (labelled-into G (9 * v + l) e) → h < 256 → In d h → T (related G H ((edge G e) .from) h) → ⊥
     may-drop c d cont y e h he t b i z =
         let he′ : e < length (G .edges) = omega (arith, he, first-edges s f g x) in
         let a = slot-tells e he′ t in
@@ -253,7 +253,7 @@ module _ (s : Sizes) (f g : List ℕ) (x : Both s f g) where
         only (inr n) = n
 
     pub label-done : (c d w′ : List ℕ) → Contained G H v row → Candidates G H w v l row c → Sifted w l row c (replicate 32 0) d 0 256 → Shrank G H w w′
-        → ((e h : ℕ) → e < s .edges → T (labelled-into G (9 * v + l) e) → h < 256 → T (rel w′ ((edge G e) .from) h) → In d h → ⊥) → LabelMatched G H w′ v l row
+        → ((e h : ℕ) → e < s .first .edges → T (labelled-into G (9 * v + l) e) → h < 256 → T (rel w′ ((edge G e) .from) h) → In d h → ⊥) → LabelMatched G H w′ v l row
     label-done c d w′ cont k y z none =
         label-matched G H (first-flow s f g x) (second-flow s f g x) (first-fits s f g x) (second-fits s f g x) (first-edges-fit s f g x) w r v l hl row cont c (replicate 32 0) d w′ k y z
         (λ e h he a b m t. none e h (omega (arith, he, first-edges s f g x)) (slot-told e a b) m t)
@@ -277,7 +277,7 @@ module _ (s : Sizes) (f g : List ℕ) (x : Both s f g) where
   pub met-first : (w : List ℕ) (v : ℕ) (r lost c m : List ℕ) → Refining G H w → ((h : ℕ) → h < 256 → has-bit lost 0 h ≡ (held w v h && not (has-bit r 0 h))) → Preceded w lost c m 0 256 → LostMet H w v r m
   met-first w v r lost c m y z = lost-met G H (first-flow s f g x) (second-flow s f g x) (first-fits s f g x) (second-fits s f g x) (first-edges-fit s f g x) w v r lost c m y z
 
-  pub met-still : (w w′ : List ℕ) (v : ℕ) (r m : List ℕ) → v < s .nodes → Shrank G H w w′ → NodeMatched G H w v → LostMet H w v r m → NodeMatched G H w′ v × LostMet H w′ v r m
+  pub met-still : (w w′ : List ℕ) (v : ℕ) (r m : List ℕ) → v < s .first .nodes → Shrank G H w w′ → NodeMatched G H w v → LostMet H w v r m → NodeMatched G H w′ v × LostMet H w′ v r m
   met-still w w′ v r m hv y n z =
       let low : v < size G = omega (arith, hv, first-size s f g x) in (
         node-kept G H (first-flow s f g x) (second-flow s f g x) (first-fits s f g x) (second-fits s f g x) (first-edges-fit s f g x) w w′ v low y n,
@@ -289,7 +289,7 @@ module _ (s : Sizes) (f g : List ℕ) (x : Both s f g) where
   pub contained : (w r : List ℕ) (v : ℕ) → Refining G H w → ((h : ℕ) → h < 256 → has-bit r 0 h ≡ rel w v h) → Contained G H v r
   contained w r v y e h t = let b = related-e G H (first-flow s f g x) (second-flow s f g x) v h t in subst T (sym (e h (omega (arith, b .1, second-fits s f g x)))) (y .contains v h t)
 
-  pub taken : (v : ℕ) → v < s .nodes → (w w₁ w₂ r : List ℕ) → ((h : ℕ) → h < 256 → has-bit r 0 h ≡ rel w v h) → Shrank G H w w₁ → ((l : ℕ) → l < 9 → LabelMatched G H w₁ v l r) → ((h : ℕ) → h < 256 → held w₂ v h ≡ has-bit r 0 h)
+  pub taken : (v : ℕ) → v < s .first .nodes → (w w₁ w₂ r : List ℕ) → ((h : ℕ) → h < 256 → has-bit r 0 h ≡ rel w v h) → Shrank G H w w₁ → ((l : ℕ) → l < 9 → LabelMatched G H w₁ v l r) → ((h : ℕ) → h < 256 → held w₂ v h ≡ has-bit r 0 h)
       → Outside (8192 + 32 * v) (8192 + 32 * v + 32) w₁ w₂ → length w₂ ≡ length w₁ → Took G H v w w₂
   taken v hv w w₁ w₂ r was y all now o long =
       took G H (first-flow s f g x) (second-flow s f g x) (first-fits s f g x) (second-fits s f g x) (first-edges-fit s f g x) v (omega (arith, hv, first-size s f g x)) w w₁ w₂ r was y all
@@ -302,19 +302,19 @@ module _ (s : Sizes) (f g : List ℕ) (x : Both s f g) where
 
   -- none of the row c is left to the sources of edges with label l into the nodes below n
   abbrev pub Dropped : List ℕ → List ℕ → ℕ → ℕ → Type 0
-  Dropped w c l n = (e h : ℕ) → e < s .edges → (edge G e) .label ≡ l → (edge G e) .to < n → h < 256 → T (rel w ((edge G e) .from) h) → In c h → ⊥
+  Dropped w c l n = (e h : ℕ) → e < s .first .edges → (edge G e) .label ≡ l → (edge G e) .to < n → h < 256 → T (rel w ((edge G e) .from) h) → In c h → ⊥
 
-  pub dropped-turn : (w w′ c : List ℕ) (l v : ℕ) → Shrank G H w w′ → Dropped w c l v → ((e h : ℕ) → e < s .edges → T (labelled-into G (9 * v + l) e) → h < 256 → T (rel w′ ((edge G e) .from) h) → In c h → ⊥) → Dropped w′ c l (v + 1)
+  pub dropped-turn : (w w′ c : List ℕ) (l v : ℕ) → Shrank G H w w′ → Dropped w c l v → ((e h : ℕ) → e < s .first .edges → T (labelled-into G (9 * v + l) e) → h < 256 → T (rel w′ ((edge G e) .from) h) → In c h → ⊥) → Dropped w′ c l (v + 1)
   dropped-turn w w′ c l v y old new e h he label-is below b t i = go (ℕ-discrete ((edge G e) .to) v)
     where
       go : Dec ((edge G e) .to ≡ v) → ⊥
       go (yes d) = new e h he (eq-eqb (9 * (edge G e) .to + (edge G e) .label) (9 * v + l) (omega arith)) b t i
       go (no d) = old e h he label-is (omega arith) b (y .rel-less ((edge G e) .from) h (omega (arith, (first-edge-in s f g x e he) .0, first-size s f g x)) b t) i
 
-  pub leading-all : (w w′ c : List ℕ) (l v : ℕ) → l < 9 → s .nodes ≤ v → Refining G H w → Shrank G H w w′ → Lacking w l (s .nodes2) c → Dropped w′ c l v → Leading G H w′ l
+  pub leading-all : (w w′ c : List ℕ) (l v : ℕ) → l < 9 → s .first .nodes ≤ v → Refining G H w → Shrank G H w w′ → Lacking w l (s .second .nodes) c → Dropped w′ c l v → Leading G H w′ l
   leading-all w w′ c l v hl all r y k none =
       leading-by G H (first-flow s f g x) (second-flow s f g x) (first-fits s f g x) (second-fits s f g x) (first-edges-fit s f g x) w w′ c l hl r y (λ h hh n. k .with-edge h (omega (arith, hh, second-size s f g x)) n)
-      (λ e h he label-is b t i. let he′ : e < s .edges = omega (arith, he, first-edges s f g x) in none e h he′ label-is (omega (arith, (first-edge-in s f g x e he′) .1, all)) b t i)
+      (λ e h he label-is b t i. let he′ : e < s .first .edges = omega (arith, he, first-edges s f g x) in none e h he′ label-is (omega (arith, (first-edge-in s f g x e he′) .1, all)) b t i)
 
   pub leadings-kept : (w w′ : List ℕ) (n : ℕ) → Shrank G H w w′ → ((l : ℕ) → l < n → Leading G H w l) → Leading G H w′ n → (l : ℕ) → l < n + 1 → Leading G H w′ l
   leadings-kept w w′ n y m z l hl = go (ℕ-discrete l n)
@@ -331,30 +331,30 @@ module _ (s : Sizes) (f g : List ℕ) (x : Both s f g) where
       same : (u h : ℕ) → u < size G → h < 256 → rel w′ u h ≡ rel w u h
       same u h a b = bit-byte w′ w (32 * u) (32 * u) h (o (32 * u + h / 8) (inl (omega (arith, first-fits s f g x))))
 
-  pub matched-first : (w w′ : List ℕ) → ((v h : ℕ) → v < s .nodes → h < 256 → held w v h ≡ ltb h (s .nodes2)) → Shrank G H w w′ → ((l : ℕ) → l < 9 → Leading G H w′ l) → Matching G H (s .nodes) w′
+  pub matched-first : (w w′ : List ℕ) → ((v h : ℕ) → v < s .first .nodes → h < 256 → held w v h ≡ ltb h (s .second .nodes)) → Shrank G H w w′ → ((l : ℕ) → l < 9 → Leading G H w′ l) → Matching G H (s .first .nodes) w′
   matched-first w w′ whole y leading =
       subst (λ (k : ℕ). Matching G H k w′) (first-size s f g x)
       (matching-first G H (first-flow s f g x) (second-flow s f g x) (first-fits s f g x) (second-fits s f g x) (first-edges-fit s f g x) w′ (y .refining)
       (λ v h l b. y .held-kept v h l b ∙ whole v h (omega (arith, l, first-size s f g x)) b ∙ ap (ltb h) (sym (second-size s f g x)))
       (λ e he. (first-edge-in s f g x e (omega (arith, he, first-edges s f g x))) .2) leading)
 
-  module _ (v : ℕ) (w w′ : List ℕ) (hv : v < s .nodes) (m : Matching G H (s .nodes) w) (y : Took G H v w w′) where
+  module _ (v : ℕ) (w w′ : List ℕ) (hv : v < s .first .nodes) (m : Matching G H (s .first .nodes) w) (y : Took G H v w w′) where
     low : v < size G
     low = omega (arith, hv, first-size s f g x)
 
     sized : Matching G H (size G) w
     sized = subst (λ (n : ℕ). Matching G H n w) (sym (first-size s f g x)) m
 
-    pub matching-still : Matching G H (s .nodes) w′
+    pub matching-still : Matching G H (s .first .nodes) w′
     matching-still = subst (λ (n : ℕ). Matching G H n w′) (first-size s f g x) (matching-on G H (first-flow s f g x) (second-flow s f g x) (first-fits s f g x) (second-fits s f g x) (first-edges-fit s f g x) v w w′ low sized y)
 
-    pub load-down : load (s .nodes) w′ ≤ load (s .nodes) w
+    pub load-down : load (s .first .nodes) w′ ≤ load (s .first .nodes) w
     load-down = subst (λ (n : ℕ). load n w′ ≤ load n w) (first-size s f g x) (load-le G H (first-flow s f g x) (second-flow s f g x) (first-fits s f g x) (second-fits s f g x) (first-edges-fit s f g x) v w w′ low sized y)
 
-    pub load-less : (h : ℕ) × (h < 256) × T (held w v h) × (T (rel w v h) → ⊥) → load (s .nodes) w′ < load (s .nodes) w
+    pub load-less : (h : ℕ) × (h < 256) × T (held w v h) × (T (rel w v h) → ⊥) → load (s .first .nodes) w′ < load (s .first .nodes) w
     load-less z = subst (λ (n : ℕ). load n w′ < load n w) (first-size s f g x) (load-lt G H (first-flow s f g x) (second-flow s f g x) (first-fits s f g x) (second-fits s f g x) (first-edges-fit s f g x) v w w′ low sized y (z .0) (z .1) (z .2) (z .3))
 
-  pub settled-all : (w : List ℕ) → Matching G H (s .nodes) w → ((v h : ℕ) → v < s .nodes → h < 256 → T (held w v h) → T (rel w v h)) → Settled G H w
+  pub settled-all : (w : List ℕ) → Matching G H (s .first .nodes) w → ((v h : ℕ) → v < s .first .nodes → h < 256 → T (held w v h) → T (rel w v h)) → Settled G H w
   settled-all w m none =
       all-settled G H (first-flow s f g x) (second-flow s f g x) (first-fits s f g x) (second-fits s f g x) (first-edges-fit s f g x) w (subst (λ (n : ℕ). Matching G H n w) (sym (first-size s f g x)) m)
       (λ v h l b t. none v h (omega (arith, l, first-size s f g x)) b t)

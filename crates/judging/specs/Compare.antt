@@ -17,7 +17,6 @@ use Rattle.files.specs.Basics.Tests.{one}
 use Rattle.files.specs.Basics.Binary.{bit}
 use lib.ListN.{getD}
 pub mod Laws
-pub mod Steps
 pub mod Meaning
 pub mod Examples
 
@@ -36,26 +35,23 @@ pub compare-said : Graph → Graph → Said
 compare-said G H =
     cond (simulates G H) (record { verdict = 1; values = []; written = relation-bytes G H }) (record { verdict = 2; values = uncovered G H ∷ []; written = relation-bytes G H })
 
+-- the checks that come before the verdict
+abbrev pub compare-first : Limits → List ℕ → List ℕ → ℕ → List Check → List Check
+compare-first L f g work cs = whole-check 13 (short compare-room work) (file-checks L 1 graph f (file-checks L 2 graph g cs))
+
 -- "comparing takes two graphs". `out` and `work` are the lengths of the buffers.
 module _ (L : Limits) (first second : List ℕ) (out work : ℕ) where
   abbrev pub compare-verdict : Said
   compare-verdict = compare-said (decode-graph first) (decode-graph second)
 
   abbrev pub compare-checks : List Check
-  compare-checks = whole-check 13 (short compare-room work) (file-checks L 1 graph first (file-checks L 2 graph second (out-check out compare-verdict)))
+  compare-checks = compare-first L first second work (out-check out compare-verdict)
 
   abbrev pub compare-lines : Lines
   compare-lines = whole-line 13 (work < compare-room) (file-lines L 1 graph first (file-lines L 2 graph second (out-line out compare-verdict)))
 
   pub compared : Outcome
   compared = answered compare-checks compare-verdict
-
--- the outcome from the first graph's numbers on, and from 12 on, as the code comes to them
-abbrev pub from-first : Limits → List ℕ → List ℕ → ℕ → Outcome
-from-first L f g out = let s = compare-said (decode-graph f) (decode-graph g) in answered (file-checks L 1 graph f (file-checks L 2 graph g (out-check out s))) s
-
-abbrev pub from-relation : List ℕ → List ℕ → ℕ → Outcome
-from-relation f g out = let s = compare-said (decode-graph f) (decode-graph g) in answered (out-check out s) s
 
 -- 'A "no" names the lowest uncovered entry': n is an entry of the first graph that no simulation gives a related entry of the second, and each entry below it is given
 -- one by some simulation.

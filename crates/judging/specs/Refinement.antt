@@ -4,16 +4,14 @@ use mathlib.Core.Path.{_≡_}
 use mathlib.Core.Logic.{_⊎_}
 use mathlib.Core.Bool.{Bool, _&&_}
 use mathlib.Core.List.{List}
-use Prim.Native.Nat.{ℕ, _+_, _*_, _-_, _/_, _%_, _≤_, _<_}
+use Prim.Native.Nat.{ℕ, _+_, _*_, _/_, _%_, _≤_, _<_}
 use lib.Dec.{T, eqb, ltb}
 use lib.ListN.{length, getD}
-use Rattle.files.specs.Access.{GraphFile}
 use Rattle.files.specs.Basics.Tables.{tally}
 use Rattle.files.specs.Basics.Tests.{any, one}
 use Rattle.files.specs.Cells.{has-bit}
 use Rattle.files.specs.Graph.{Graph, Node, Edge, size, node, no-edge}
-use Rattle.files.specs.Record.{count}
-use Rattle.files.specs.Refusal.{nodes-of}
+use Rattle.files.specs.View.{Held}
 use Rattle.judging.specs.declared.sizes.Sizes.{Sizes}
 use Rattle.judging.specs.Chains.{Chained}
 use Rattle.judging.specs.Simulation.{alike, related}
@@ -26,16 +24,8 @@ pub mod Cover
 
 -- both files are accepted, their counts are the sizes, and fit the buffer's strides
 pub record Both (s : Sizes) (f g : List ℕ) : Type 0 where
-  pub first-file : GraphFile f
-  pub second-file : GraphFile g
-  pub first-nodes-are : s .nodes ≡ nodes-of f
-  pub first-edges-are : s .edges ≡ count f - nodes-of f
-  pub second-nodes-are : s .nodes2 ≡ nodes-of g
-  pub second-edges-are : s .edges2 ≡ count g - nodes-of g
-  pub few-first-nodes : s .nodes ≤ 256
-  pub few-first-edges : s .edges ≤ 4096
-  pub few-second-nodes : s .nodes2 ≤ 256
-  pub few-second-edges : s .edges2 ≤ 4096
+  pub first-held : Held (s .first) f
+  pub second-held : Held (s .second) g
 
 -- ---- what the buffer holds
 

@@ -41,19 +41,19 @@ pub struct Causes {
 
 // The rank of row r at node g; where the row holds, a number past every rank.
 fn rank_of(graph: &[u8], property: &[u8], s: Shape, work: &[u8], g: usize, r: usize) -> usize
-    requires { ⌜ (Ready s (now graph) (now property)) × ((g < s .nodes) × ((r < s .rows) × ((41664 ≤ length (now work)) × (Ranked (decode-graph (now graph)) (decode-property (now property)) (now work))))) ⌝ }
+    requires { ⌜ (Ready s (now graph) (now property)) × ((g < s .graph .nodes) × ((r < s .rows) × ((41664 ≤ length (now work)) × (Ranked (decode-graph (now graph)) (decode-property (now property)) (now work))))) ⌝ }
     ensures { λ k. ⌜ k ≡ rank (decode-graph (now (graph .entry))) (decode-property (now (property .entry))) g r ⌝ }
 {
     let x = get16(work, 0, Shape::STRIDE * g + r) as usize;
     if x == 0 {
-        return s.nodes * s.rows + 1;
+        return s.graph.nodes * s.rows + 1;
     }
     x
 }
 
 // Whether node g is an entry at which row 0 is false.
 fn fails_at(graph: &[u8], property: &[u8], s: Shape, work: &[u8], g: usize) -> bool
-    requires { ⌜ (Ready s (now graph) (now property)) × ((g < s .nodes) × ((41664 ≤ length (now work)) × (Ranked (decode-graph (now graph)) (decode-property (now property)) (now work)))) ⌝ }
+    requires { ⌜ (Ready s (now graph) (now property)) × ((g < s .graph .nodes) × ((41664 ≤ length (now work)) × (Ranked (decode-graph (now graph)) (decode-property (now property)) (now work)))) ⌝ }
     ensures { λ b. ⌜ b ≡ fails-at (decode-graph (now (graph .entry))) (decode-property (now (property .entry))) g ⌝ }
 {
     let NodeAt::Is(v) = node_at(graph, g, 0) else {
@@ -69,7 +69,7 @@ pub(crate) fn first_failing(graph: &[u8], property: &[u8], s: Shape, work: &[u8]
     ensures { λ g. ⌜ g ≡ failing (decode-graph (now (graph .entry))) (decode-property (now (property .entry))) ⌝ }
 {
     let mut g = 0;
-    while g < s.nodes {
+    while g < s.graph.nodes {
         if fails_at(graph, property, s, work, g) {
             return g;
         }
@@ -86,8 +86,8 @@ pub(crate) fn first_edges(graph: &[u8], property: &[u8], s: Shape, work: &mut [u
     let mut g = 0;
     let mut first = 0;
     put16(work, Shape::FIRSTS, 0, 0);
-    while g < s.nodes {
-        first = next_first(graph, s.nodes, g, first);
+    while g < s.graph.nodes {
+        first = next_first(graph, s.graph.nodes, g, first);
         g += 1;
         put16(work, Shape::FIRSTS, g, first as u16);
     }
@@ -103,7 +103,7 @@ fn lower(
     a: usize,
     b: usize,
 ) -> usize
-    requires { ⌜ (Ready s (now graph) (now property)) × ((g < s .nodes) × ((a < s .rows) × ((b < s .rows) × (Settled (decode-graph (now graph)) (decode-property (now property)) (now work))))) ⌝ }
+    requires { ⌜ (Ready s (now graph) (now property)) × ((g < s .graph .nodes) × ((a < s .rows) × ((b < s .rows) × (Settled (decode-graph (now graph)) (decode-property (now property)) (now work))))) ⌝ }
     ensures { λ r. ⌜ r ≡ lower (decode-graph (now (graph .entry))) (decode-property (now (property .entry))) g a b ⌝ }
 {
     let rank_a = rank_of(graph, property, s, work, g, a);
@@ -124,7 +124,7 @@ fn is_ahead(
     x: usize,
     t: usize,
 ) -> bool
-    requires { ⌜ (Ready s (now graph) (now property)) × ((b < s .rows) × ((x < s .nodes) × ((t < s .nodes) × (Settled (decode-graph (now graph)) (decode-property (now property)) (now work))))) ⌝ }
+    requires { ⌜ (Ready s (now graph) (now property)) × ((b < s .rows) × ((x < s .graph .nodes) × ((t < s .graph .nodes) × (Settled (decode-graph (now graph)) (decode-property (now property)) (now work))))) ⌝ }
     ensures { λ r. ⌜ r ≡ ahead (decode-graph (now (graph .entry))) (decode-property (now (property .entry))) (x, b) (t, b) ⌝ }
 {
     let rank_x = rank_of(graph, property, s, work, x, b);
@@ -142,15 +142,15 @@ fn better(
     best: usize,
     j: usize,
 ) -> usize
-    requires { ⌜ (Ready s (now graph) (now property)) × ((box-row (x .operator) (x .a) (x .b) < s .rows) × ((best ≤ s .nodes) × ((j < s .edges) × (Settled (decode-graph (now graph)) (decode-property (now property)) (now work))))) ⌝ }
-    ensures { λ r. ⌜ r ≡ better (decode-graph (now (graph .entry))) (decode-property (now (property .entry))) (aims (x .operator) (x .a)) (box-row (x .operator) (x .a) (x .b)) (s .nodes) best j ⌝ }
+    requires { ⌜ (Ready s (now graph) (now property)) × ((box-row (x .operator) (x .a) (x .b) < s .rows) × ((best ≤ s .graph .nodes) × ((j < s .graph .edges) × (Settled (decode-graph (now graph)) (decode-property (now property)) (now work))))) ⌝ }
+    ensures { λ r. ⌜ r ≡ better (decode-graph (now (graph .entry))) (decode-property (now (property .entry))) (aims (x .operator) (x .a)) (box-row (x .operator) (x .a) (x .b)) (s .graph .nodes) best j ⌝ }
 {
-    let EdgeAt::Is(edge) = edge_at(graph, s.nodes, j, 0) else {
+    let EdgeAt::Is(edge) = edge_at(graph, s.graph.nodes, j, 0) else {
         return best;
     };
     let on = obliged(x, edge.label);
     if on.along {
-        if best < s.nodes {
+        if best < s.graph.nodes {
             if is_ahead(graph, property, s, work, on.at as usize, best, edge.to) {
                 return best;
             }
@@ -162,12 +162,12 @@ fn better(
 
 // The foremost target at node g of box x, or the number of nodes.
 fn foremost(graph: &[u8], property: &[u8], s: Shape, work: &[u8], g: usize, x: PropertyRow) -> usize
-    requires { ⌜ (Ready s (now graph) (now property)) × ((g < s .nodes) × ((box-row (x .operator) (x .a) (x .b) < s .rows) × (Settled (decode-graph (now graph)) (decode-property (now property)) (now work)))) ⌝ }
-    ensures { λ t. ⌜ t ≡ first-or (best-target (decode-graph (now (graph .entry))) (decode-property (now (property .entry))) g (aims (x .operator) (x .a)) (box-row (x .operator) (x .a) (x .b)) (s .edges)) (s .nodes) ⌝ }
+    requires { ⌜ (Ready s (now graph) (now property)) × ((g < s .graph .nodes) × ((box-row (x .operator) (x .a) (x .b) < s .rows) × (Settled (decode-graph (now graph)) (decode-property (now property)) (now work)))) ⌝ }
+    ensures { λ t. ⌜ t ≡ first-or (best-target (decode-graph (now (graph .entry))) (decode-property (now (property .entry))) g (aims (x .operator) (x .a)) (box-row (x .operator) (x .a) (x .b)) (s .graph .edges)) (s .graph .nodes) ⌝ }
 {
     let end = get16(work, Shape::FIRSTS, g + 1) as usize;
     let mut j = get16(work, Shape::FIRSTS, g) as usize;
-    let mut best = s.nodes;
+    let mut best = s.graph.nodes;
     while j < end {
         best = better(graph, property, s, work, x, best, j);
         j += 1;
@@ -184,12 +184,12 @@ fn box_cause(
     g: usize,
     x: PropertyRow,
 ) -> Cause
-    requires { ⌜ (Ready s (now graph) (now property)) × ((g < s .nodes) × ((box-row (x .operator) (x .a) (x .b) < s .rows) × (Settled (decode-graph (now graph)) (decode-property (now property)) (now work)))) ⌝ }
-    ensures { λ c. ⌜ c ≡ cause-held (getD (as-causes (box-row (x .operator) (x .a) (x .b)) (best-target (decode-graph (now (graph .entry))) (decode-property (now (property .entry))) g (aims (x .operator) (x .a)) (box-row (x .operator) (x .a) (x .b)) (s .edges))) 0 no-cause) ⌝ }
+    requires { ⌜ (Ready s (now graph) (now property)) × ((g < s .graph .nodes) × ((box-row (x .operator) (x .a) (x .b) < s .rows) × (Settled (decode-graph (now graph)) (decode-property (now property)) (now work)))) ⌝ }
+    ensures { λ c. ⌜ c ≡ cause-held (getD (as-causes (box-row (x .operator) (x .a) (x .b)) (best-target (decode-graph (now (graph .entry))) (decode-property (now (property .entry))) g (aims (x .operator) (x .a)) (box-row (x .operator) (x .a) (x .b)) (s .graph .edges))) 0 no-cause) ⌝ }
 {
     let t = foremost(graph, property, s, work, g, x);
     let on = obliged(x, 0);
-    if t < s.nodes {
+    if t < s.graph.nodes {
         return Cause {
             node: t,
             row: on.at as usize,
@@ -210,7 +210,7 @@ pub(crate) fn causes_of(
     g: usize,
     r: usize,
 ) -> Causes
-    requires { ⌜ (Ready s (now graph) (now property)) × ((g < s .nodes) × ((r < s .rows) × (Settled (decode-graph (now graph)) (decode-property (now property)) (now work)))) ⌝ }
+    requires { ⌜ (Ready s (now graph) (now property)) × ((g < s .graph .nodes) × ((r < s .rows) × (Settled (decode-graph (now graph)) (decode-property (now property)) (now work)))) ⌝ }
     ensures { λ c. ⌜ AreCauses (decode-graph (now (graph .entry))) (decode-property (now (property .entry))) (g, r) (c .first) (c .second) ⌝ }
 {
     let none = Cause {

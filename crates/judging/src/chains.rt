@@ -121,8 +121,8 @@ pub(crate) fn index(graph: &[u8], property: &[u8], s: Shape, work: &mut [u8])
     clear(&mut work[Shape::NODE_HEADS..Shape::NODE_NEXTS]);
     link_graph(
         graph,
-        s.nodes,
-        s.edges,
+        s.graph.nodes,
+        s.graph.edges,
         work,
         Shape::NODE_HEADS,
         Shape::NODE_NEXTS,

@@ -18,7 +18,7 @@ use files::graph::node_at;
 
 // Whether node h of the second graph is an entry.
 fn is_entry(first: &[u8], second: &[u8], s: Sizes, h: usize) -> bool
-    requires { ⌜ ((Both s (now first) (now second))) × (h < s .nodes2) ⌝ }
+    requires { ⌜ ((Both s (now first) (now second))) × (h < s .second .nodes) ⌝ }
     ensures { λ t. ⌜ t ≡ (node (decode-graph (now (second .entry))) h) .entry ⌝ }
 {
     let NodeAt::Is(v) = node_at(second, h, 2) else {
@@ -30,11 +30,11 @@ fn is_entry(first: &[u8], second: &[u8], s: Sizes, h: usize) -> bool
 // The entries of the second graph.
 fn entries(first: &[u8], second: &[u8], s: Sizes) -> [u8; LINE]
     requires { ⌜ Both s (now first) (now second) ⌝ }
-    ensures { λ r. ⌜ (length r ≡ 32) × (Chosen (λ h. (node (decode-graph (now (second .entry))) h) .entry) (s .nodes2) r) ⌝ }
+    ensures { λ r. ⌜ (length r ≡ 32) × (Chosen (λ h. (node (decode-graph (now (second .entry))) h) .entry) (s .second .nodes) r) ⌝ }
 {
     let mut row = [0u8; LINE];
     let mut h = 0;
-    while h < s.nodes2 {
+    while h < s.second.nodes {
         if is_entry(first, second, s, h) {
             put_bit(&mut row, 0, h);
         }
@@ -45,7 +45,7 @@ fn entries(first: &[u8], second: &[u8], s: Sizes) -> [u8; LINE]
 
 // Whether an entry of the second graph is related to node g.
 fn is_covered(first: &[u8], second: &[u8], s: Sizes, work: &[u8], entries: &[u8], g: usize) -> bool
-    requires { ⌜ (32 ≤ length (now entries)) × ((Both s (now first) (now second)) × ((g < s .nodes) × ((165152 ≤ length (now work)) × ((Settled (decode-graph (now first)) (decode-graph (now second)) (now work)) × (Chosen (λ h. (node (decode-graph (now second)) h) .entry) (s .nodes2) (now entries)))))) ⌝ }
+    requires { ⌜ (32 ≤ length (now entries)) × ((Both s (now first) (now second)) × ((g < s .first .nodes) × ((165152 ≤ length (now work)) × ((Settled (decode-graph (now first)) (decode-graph (now second)) (now work)) × (Chosen (λ h. (node (decode-graph (now second)) h) .entry) (s .second .nodes) (now entries)))))) ⌝ }
     ensures { λ t. ⌜ t ≡ covered (decode-graph (now (first .entry))) (decode-graph (now (second .entry))) g ⌝ }
 {
     meets(entries, work, LINE * g)
@@ -60,7 +60,7 @@ fn is_uncovered(
     entries: &[u8],
     g: usize,
 ) -> bool
-    requires { ⌜ (32 ≤ length (now entries)) × ((Both s (now first) (now second)) × ((g < s .nodes) × ((165152 ≤ length (now work)) × ((Settled (decode-graph (now first)) (decode-graph (now second)) (now work)) × (Chosen (λ h. (node (decode-graph (now second)) h) .entry) (s .nodes2) (now entries)))))) ⌝ }
+    requires { ⌜ (32 ≤ length (now entries)) × ((Both s (now first) (now second)) × ((g < s .first .nodes) × ((165152 ≤ length (now work)) × ((Settled (decode-graph (now first)) (decode-graph (now second)) (now work)) × (Chosen (λ h. (node (decode-graph (now second)) h) .entry) (s .second .nodes) (now entries)))))) ⌝ }
     ensures { λ t. ⌜ t ≡ ((node (decode-graph (now (first .entry))) g) .entry && not (covered (decode-graph (now (first .entry))) (decode-graph (now (second .entry))) g)) ⌝ }
 {
     let NodeAt::Is(v) = node_at(first, g, 1) else {
@@ -77,7 +77,7 @@ pub(crate) fn first_uncovered(first: &[u8], second: &[u8], s: Sizes, work: &[u8]
 {
     let row = entries(first, second, s);
     let mut g = 0;
-    while g < s.nodes {
+    while g < s.first.nodes {
         if is_uncovered(first, second, s, work, &row, g) {
             return g;
         }
@@ -88,11 +88,11 @@ pub(crate) fn first_uncovered(first: &[u8], second: &[u8], s: Sizes, work: &[u8]
 
 // Writes the relation, 32 bytes for each node of the first graph.
 pub(crate) fn write_relation(first: &[u8], second: &[u8], s: Sizes, work: &[u8], out: &mut [u8])
-    requires { ⌜ ((Both s (now first) (now second))) × ((165152 ≤ length (now work)) × ((Settled (decode-graph (now first)) (decode-graph (now second)) (now work)) × (32 * s .nodes ≤ length (now out)))) ⌝ }
+    requires { ⌜ ((Both s (now first) (now second))) × ((165152 ≤ length (now work)) × ((Settled (decode-graph (now first)) (decode-graph (now second)) (now work)) × (32 * s .first .nodes ≤ length (now out)))) ⌝ }
     ensures { λ _. ⌜ now (out .exit) ≡ relation-bytes (decode-graph (now (first .entry))) (decode-graph (now (second .entry))) ++ drop (length (relation-bytes (decode-graph (now (first .entry))) (decode-graph (now (second .entry))))) (now (out .entry)) ⌝ }
 {
     let mut g = 0;
-    while g < s.nodes {
+    while g < s.first.nodes {
         put_line(out, g, work, LINE * g);
         g += 1;
     }

@@ -65,7 +65,7 @@ fn leaf_false(operator: u8, a: u8, method: u8, returns: bool) -> bool
 
 // Whether row r is false at node g by itself, which is at level 1.
 fn falls_alone(graph: &[u8], property: &[u8], s: Shape, g: usize, r: usize) -> bool
-    requires { ⌜ (Ready s (now graph) (now property)) × ((g < s .nodes) × (r < s .rows)) ⌝ }
+    requires { ⌜ (Ready s (now graph) (now property)) × ((g < s .graph .nodes) × (r < s .rows)) ⌝ }
     ensures { λ b. ⌜ b ≡ not (level (decode-graph (now (graph .entry))) (decode-property (now (property .entry))) 1 g r) ⌝ }
 {
     let NodeAt::Is(v) = node_at(graph, g, 0) else {
@@ -87,7 +87,7 @@ fn start_pair(
     g: usize,
     r: usize,
 ) -> usize
-    requires { ⌜ (Ready s (now graph) (now property)) × ((g < s .nodes) × ((r < s .rows) × (Finding (decode-graph (now graph)) (decode-property (now property)) 0 tail (now work)))) ⌝ }
+    requires { ⌜ (Ready s (now graph) (now property)) × ((g < s .graph .nodes) × ((r < s .rows) × (Finding (decode-graph (now graph)) (decode-property (now property)) 0 tail (now work)))) ⌝ }
     ensures { λ t. ⌜ (Grew (decode-graph (now (graph .entry))) (decode-property (now (property .entry))) 0 tail t (now (work .entry)) (now (work .exit))) × (T (not (level (decode-graph (now (graph .entry))) (decode-property (now (property .entry))) 1 g r)) → Given (now (work .exit)) g r) ⌝ }
 {
     if falls_alone(graph, property, s, g, r) {
@@ -117,14 +117,14 @@ fn start_row(
     r: usize,
 ) -> usize
     requires { ⌜ (Ready s (now graph) (now property)) × ((r < s .rows) × (Finding (decode-graph (now graph)) (decode-property (now property)) 0 tail (now work))) ⌝ }
-    ensures { λ t. ⌜ (Grew (decode-graph (now (graph .entry))) (decode-property (now (property .entry))) 0 tail t (now (work .entry)) (now (work .exit))) × ((g : ℕ) → g < s .nodes → T (not (level (decode-graph (now (graph .entry))) (decode-property (now (property .entry))) 1 g r)) → Given (now (work .exit)) g r) ⌝ }
+    ensures { λ t. ⌜ (Grew (decode-graph (now (graph .entry))) (decode-property (now (property .entry))) 0 tail t (now (work .entry)) (now (work .exit))) × ((g : ℕ) → g < s .graph .nodes → T (not (level (decode-graph (now (graph .entry))) (decode-property (now (property .entry))) 1 g r)) → Given (now (work .exit)) g r) ⌝ }
 {
     if !may_fall(property, r) {
         return tail;
     }
     let mut g = 0;
     let mut end = tail;
-    while g < s.nodes {
+    while g < s.graph.nodes {
         end = start_pair(graph, property, s, work, end, g, r);
         g += 1;
     }
@@ -159,10 +159,10 @@ fn arrive(
     q: usize,
     k: u16,
 ) -> usize
-    requires { ⌜ (Ready s (now graph) (now property)) × ((e < s .edges) × ((q < s .rows) × ((Finding (decode-graph (now graph)) (decode-property (now property)) k tail (now work)) × (T (aims (x .operator) (x .a) ((getD ((decode-graph (now graph)) .edges) e no-edge) .label)) → T (not (level (decode-graph (now graph)) (decode-property (now property)) (suc k) ((getD ((decode-graph (now graph)) .edges) e no-edge) .from) q)))))) ⌝ }
+    requires { ⌜ (Ready s (now graph) (now property)) × ((e < s .graph .edges) × ((q < s .rows) × ((Finding (decode-graph (now graph)) (decode-property (now property)) k tail (now work)) × (T (aims (x .operator) (x .a) ((getD ((decode-graph (now graph)) .edges) e no-edge) .label)) → T (not (level (decode-graph (now graph)) (decode-property (now property)) (suc k) ((getD ((decode-graph (now graph)) .edges) e no-edge) .from) q)))))) ⌝ }
     ensures { λ t. ⌜ (Grew (decode-graph (now (graph .entry))) (decode-property (now (property .entry))) k tail t (now (work .entry)) (now (work .exit))) × (T (aims (x .operator) (x .a) ((getD ((decode-graph (now (graph .entry))) .edges) e no-edge) .label)) → Given (now (work .exit)) ((getD ((decode-graph (now (graph .entry))) .edges) e no-edge) .from) q) ⌝ }
 {
-    let EdgeAt::Is(edge) = edge_at(graph, s.nodes, e, 0) else {
+    let EdgeAt::Is(edge) = edge_at(graph, s.graph.nodes, e, 0) else {
         return tail;
     };
     let on = obliged(x, edge.label);
@@ -184,8 +184,8 @@ fn boxes(
     q: usize,
     k: u16,
 ) -> usize
-    requires { ⌜ (Ready s (now graph) (now property)) × ((v < s .nodes) × ((q < s .rows) × ((Finding (decode-graph (now graph)) (decode-property (now property)) k tail (now work)) × ((e : ℕ) → e < s .edges → T (into (decode-graph (now graph)) v e) → T (aims (x .operator) (x .a) ((getD ((decode-graph (now graph)) .edges) e no-edge) .label)) → T (not (level (decode-graph (now graph)) (decode-property (now property)) (suc k) ((getD ((decode-graph (now graph)) .edges) e no-edge) .from) q)))))) ⌝ }
-    ensures { λ t. ⌜ (Grew (decode-graph (now (graph .entry))) (decode-property (now (property .entry))) k tail t (now (work .entry)) (now (work .exit))) × ((e : ℕ) → e < s .edges → T (into (decode-graph (now (graph .entry))) v e) → T (aims (x .operator) (x .a) ((getD ((decode-graph (now (graph .entry))) .edges) e no-edge) .label)) → Given (now (work .exit)) ((getD ((decode-graph (now (graph .entry))) .edges) e no-edge) .from) q) ⌝ }
+    requires { ⌜ (Ready s (now graph) (now property)) × ((v < s .graph .nodes) × ((q < s .rows) × ((Finding (decode-graph (now graph)) (decode-property (now property)) k tail (now work)) × ((e : ℕ) → e < s .graph .edges → T (into (decode-graph (now graph)) v e) → T (aims (x .operator) (x .a) ((getD ((decode-graph (now graph)) .edges) e no-edge) .label)) → T (not (level (decode-graph (now graph)) (decode-property (now property)) (suc k) ((getD ((decode-graph (now graph)) .edges) e no-edge) .from) q)))))) ⌝ }
+    ensures { λ t. ⌜ (Grew (decode-graph (now (graph .entry))) (decode-property (now (property .entry))) k tail t (now (work .entry)) (now (work .exit))) × ((e : ℕ) → e < s .graph .edges → T (into (decode-graph (now (graph .entry))) v e) → T (aims (x .operator) (x .a) ((getD ((decode-graph (now (graph .entry))) .edges) e no-edge) .label)) → Given (now (work .exit)) ((getD ((decode-graph (now (graph .entry))) .edges) e no-edge) .from) q) ⌝ }
 {
     let mut at = get16(work, Shape::NODE_HEADS, v) as usize;
     let mut end = tail;
@@ -209,7 +209,7 @@ fn row_on(
     q: usize,
     k: u16,
 ) -> usize
-    requires { ⌜ (Ready s (now graph) (now property)) × ((v < s .nodes) × ((r < s .rows) × ((q < s .rows) × ((Finding (decode-graph (now graph)) (decode-property (now property)) k tail (now work)) × ((T (not (level (decode-graph (now graph)) (decode-property (now property)) k v r))) × (Names (row (decode-property (now property)) q) r)))))) ⌝ }
+    requires { ⌜ (Ready s (now graph) (now property)) × ((v < s .graph .nodes) × ((r < s .rows) × ((q < s .rows) × ((Finding (decode-graph (now graph)) (decode-property (now property)) k tail (now work)) × ((T (not (level (decode-graph (now graph)) (decode-property (now property)) k v r))) × (Names (row (decode-property (now property)) q) r)))))) ⌝ }
     ensures { λ t. ⌜ (Grew (decode-graph (now (graph .entry))) (decode-property (now (property .entry))) k tail t (now (work .entry)) (now (work .exit))) × (RowDone (decode-graph (now (graph .entry))) (decode-property (now (property .entry))) k (now (work .exit)) v r q) ⌝ }
 {
     let RowAt::Is(x) = row_at(property, q, 0) else {
@@ -237,7 +237,7 @@ fn pop(
     r: usize,
     k: u16,
 ) -> usize
-    requires { ⌜ (Ready s (now graph) (now property)) × ((v < s .nodes) × ((r < s .rows) × ((Finding (decode-graph (now graph)) (decode-property (now property)) k tail (now work)) × (T (not (level (decode-graph (now graph)) (decode-property (now property)) k v r)))))) ⌝ }
+    requires { ⌜ (Ready s (now graph) (now property)) × ((v < s .graph .nodes) × ((r < s .rows) × ((Finding (decode-graph (now graph)) (decode-property (now property)) k tail (now work)) × (T (not (level (decode-graph (now graph)) (decode-property (now property)) k v r)))))) ⌝ }
     ensures { λ t. ⌜ (Grew (decode-graph (now (graph .entry))) (decode-property (now (property .entry))) k tail t (now (work .entry)) (now (work .exit))) × (Done (decode-graph (now (graph .entry))) (decode-property (now (property .entry))) k (now (work .exit)) v r) ⌝ }
 {
     let mut at = get16(work, Shape::ROW_HEADS, r) as usize;

@@ -41,14 +41,14 @@ pub(crate) fn source_of(graph: &[u8], nodes: usize, e: usize) -> usize
 
 // All that the sources of a slot's edges are related to.
 fn related_to_sources(first: &[u8], second: &[u8], s: Sizes, work: &[u8], slot: usize) -> [u8; LINE]
-    requires { ⌜ (Both s (now first) (now second)) × ((slot < 9 * s .nodes) × (Refining (decode-graph (now first)) (decode-graph (now second)) (now work))) ⌝ }
-    ensures { λ r. ⌜ (length r ≡ 32) × ((Within (s .nodes2) r) × ((e h : ℕ) → e < s .edges → T (labelled-into (decode-graph (now (first .entry))) slot e) → h < 256 → T (rel (now (work .entry)) ((edge (decode-graph (now (first .entry))) e) .from) h) → T (has-bit r 0 h))) ⌝ }
+    requires { ⌜ (Both s (now first) (now second)) × ((slot < 9 * s .first .nodes) × (Refining (decode-graph (now first)) (decode-graph (now second)) (now work))) ⌝ }
+    ensures { λ r. ⌜ (length r ≡ 32) × ((Within (s .second .nodes) r) × ((e h : ℕ) → e < s .first .edges → T (labelled-into (decode-graph (now (first .entry))) slot e) → h < 256 → T (rel (now (work .entry)) ((edge (decode-graph (now (first .entry))) e) .from) h) → T (has-bit r 0 h))) ⌝ }
 {
     let mut found = [0u8; LINE];
     let mut at = get16(work, Sizes::HEADS, slot) as usize;
     while at > 0 {
         let e = at - 1;
-        let u = source_of(first, s.nodes, e);
+        let u = source_of(first, s.first.nodes, e);
         found = row_with(&found, work, LINE * u);
         at = get16(work, Sizes::NEXTS, e) as usize;
     }
@@ -151,13 +151,13 @@ pub(crate) fn drop_from(
     slot: usize,
     gone: &[u8],
 )
-    requires { ⌜ (32 ≤ length (now gone)) × ((Both s (now first) (now second)) × ((slot < 9 * s .nodes) × ((Refining (decode-graph (now first)) (decode-graph (now second)) (now work)) × ((e h : ℕ) → e < s .edges → T (labelled-into (decode-graph (now first)) slot e) → h < 256 → T (has-bit (now gone) 0 h) → T (related (decode-graph (now first)) (decode-graph (now second)) ((edge (decode-graph (now first)) e) .from) h) → ⊥)))) ⌝ }
-    ensures { λ _. ⌜ (Shrank (decode-graph (now (first .entry))) (decode-graph (now (second .entry))) (now (work .entry)) (now (work .exit))) × ((e h : ℕ) → e < s .edges → T (labelled-into (decode-graph (now (first .entry))) slot e) → h < 256 → T (rel (now (work .exit)) ((edge (decode-graph (now (first .entry))) e) .from) h) → T (has-bit (now (gone .entry)) 0 h) → ⊥) ⌝ }
+    requires { ⌜ (32 ≤ length (now gone)) × ((Both s (now first) (now second)) × ((slot < 9 * s .first .nodes) × ((Refining (decode-graph (now first)) (decode-graph (now second)) (now work)) × ((e h : ℕ) → e < s .first .edges → T (labelled-into (decode-graph (now first)) slot e) → h < 256 → T (has-bit (now gone) 0 h) → T (related (decode-graph (now first)) (decode-graph (now second)) ((edge (decode-graph (now first)) e) .from) h) → ⊥)))) ⌝ }
+    ensures { λ _. ⌜ (Shrank (decode-graph (now (first .entry))) (decode-graph (now (second .entry))) (now (work .entry)) (now (work .exit))) × ((e h : ℕ) → e < s .first .edges → T (labelled-into (decode-graph (now (first .entry))) slot e) → h < 256 → T (rel (now (work .exit)) ((edge (decode-graph (now (first .entry))) e) .from) h) → T (has-bit (now (gone .entry)) 0 h) → ⊥) ⌝ }
 {
     let mut at = get16(work, Sizes::HEADS, slot) as usize;
     while at > 0 {
         let e = at - 1;
-        let u = source_of(first, s.nodes, e);
+        let u = source_of(first, s.first.nodes, e);
         drop_row(work, LINE * u, gone);
         at = get16(work, Sizes::NEXTS, e) as usize;
     }
@@ -176,7 +176,7 @@ fn hand_on_by(
     met: &[u8],
     near: &[u8],
 )
-    requires { ⌜ ((32 ≤ length (now row)) × ((32 ≤ length (now met)) × (32 ≤ length (now near)))) × ((Both s (now first) (now second)) × ((v < s .nodes) × ((label < 9) × ((Refining (decode-graph (now first)) (decode-graph (now second)) (now work)) × ((((NodeMatched (decode-graph (now first)) (decode-graph (now second)) (now work) v) × (LostMet (decode-graph (now second)) (now work) v (now row) (now met))) × (Preceding (decode-graph (now second)) (now row) (now near))) × (Contained (decode-graph (now first)) (decode-graph (now second)) v (now row))))))) ⌝ }
+    requires { ⌜ ((32 ≤ length (now row)) × ((32 ≤ length (now met)) × (32 ≤ length (now near)))) × ((Both s (now first) (now second)) × ((v < s .first .nodes) × ((label < 9) × ((Refining (decode-graph (now first)) (decode-graph (now second)) (now work)) × ((((NodeMatched (decode-graph (now first)) (decode-graph (now second)) (now work) v) × (LostMet (decode-graph (now second)) (now work) v (now row) (now met))) × (Preceding (decode-graph (now second)) (now row) (now near))) × (Contained (decode-graph (now first)) (decode-graph (now second)) v (now row))))))) ⌝ }
     ensures { λ _. ⌜ (Shrank (decode-graph (now (first .entry))) (decode-graph (now (second .entry))) (now (work .entry)) (now (work .exit))) × (LabelMatched (decode-graph (now (first .entry))) (decode-graph (now (second .entry))) (now (work .exit)) v label (now (row .entry))) ⌝ }
 {
     let slot = 9 * v + label;
@@ -196,7 +196,7 @@ fn hand_on_by(
 
 // Hands on the row of node v by every label.
 pub(crate) fn hand_on(first: &[u8], second: &[u8], s: Sizes, work: &mut [u8], v: usize, row: &[u8])
-    requires { ⌜ (32 ≤ length (now row)) × ((Both s (now first) (now second)) × ((v < s .nodes) × ((Refining (decode-graph (now first)) (decode-graph (now second)) (now work)) × ((NodeMatched (decode-graph (now first)) (decode-graph (now second)) (now work) v) × (Contained (decode-graph (now first)) (decode-graph (now second)) v (now row)))))) ⌝ }
+    requires { ⌜ (32 ≤ length (now row)) × ((Both s (now first) (now second)) × ((v < s .first .nodes) × ((Refining (decode-graph (now first)) (decode-graph (now second)) (now work)) × ((NodeMatched (decode-graph (now first)) (decode-graph (now second)) (now work) v) × (Contained (decode-graph (now first)) (decode-graph (now second)) v (now row)))))) ⌝ }
     ensures { λ _. ⌜ (Shrank (decode-graph (now (first .entry))) (decode-graph (now (second .entry))) (now (work .entry)) (now (work .exit))) × ((l : ℕ) → l < 9 → LabelMatched (decode-graph (now (first .entry))) (decode-graph (now (second .entry))) (now (work .exit)) v l (now (row .entry))) ⌝ }
 {
     let lost = row_without(work, Sizes::HELD + LINE * v, row);

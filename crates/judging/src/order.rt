@@ -24,13 +24,13 @@ struct Place {
 
 // Leaves the node, for the one from which it was met; a root was met from itself.
 fn leave(first: &[u8], second: &[u8], s: Sizes, work: &mut [u8], w: Place) -> Place
-    requires { ⌜ (Both s (now first) (now second)) × ((w .node < s .nodes) × (165152 ≤ length (now work))) ⌝ }
-    ensures { λ r. ⌜ (r .node < s .nodes) × (Outside 29760 30816 (now (work .entry)) (now (work .exit))) ⌝ }
+    requires { ⌜ (Both s (now first) (now second)) × ((w .node < s .first .nodes) × (165152 ≤ length (now work))) ⌝ }
+    ensures { λ r. ⌜ (r .node < s .first .nodes) × (Outside 29760 30816 (now (work .entry)) (now (work .exit))) ⌝ }
 {
     let at = w.node;
     let left = w.left;
     let up = get8(work, Sizes::PARENTS, at) as usize;
-    if (s.nodes <= left) | (s.nodes <= up) {
+    if (s.first.nodes <= left) | (s.first.nodes <= up) {
         return Place {
             node: at,
             left: left,
@@ -47,15 +47,15 @@ fn leave(first: &[u8], second: &[u8], s: Sizes, work: &mut [u8], w: Place) -> Pl
 
 // Goes along the next edge of the node, or leaves it.
 fn step(first: &[u8], second: &[u8], s: Sizes, work: &mut [u8], w: Place) -> Place
-    requires { ⌜ (Both s (now first) (now second)) × ((w .node < s .nodes) × (165152 ≤ length (now work))) ⌝ }
-    ensures { λ r. ⌜ (r .node < s .nodes) × (Outside 29760 30816 (now (work .entry)) (now (work .exit))) ⌝ }
+    requires { ⌜ (Both s (now first) (now second)) × ((w .node < s .first .nodes) × (165152 ≤ length (now work))) ⌝ }
+    ensures { λ r. ⌜ (r .node < s .first .nodes) × (Outside 29760 30816 (now (work .entry)) (now (work .exit))) ⌝ }
 {
     let at = w.node;
     let e = get16(work, Sizes::CURSORS, at) as usize;
-    if s.edges <= e {
+    if s.first.edges <= e {
         return leave(first, second, s, work, w);
     }
-    let EdgeAt::Is(x) = edge_at(first, s.nodes, e, 0) else {
+    let EdgeAt::Is(x) = edge_at(first, s.first.nodes, e, 0) else {
         return w;
     };
     if x.from != at {
@@ -83,7 +83,7 @@ fn walk_from(
     root: usize,
     left: usize,
 ) -> usize
-    requires { ⌜ (Both s (now first) (now second)) × ((root < s .nodes) × (165152 ≤ length (now work))) ⌝ }
+    requires { ⌜ (Both s (now first) (now second)) × ((root < s .first .nodes) × (165152 ≤ length (now work))) ⌝ }
     ensures { λ _. ⌜ Outside 29760 30816 (now (work .entry)) (now (work .exit)) ⌝ }
 {
     let mut w = Place {
@@ -91,7 +91,7 @@ fn walk_from(
         left: left,
         ended: false,
     };
-    let mut steps = s.edges + s.nodes;
+    let mut steps = s.first.edges + s.first.nodes;
     while steps > 0 {
         if w.ended {
             return w.left;
@@ -104,7 +104,7 @@ fn walk_from(
 
 // Walks from a root that was not met. How many nodes are left by then.
 fn visit(first: &[u8], second: &[u8], s: Sizes, work: &mut [u8], root: usize, left: usize) -> usize
-    requires { ⌜ (Both s (now first) (now second)) × ((root < s .nodes) × (165152 ≤ length (now work))) ⌝ }
+    requires { ⌜ (Both s (now first) (now second)) × ((root < s .first .nodes) × (165152 ≤ length (now work))) ⌝ }
     ensures { λ _. ⌜ Outside 29760 30816 (now (work .entry)) (now (work .exit)) ⌝ }
 {
     if has_bit(work, Sizes::SEEN, root) {
@@ -120,10 +120,10 @@ fn put_cursors(first: &[u8], second: &[u8], s: Sizes, work: &mut [u8])
     requires { ⌜ (Both s (now first) (now second)) × (165152 ≤ length (now work)) ⌝ }
     ensures { λ _. ⌜ Outside 29760 30816 (now (work .entry)) (now (work .exit)) ⌝ }
 {
-    let mut left = s.edges;
+    let mut left = s.first.edges;
     while left > 0 {
         left -= 1;
-        let u = source_of(first, s.nodes, left);
+        let u = source_of(first, s.first.nodes, left);
         put16(work, Sizes::CURSORS, u, left as u16);
     }
 }
@@ -136,7 +136,7 @@ pub(crate) fn put_in_order(first: &[u8], second: &[u8], s: Sizes, work: &mut [u8
     put_cursors(first, second, s, work);
     let mut root = 0;
     let mut left = 0;
-    while root < s.nodes {
+    while root < s.first.nodes {
         left = visit(first, second, s, work, root, left);
         root += 1;
     }

@@ -24,7 +24,7 @@ use files::encode::LINE;
 
 // Takes the row of node v: hands on what it has lost, and holds it.
 fn take(first: &[u8], second: &[u8], s: Sizes, work: &mut [u8], v: usize)
-    requires { ⌜ (Both s (now first) (now second)) × ((v < s .nodes) × ((Refining (decode-graph (now first)) (decode-graph (now second)) (now work)) × (NodeMatched (decode-graph (now first)) (decode-graph (now second)) (now work) v))) ⌝ }
+    requires { ⌜ (Both s (now first) (now second)) × ((v < s .first .nodes) × ((Refining (decode-graph (now first)) (decode-graph (now second)) (now work)) × (NodeMatched (decode-graph (now first)) (decode-graph (now second)) (now work) v))) ⌝ }
     ensures { λ _. ⌜ Took (decode-graph (now (first .entry))) (decode-graph (now (second .entry))) v (now (work .entry)) (now (work .exit)) ⌝ }
 {
     let row = row_at(work, LINE * v);
@@ -34,12 +34,12 @@ fn take(first: &[u8], second: &[u8], s: Sizes, work: &mut [u8], v: usize)
 
 // The nodes of the second graph without an edge of this label.
 fn lacking(s: Sizes, work: &[u8], label: usize) -> [u8; LINE]
-    requires { ⌜ (165152 ≤ length (now work)) × ((s .nodes2 ≤ 256) × (label < 9)) ⌝ }
-    ensures { λ r. ⌜ (length r ≡ 32) × (Lacking (now (work .entry)) label (s .nodes2) r) ⌝ }
+    requires { ⌜ (165152 ≤ length (now work)) × ((s .second .nodes ≤ 256) × (label < 9)) ⌝ }
+    ensures { λ r. ⌜ (length r ≡ 32) × (Lacking (now (work .entry)) label (s .second .nodes) r) ⌝ }
 {
     let mut row = [0u8; LINE];
     let mut x = 0;
-    while x < s.nodes2 {
+    while x < s.second.nodes {
         if !any_at(work, Sizes::NEIGHBOURS + LINE * (Sizes::ROWS * x + label)) {
             put_bit(&mut row, 0, x);
         }
@@ -55,7 +55,7 @@ fn drop_lacking_by(first: &[u8], second: &[u8], s: Sizes, work: &mut [u8], label
 {
     let gone = lacking(s, work, label);
     let mut v = 0;
-    while v < s.nodes {
+    while v < s.first.nodes {
         drop_from(first, second, s, work, 9 * v + label, &gone);
         v += 1;
     }
@@ -75,12 +75,12 @@ fn drop_lacking(first: &[u8], second: &[u8], s: Sizes, work: &mut [u8])
 
 // The row of all nodes of the second graph.
 fn everything(s: Sizes) -> [u8; LINE]
-    requires { ⌜ s .nodes2 ≤ 256 ⌝ }
-    ensures { λ r. ⌜ (length r ≡ 32) × ((h : ℕ) → h < 256 → has-bit r 0 h ≡ ltb h (s .nodes2)) ⌝ }
+    requires { ⌜ s .second .nodes ≤ 256 ⌝ }
+    ensures { λ r. ⌜ (length r ≡ 32) × ((h : ℕ) → h < 256 → has-bit r 0 h ≡ ltb h (s .second .nodes)) ⌝ }
 {
     let mut row = [0u8; LINE];
     let mut x = 0;
-    while x < s.nodes2 {
+    while x < s.second.nodes {
         put_bit(&mut row, 0, x);
         x += 1;
     }
@@ -90,11 +90,11 @@ fn everything(s: Sizes) -> [u8; LINE]
 // Holds all nodes of the second graph for every node of the first.
 fn hold_everything(first: &[u8], second: &[u8], s: Sizes, work: &mut [u8])
     requires { ⌜ (Both s (now first) (now second)) × (165152 ≤ length (now work)) ⌝ }
-    ensures { λ _. ⌜ ((v h : ℕ) → v < s .nodes → h < 256 → held (now (work .exit)) v h ≡ ltb h (s .nodes2)) × (Outside 8192 16384 (now (work .entry)) (now (work .exit))) ⌝ }
+    ensures { λ _. ⌜ ((v h : ℕ) → v < s .first .nodes → h < 256 → held (now (work .exit)) v h ≡ ltb h (s .second .nodes)) × (Outside 8192 16384 (now (work .entry)) (now (work .exit))) ⌝ }
 {
     let row = everything(s);
     let mut v = 0;
-    while v < s.nodes {
+    while v < s.first.nodes {
         put_row(work, Sizes::HELD + LINE * v, &row);
         v += 1;
     }
@@ -102,7 +102,7 @@ fn hold_everything(first: &[u8], second: &[u8], s: Sizes, work: &mut [u8])
 
 // Whether node v has lost anything since its row was last taken.
 fn has_lost(first: &[u8], second: &[u8], s: Sizes, work: &[u8], v: usize) -> bool
-    requires { ⌜ (Both s (now first) (now second)) × ((v < s .nodes) × (165152 ≤ length (now work))) ⌝ }
+    requires { ⌜ (Both s (now first) (now second)) × ((v < s .first .nodes) × (165152 ≤ length (now work))) ⌝ }
     ensures { λ r. ⌜ (T r → (h : ℕ) × (h < 256) × T (held (now (work .entry)) v h) × (T (rel (now (work .entry)) v h) → ⊥)) × (T (not r) → (h : ℕ) → h < 256 → T (held (now (work .entry)) v h) → T (rel (now (work .entry)) v h)) ⌝ }
 {
     exceeds(work, Sizes::HELD + LINE * v, LINE * v)
@@ -110,8 +110,8 @@ fn has_lost(first: &[u8], second: &[u8], s: Sizes, work: &[u8], v: usize) -> boo
 
 // Takes the row of node v until it has lost nothing, not even by an edge to itself.
 fn settle_node(first: &[u8], second: &[u8], s: Sizes, work: &mut [u8], v: usize)
-    requires { ⌜ (Both s (now first) (now second)) × ((v < s .nodes) × (Matching (decode-graph (now first)) (decode-graph (now second)) (s .nodes) (now work))) ⌝ }
-    ensures { λ _. ⌜ (Matching (decode-graph (now (first .entry))) (decode-graph (now (second .entry))) (s .nodes) (now (work .exit))) × (load (s .nodes) (now (work .exit)) ≤ load (s .nodes) (now (work .entry))) ⌝ }
+    requires { ⌜ (Both s (now first) (now second)) × ((v < s .first .nodes) × (Matching (decode-graph (now first)) (decode-graph (now second)) (s .first .nodes) (now work))) ⌝ }
+    ensures { λ _. ⌜ (Matching (decode-graph (now (first .entry))) (decode-graph (now (second .entry))) (s .first .nodes) (now (work .exit))) × (load (s .first .nodes) (now (work .exit)) ≤ load (s .first .nodes) (now (work .entry))) ⌝ }
 {
     while has_lost(first, second, s, work, v) {
         take(first, second, s, work, v);
@@ -120,14 +120,14 @@ fn settle_node(first: &[u8], second: &[u8], s: Sizes, work: &mut [u8], v: usize)
 
 // Settles the nodes in the order in which the walk left them.
 fn sweep(first: &[u8], second: &[u8], s: Sizes, work: &mut [u8])
-    requires { ⌜ (Both s (now first) (now second)) × (Matching (decode-graph (now first)) (decode-graph (now second)) (s .nodes) (now work)) ⌝ }
-    ensures { λ _. ⌜ (Matching (decode-graph (now (first .entry))) (decode-graph (now (second .entry))) (s .nodes) (now (work .exit))) × (load (s .nodes) (now (work .exit)) ≤ load (s .nodes) (now (work .entry))) ⌝ }
+    requires { ⌜ (Both s (now first) (now second)) × (Matching (decode-graph (now first)) (decode-graph (now second)) (s .first .nodes) (now work)) ⌝ }
+    ensures { λ _. ⌜ (Matching (decode-graph (now (first .entry))) (decode-graph (now (second .entry))) (s .first .nodes) (now (work .exit))) × (load (s .first .nodes) (now (work .exit)) ≤ load (s .first .nodes) (now (work .entry))) ⌝ }
 {
     let mut i = 0;
-    while i < s.nodes {
+    while i < s.first.nodes {
         let v = get8(work, Sizes::ORDER, i) as usize;
         i += 1;
-        if s.nodes <= v {
+        if s.first.nodes <= v {
             continue;
         }
         settle_node(first, second, s, work, v);
@@ -137,10 +137,10 @@ fn sweep(first: &[u8], second: &[u8], s: Sizes, work: &mut [u8])
 // The lowest node that has lost anything, or the number of nodes.
 fn lowest_unsettled(first: &[u8], second: &[u8], s: Sizes, work: &[u8]) -> usize
     requires { ⌜ (Both s (now first) (now second)) × (165152 ≤ length (now work)) ⌝ }
-    ensures { λ r. ⌜ (r < s .nodes → (h : ℕ) × (h < 256) × T (held (now (work .entry)) r h) × (T (rel (now (work .entry)) r h) → ⊥)) × (s .nodes ≤ r → (v h : ℕ) → v < s .nodes → h < 256 → T (held (now (work .entry)) v h) → T (rel (now (work .entry)) v h)) ⌝ }
+    ensures { λ r. ⌜ (r < s .first .nodes → (h : ℕ) × (h < 256) × T (held (now (work .entry)) r h) × (T (rel (now (work .entry)) r h) → ⊥)) × (s .first .nodes ≤ r → (v h : ℕ) → v < s .first .nodes → h < 256 → T (held (now (work .entry)) v h) → T (rel (now (work .entry)) v h)) ⌝ }
 {
     let mut v = 0;
-    while v < s.nodes {
+    while v < s.first.nodes {
         if has_lost(first, second, s, work, v) {
             return v;
         }
@@ -151,12 +151,12 @@ fn lowest_unsettled(first: &[u8], second: &[u8], s: Sizes, work: &[u8]) -> usize
 
 // Takes rows until none has lost anything: sweep by sweep, and after each the lowest that is left.
 fn settle(first: &[u8], second: &[u8], s: Sizes, work: &mut [u8])
-    requires { ⌜ (Both s (now first) (now second)) × (Matching (decode-graph (now first)) (decode-graph (now second)) (s .nodes) (now work)) ⌝ }
+    requires { ⌜ (Both s (now first) (now second)) × (Matching (decode-graph (now first)) (decode-graph (now second)) (s .first .nodes) (now work)) ⌝ }
     ensures { λ _. ⌜ Settled (decode-graph (now (first .entry))) (decode-graph (now (second .entry))) (now (work .exit)) ⌝ }
 {
     sweep(first, second, s, work);
     let mut v = lowest_unsettled(first, second, s, work);
-    while v < s.nodes {
+    while v < s.first.nodes {
         take(first, second, s, work, v);
         sweep(first, second, s, work);
         v = lowest_unsettled(first, second, s, work);

@@ -42,10 +42,10 @@ fn kind_of(graph: &[u8], g: usize) -> usize
 // Puts the second graph's nodes into the rows of their kinds.
 fn put_kinds(first: &[u8], second: &[u8], s: Sizes, work: &mut [u8])
     requires { ⌜ (Both s (now first) (now second)) × ((165152 ≤ length (now work)) × ((q : ℕ) → 16384 ≤ q → q < 16960 → getD (now work) q 0 ≡ 0)) ⌝ }
-    ensures { λ _. ⌜ (KindRows (decode-graph (now (second .entry))) (s .nodes2) (now (work .exit))) × (Outside 16384 16960 (now (work .entry)) (now (work .exit))) ⌝ }
+    ensures { λ _. ⌜ (KindRows (decode-graph (now (second .entry))) (s .second .nodes) (now (work .exit))) × (Outside 16384 16960 (now (work .entry)) (now (work .exit))) ⌝ }
 {
     let mut h = 0;
-    while h < s.nodes2 {
+    while h < s.second.nodes {
         let k = kind_of(second, h);
         put_bit(work, Sizes::KINDS + LINE * k, h);
         h += 1;
@@ -54,11 +54,11 @@ fn put_kinds(first: &[u8], second: &[u8], s: Sizes, work: &mut [u8])
 
 // Relates every node of the first graph to all of its kind.
 fn relate(first: &[u8], second: &[u8], s: Sizes, work: &mut [u8])
-    requires { ⌜ (Both s (now first) (now second)) × ((165152 ≤ length (now work)) × (KindRows (decode-graph (now second)) (s .nodes2) (now work))) ⌝ }
-    ensures { λ _. ⌜ ((g h : ℕ) → g < s .nodes → h < 256 → rel (now (work .exit)) g h ≡ (ltb h (s .nodes2) && alike (node (decode-graph (now (first .entry))) g) (node (decode-graph (now (second .entry))) h))) × (Outside 0 8192 (now (work .entry)) (now (work .exit))) ⌝ }
+    requires { ⌜ (Both s (now first) (now second)) × ((165152 ≤ length (now work)) × (KindRows (decode-graph (now second)) (s .second .nodes) (now work))) ⌝ }
+    ensures { λ _. ⌜ ((g h : ℕ) → g < s .first .nodes → h < 256 → rel (now (work .exit)) g h ≡ (ltb h (s .second .nodes) && alike (node (decode-graph (now (first .entry))) g) (node (decode-graph (now (second .entry))) h))) × (Outside 0 8192 (now (work .entry)) (now (work .exit))) ⌝ }
 {
     let mut g = 0;
-    while g < s.nodes {
+    while g < s.first.nodes {
         let k = kind_of(first, g);
         let row = row_at(work, Sizes::KINDS + LINE * k);
         put_row(work, LINE * g, &row);
@@ -68,10 +68,10 @@ fn relate(first: &[u8], second: &[u8], s: Sizes, work: &mut [u8])
 
 // The slot of edge e of the first graph: nine times the node it leads to, and its label.
 fn slot_of(first: &[u8], second: &[u8], s: Sizes, e: usize) -> usize
-    requires { ⌜ (Both s (now first) (now second)) × (e < s .edges) ⌝ }
+    requires { ⌜ (Both s (now first) (now second)) × (e < s .first .edges) ⌝ }
     ensures { λ r. ⌜ r ≡ 9 * (edge (decode-graph (now (first .entry))) e) .to + (edge (decode-graph (now (first .entry))) e) .label ⌝ }
 {
-    let EdgeAt::Is(x) = edge_at(first, s.nodes, e, 0) else {
+    let EdgeAt::Is(x) = edge_at(first, s.first.nodes, e, 0) else {
         return 0;
     };
     9 * x.to + (x.label as usize)
@@ -80,10 +80,10 @@ fn slot_of(first: &[u8], second: &[u8], s: Sizes, e: usize) -> usize
 // Links every edge of the first graph to its slot.
 fn link_slots(first: &[u8], second: &[u8], s: Sizes, work: &mut [u8])
     requires { ⌜ (Both s (now first) (now second)) × ((165152 ≤ length (now work)) × ((q : ℕ) → 16960 ≤ q → q < 21568 → getD (now work) q 0 ≡ 0)) ⌝ }
-    ensures { λ _. ⌜ (Chained (now (work .exit)) 16960 21568 (labelled-into (decode-graph (now (first .entry)))) (9 * s .nodes) (s .edges)) × (Outside 16960 29760 (now (work .entry)) (now (work .exit))) ⌝ }
+    ensures { λ _. ⌜ (Chained (now (work .exit)) 16960 21568 (labelled-into (decode-graph (now (first .entry)))) (9 * s .first .nodes) (s .first .edges)) × (Outside 16960 29760 (now (work .entry)) (now (work .exit))) ⌝ }
 {
     let mut e = 0;
-    while e < s.edges {
+    while e < s.first.edges {
         let slot = slot_of(first, second, s, e);
         link(work, Sizes::HEADS, Sizes::NEXTS, slot, e);
         e += 1;
@@ -92,10 +92,10 @@ fn link_slots(first: &[u8], second: &[u8], s: Sizes, work: &mut [u8])
 
 // Puts edge j of the second graph into the successors of where it comes from and the predecessors of where it leads to.
 fn put_edge(first: &[u8], second: &[u8], s: Sizes, work: &mut [u8], j: usize)
-    requires { ⌜ (Both s (now first) (now second)) × ((j < s .edges2) × (165152 ≤ length (now work))) ⌝ }
+    requires { ⌜ (Both s (now first) (now second)) × ((j < s .second .edges) × (165152 ≤ length (now work))) ⌝ }
     ensures { λ _. ⌜ now (work .exit) ≡ put-bit (put-bit (now (work .entry)) (30816 + 32 * (10 * (edge (decode-graph (now (second .entry))) j) .from + (edge (decode-graph (now (second .entry))) j) .label)) ((edge (decode-graph (now (second .entry))) j) .to)) (30816 + 32 * (10 * (edge (decode-graph (now (second .entry))) j) .to + 9)) ((edge (decode-graph (now (second .entry))) j) .from) ⌝ }
 {
-    let EdgeAt::Is(x) = edge_at(second, s.nodes2, j, 0) else {
+    let EdgeAt::Is(x) = edge_at(second, s.second.nodes, j, 0) else {
         return;
     };
     let label = x.label as usize;
@@ -113,11 +113,11 @@ fn put_edge(first: &[u8], second: &[u8], s: Sizes, work: &mut [u8], j: usize)
 
 // Puts all edges of the second graph.
 fn put_edges(first: &[u8], second: &[u8], s: Sizes, work: &mut [u8])
-    requires { ⌜ (Both s (now first) (now second)) × ((165152 ≤ length (now work)) × ((q : ℕ) → 30816 ≤ q → q < 30816 + 320 * s .nodes2 → getD (now work) q 0 ≡ 0)) ⌝ }
-    ensures { λ _. ⌜ (Neighbours (decode-graph (now (second .entry))) (s .nodes2) (now (work .exit))) × (Outside 30816 112736 (now (work .entry)) (now (work .exit))) ⌝ }
+    requires { ⌜ (Both s (now first) (now second)) × ((165152 ≤ length (now work)) × ((q : ℕ) → 30816 ≤ q → q < 30816 + 320 * s .second .nodes → getD (now work) q 0 ≡ 0)) ⌝ }
+    ensures { λ _. ⌜ (Neighbours (decode-graph (now (second .entry))) (s .second .nodes) (now (work .exit))) × (Outside 30816 112736 (now (work .entry)) (now (work .exit))) ⌝ }
 {
     let mut j = 0;
-    while j < s.edges2 {
+    while j < s.second.edges {
         put_edge(first, second, s, work, j);
         j += 1;
     }
@@ -128,7 +128,7 @@ pub(crate) fn prepare(first: &[u8], second: &[u8], s: Sizes, work: &mut [u8])
     requires { ⌜ (Both s (now first) (now second)) × (165152 ≤ length (now work)) ⌝ }
     ensures { λ _. ⌜ Refining (decode-graph (now (first .entry))) (decode-graph (now (second .entry))) (now (work .exit)) ⌝ }
 {
-    clear(&mut work[Sizes::KINDS..Sizes::NEIGHBOURS + Sizes::ROWS * LINE * s.nodes2]);
+    clear(&mut work[Sizes::KINDS..Sizes::NEIGHBOURS + Sizes::ROWS * LINE * s.second.nodes]);
     put_kinds(first, second, s, work);
     link_slots(first, second, s, work);
     put_edges(first, second, s, work);

@@ -1,10 +1,9 @@
-// How much two accepted graphs hold, the second one's counts with a 2, and where the parts of comparing's lent buffer stand.
+// Two accepted graphs as the calls hold them, and where the parts of comparing's lent buffer stand.
+use files::view::GraphView;
 
 pub struct Sizes {
-    pub nodes: usize,
-    pub edges: usize,
-    pub nodes2: usize,
-    pub edges2: usize,
+    pub first: GraphView,
+    pub second: GraphView,
 }
 
 impl Sizes {

@@ -1,24 +1,22 @@
 -- For the call: what an accepted property allows the search, when a model is too large, and the outcome of one that is counted and written.
-use mathlib.Core.Path.{_≡_, sym, ap, subst, _∙_}
+use mathlib.Core.Path.{_≡_, refl, sym, ap, subst, _∙_}
 use mathlib.Core.Logic.{_⊎_, inl, inr}
 use mathlib.Core.List.{List, [], _∷_, _++_}
+use mathlib.Core.Option.{none}
 use Prim.Native.Nat.{ℕ, zero, suc, _+_, _*_, _≤_, _<_}
 use native.Mathlib.Omega.{arith}
 use lib.ListN.{length, drop}
 use Rattle.files.specs.Access.{PropertyFile}
-use Rattle.files.specs.Checking.{checked}
-use Rattle.files.specs.Checking.Laws.{accepted-counts}
 use Rattle.files.specs.Decode.{decode-interface, decode-property, graph-bytes}
 use Rattle.files.specs.Decode.Properties.{decoded-rows, decoded-property}
 use Rattle.files.specs.Graph.{Graph}
 use Rattle.files.specs.Interface.{Interface}
 use Rattle.files.specs.Limits.{desk}
 use Rattle.files.specs.Outcome.{Answers, TooLarge, refusal-at, refused-answer, verdict-answer}
-use Rattle.files.specs.Outcome.Steps.{answers-large, answers-short, answers-written}
+use Rattle.files.specs.Outcome.Ends.{answers-large, answers-short, answers-written}
 use Rattle.files.specs.Property.{Row, Property}
-use Rattle.files.specs.Refusal.{property}
-use Rattle.files.specs.declared.check.Checked.{Checked}
-use Rattle.files.specs.declared.check.Checked.the-variants.{Accepted}
+use Rattle.files.specs.Record.{count}
+use Rattle.files.specs.Refusal.{property, refusal}
 use Rattle.files.specs.declared.record.Limits.{Limits}
 use Rattle.files.specs.declared.refusal.Refusal.{Refusal}
 use Rattle.maximal.specs.declared.places.Scope.{Scope}
@@ -35,14 +33,13 @@ use Rattle.maximal.specs.Modelling.{from-size, Bounded}
 -- ---- accepted files
 
 -- the rows of an accepted property, and as many or-rows and states as the limits allow
-pub scope-of : (L : Limits) (p : List ℕ) → Bounded L → (x : Checked) (a n : ℕ) → x ≡ checked L property p 2 → x ≡ Accepted a n → Scoped (record { rows = n; ors = L .ors; states = L .nodes }) p
-scope-of L p b x a n e d =
-    let c = accepted-counts L property p 2 a n (sym e ∙ d) in
-    let f = decoded-property L p (c .0) in
+pub scope-of : (L : Limits) (p : List ℕ) → Bounded L → refusal L property p ≡ none → Scoped (record { rows = count p; ors = L .ors; states = L .nodes }) p
+scope-of L p b a =
+    let f = decoded-property L p a in
     record {
-      file = record { limits = L; accepted = c .0 };
-      rows-are = c .2;
-      few-rows = omega (arith, c .2, decoded-rows L p (c .0), f .few-rows, b .rows-fit);
+      file = record { limits = L; accepted = a };
+      rows-are = refl;
+      few-rows = omega (arith, decoded-rows L p a, f .few-rows, b .rows-fit);
       enough-ors = omega (arith, or-count-is (decode-property p), f .few-ors);
       few-ors = b .ors-fit;
       few-states = b .nodes-fit;

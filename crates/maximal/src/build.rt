@@ -5,8 +5,9 @@ ghost use lib.ListN.{length};
 ghost use Rattle.files.specs.Access.{InterfaceFile};
 ghost use Rattle.files.specs.Decode.{decode-interface, decode-property};
 ghost use Rattle.files.specs.Outcome.{Answers, Does};
+ghost use Rattle.files.specs.Settling.{Settles};
 ghost use Rattle.maximal.specs.Charting.{Scoped, Charted};
-ghost use Rattle.maximal.specs.Modelling.{modelled, modelled-answer, from-interface, from-property, from-size, Bounded};
+ghost use Rattle.maximal.specs.Modelling.{modelled, modelled-answer, model-first, from-size, Bounded};
 use crate::answers::Modelled;
 use crate::explore::explore;
 use crate::order::arrange;
@@ -15,12 +16,14 @@ use crate::places::Scope;
 use crate::written::count_edges;
 use crate::written::write_model;
 use files::cells::clear;
-use files::check::Checked;
-use files::check::check_interface;
-use files::check::check_property;
+use files::offence::FileKind;
 use files::record::Limits;
 use files::record::Record;
 use files::refusal::Refusal;
+use files::settle::Settled;
+use files::settle::clear_after;
+use files::settle::then_file;
+use files::settle::whole_settled;
 
 // The model whose c states are found, in order: counted, then written if it fits.
 fn write_found(
@@ -66,45 +69,13 @@ fn build(
     write_found(interface, property, s, out, work, limits, c)
 }
 
-// The property's refusals, then the model.
-fn model_property(
-    interface: &[u8],
-    property: &[u8],
-    out: &mut [u8],
-    work: &mut [u8],
-    limits: Limits,
-) -> Modelled
-    requires { ⌜ (InterfaceFile (now interface)) × ((Bounded limits) × (103456 ≤ length (now work))) ⌝ }
-    ensures { λ r. ⌜ Answers (from-property limits (now (interface .entry)) (now (property .entry)) (length (now (out .entry)))) (now (out .entry)) (now (out .exit)) (modelled-answer r) ⌝ }
+// The numbers that come before the model, in the published order.
+fn check_model(interface: &[u8], property: &[u8], work: usize, limits: Limits) -> Settled
+    ensures { λ r. ⌜ Settles (model-first limits (now (interface .entry)) (now (property .entry)) work) r ⌝ }
 {
-    match check_property(property, 2, limits) {
-        Checked::Refused(refusal) => Modelled::Refused(refusal),
-        Checked::Accepted { records: rows, .. } => {
-            let s = Scope {
-                rows: rows,
-                ors: limits.ors,
-                states: limits.nodes,
-            };
-            build(interface, property, s, out, work, limits)
-        }
-    }
-}
-
-// Both files' refusals, in argument order, then the model.
-fn model_files(
-    interface: &[u8],
-    property: &[u8],
-    out: &mut [u8],
-    work: &mut [u8],
-    limits: Limits,
-) -> Modelled
-    requires { ⌜ (Bounded limits) × (103456 ≤ length (now work)) ⌝ }
-    ensures { λ r. ⌜ Answers (from-interface limits (now (interface .entry)) (now (property .entry)) (length (now (out .entry)))) (now (out .entry)) (now (out .exit)) (modelled-answer r) ⌝ }
-{
-    match check_interface(interface, 1, limits) {
-        Checked::Refused(refusal) => Modelled::Refused(refusal),
-        Checked::Accepted { .. } => model_property(interface, property, out, work, limits),
-    }
+    let room = whole_settled(13, work < Places::ROOM);
+    let sided = then_file(room, FileKind::Interface, interface, 1, limits);
+    then_file(sided, FileKind::Property, property, 2, limits)
 }
 
 // Models within limits that the buffer allows.
@@ -118,10 +89,20 @@ pub fn model_within(
     requires { ⌜ Bounded limits ⌝ }
     ensures { λ r. ⌜ Does (modelled limits (now (interface .entry)) (now (property .entry)) (length (now (out .entry))) (length (now (work .entry)))) (now (out .entry)) (now (work .entry)) (now (out .exit)) (now (work .exit)) (modelled-answer r) ⌝ }
 {
-    if work.len() < Places::ROOM {
-        return Modelled::Refused(Refusal::whole(13));
+    match check_model(interface, property, work.len(), limits) {
+        Settled::Refused(refusal) => {
+            clear_after(refusal, work);
+            Modelled::Refused(refusal)
+        }
+        Settled::Passed => {
+            let s = Scope {
+                rows: property.len() / Record::LEN,
+                ors: limits.ors,
+                states: limits.nodes,
+            };
+            let answer = build(interface, property, s, out, work, limits);
+            clear(work);
+            answer
+        }
     }
-    let answer = model_files(interface, property, out, work, limits);
-    clear(work);
-    answer
 }

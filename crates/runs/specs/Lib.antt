@@ -2,7 +2,6 @@ pub mod Runs
 pub mod Join
 pub mod Summary
 pub mod Answer
-pub mod Checks
 pub mod Joining
 pub mod Showing
 pub mod Forward

@@ -10,24 +10,29 @@ ghost use Rattle.files.specs.Decode.{decode-graph, graph-bytes};
 ghost use Rattle.files.specs.Outcome.{Answers, answered};
 ghost use Rattle.files.specs.Record.{count};
 ghost use Rattle.files.specs.Refusal.{nodes-of};
+ghost use Rattle.files.specs.Settling.{Settles, WherePassed};
+ghost use Rattle.files.specs.View.{Views};
 ghost use Rattle.judging.specs.Judge.{Strides};
 ghost use Rattle.judging.specs.Refinement.{Both};
 ghost use Rattle.runs.specs.Join.{join};
-ghost use Rattle.runs.specs.Joining.{joined, joined-answer, join-said, from-sides, from-size, moved-bytes};
+ghost use Rattle.runs.specs.Joining.{joined, joined-answer, join-said, join-first, from-size, moved-bytes};
 use crate::answers::Joined;
-use crate::checks::check_side;
 use files::cells::copy_at;
-use files::check::Checked;
 use files::encode::put_record;
 use files::graph::EdgeAt;
 use files::graph::edge_at;
 use files::interface::provided_methods;
 use files::interface::required_methods;
+use files::offence::FileKind;
 use files::record::Limits;
 use files::record::Record;
 use files::refusal::Refusal;
-use files::sides::first_foreign;
-use files::sides::shares;
+use files::settle::Settled;
+use files::settle::then_apart;
+use files::settle::then_file;
+use files::settle::then_graph;
+use files::settle::then_own;
+use files::view::ViewedBoth;
 use judging::sizes::Sizes;
 
 // Node v of the second graph, counted on from the first's n nodes.
@@ -40,24 +45,24 @@ fn moved_node(n: usize, v: usize) -> u8
 
 // Writes edge j of the second graph, with its nodes counted on from the first's, as record `at`.
 fn write_moved(graph2: &[u8], s: Sizes, out: &mut [u8], at: usize, j: usize)
-    requires { ⌜ (GraphFile (now graph2)) × ((s .nodes2 ≡ nodes-of (now graph2)) × ((s .edges2 ≡ count (now graph2) - nodes-of (now graph2)) × ((s .nodes + s .nodes2 ≤ 256) × ((j < s .edges2) × (6 * at + 6 ≤ length (now out)))))) ⌝ }
-    ensures { λ _. ⌜ now (out .exit) ≡ put-at (now (out .entry)) (6 * at) (moved-bytes (s .nodes) (decode-graph (now (graph2 .entry))) j) ⌝ }
+    requires { ⌜ (GraphFile (now graph2)) × ((s .second .nodes ≡ nodes-of (now graph2)) × ((s .second .edges ≡ count (now graph2) - nodes-of (now graph2)) × ((s .first .nodes + s .second .nodes ≤ 256) × ((j < s .second .edges) × (6 * at + 6 ≤ length (now out)))))) ⌝ }
+    ensures { λ _. ⌜ now (out .exit) ≡ put-at (now (out .entry)) (6 * at) (moved-bytes (s .first .nodes) (decode-graph (now (graph2 .entry))) j) ⌝ }
 {
-    let EdgeAt::Is(e) = edge_at(graph2, s.nodes2, j, 4) else {
+    let EdgeAt::Is(e) = edge_at(graph2, s.second.nodes, j, 4) else {
         return;
     };
-    let from = moved_node(s.nodes, e.from);
-    let to = moved_node(s.nodes, e.to);
+    let from = moved_node(s.first.nodes, e.from);
+    let to = moved_node(s.first.nodes, e.to);
     put_record(out, at, Record::edge(from, e.label, to));
 }
 
 // Writes the second graph's edges from record `first` on.
 fn write_all_moved(graph2: &[u8], s: Sizes, out: &mut [u8], first: usize)
-    requires { ⌜ (GraphFile (now graph2)) × ((s .nodes2 ≡ nodes-of (now graph2)) × ((s .edges2 ≡ count (now graph2) - nodes-of (now graph2)) × ((s .nodes + s .nodes2 ≤ 256) × (6 * (first + s .edges2) ≤ length (now out))))) ⌝ }
-    ensures { λ _. ⌜ now (out .exit) ≡ put-at (now (out .entry)) (6 * first) (each (moved-bytes (s .nodes) (decode-graph (now (graph2 .entry)))) (span 0 (s .edges2))) ⌝ }
+    requires { ⌜ (GraphFile (now graph2)) × ((s .second .nodes ≡ nodes-of (now graph2)) × ((s .second .edges ≡ count (now graph2) - nodes-of (now graph2)) × ((s .first .nodes + s .second .nodes ≤ 256) × (6 * (first + s .second .edges) ≤ length (now out))))) ⌝ }
+    ensures { λ _. ⌜ now (out .exit) ≡ put-at (now (out .entry)) (6 * first) (each (moved-bytes (s .first .nodes) (decode-graph (now (graph2 .entry)))) (span 0 (s .second .edges))) ⌝ }
 {
     let mut j = 0;
-    while j < s.edges2 {
+    while j < s.second.edges {
         write_moved(graph2, s, out, first + j, j);
         j += 1;
     }
@@ -65,16 +70,21 @@ fn write_all_moved(graph2: &[u8], s: Sizes, out: &mut [u8], first: usize)
 
 // Writes the joined graph: the first graph's nodes, the second's, the first's edges, the second's moved.
 pub(crate) fn write_join(graph1: &[u8], graph2: &[u8], s: Sizes, out: &mut [u8])
-    requires { ⌜ (Both s (now graph1) (now graph2)) × ((s .nodes + s .nodes2 ≤ 256) × (6 * (s .nodes + s .nodes2 + s .edges + s .edges2) ≤ length (now out))) ⌝ }
+    requires { ⌜ (Both s (now graph1) (now graph2)) × ((s .first .nodes + s .second .nodes ≤ 256) × (6 * (s .first .nodes + s .second .nodes + s .first .edges + s .second .edges) ≤ length (now out))) ⌝ }
     ensures { λ _. ⌜ now (out .exit) ≡ put-at (now (out .entry)) 0 (graph-bytes (join (decode-graph (now (graph1 .entry))) (decode-graph (now (graph2 .entry))))) ⌝ }
 {
-    let cut1 = Record::LEN * s.nodes;
-    let cut2 = Record::LEN * s.nodes2;
-    let end1 = Record::LEN * (s.nodes + s.edges);
+    let cut1 = Record::LEN * s.first.nodes;
+    let cut2 = Record::LEN * s.second.nodes;
+    let end1 = Record::LEN * (s.first.nodes + s.first.edges);
     copy_at(out, 0, &graph1[..cut1]);
     copy_at(out, cut1, &graph2[..cut2]);
     copy_at(out, cut1 + cut2, &graph1[cut1..end1]);
-    write_all_moved(graph2, s, out, s.nodes + s.nodes2 + s.edges);
+    write_all_moved(
+        graph2,
+        s,
+        out,
+        s.first.nodes + s.second.nodes + s.first.edges,
+    );
 }
 
 // 11 and 12, then the joined graph and its answer.
@@ -90,8 +100,8 @@ fn join_sizes(
     requires { ⌜ (InterfaceFile (now interface1)) × ((InterfaceFile (now interface2)) × ((Both s (now graph1) (now graph2)) × (Strides limits))) ⌝ }
     ensures { λ r. ⌜ Answers (answered (from-size limits (now (interface1 .entry)) (now (graph1 .entry)) (now (interface2 .entry)) (now (graph2 .entry)) (length (now (out .entry)))) (join-said limits (now (interface1 .entry)) (now (graph1 .entry)) (now (interface2 .entry)) (now (graph2 .entry)) (length (now (out .entry))))) (now (out .entry)) (now (out .exit)) (joined-answer r) ⌝ }
 {
-    let nodes = s.nodes + s.nodes2;
-    let edges = s.edges + s.edges2;
+    let nodes = s.first.nodes + s.second.nodes;
+    let edges = s.first.edges + s.second.edges;
     if (limits.nodes < nodes) | (limits.edges < edges) {
         return Joined::Refused(Refusal::whole(11));
     }
@@ -107,31 +117,33 @@ fn join_sizes(
     }
 }
 
-// 9: a graph that is not of its interface, in argument order, then a shared method; then the rest.
-fn join_sides(
+// The numbers that come before the joined graph, in the published order.
+fn check_join(
     interface1: &[u8],
     graph1: &[u8],
     interface2: &[u8],
     graph2: &[u8],
-    out: &mut [u8],
     limits: Limits,
-    s: Sizes,
-) -> Joined
-    requires { ⌜ (InterfaceFile (now interface1)) × ((InterfaceFile (now interface2)) × ((Both s (now graph1) (now graph2)) × (Strides limits))) ⌝ }
-    ensures { λ r. ⌜ Answers (answered (from-sides limits (now (interface1 .entry)) (now (graph1 .entry)) (now (interface2 .entry)) (now (graph2 .entry)) (length (now (out .entry)))) (join-said limits (now (interface1 .entry)) (now (graph1 .entry)) (now (interface2 .entry)) (now (graph2 .entry)) (length (now (out .entry))))) (now (out .entry)) (now (out .exit)) (joined-answer r) ⌝ }
+) -> ViewedBoth
+    ensures { λ r. ⌜ (Settles (join-first limits (now (interface1 .entry)) (now (graph1 .entry)) (now (interface2 .entry)) (now (graph2 .entry))) (r .settled)) × (WherePassed (r .settled) ((Views (r .first) (now (graph1 .entry))) × (Views (r .second) (now (graph2 .entry))))) ⌝ }
 {
-    let first = first_foreign(graph1, interface1);
-    if first < s.nodes + s.edges {
-        return Joined::Refused(Refusal::at(9, 2, first));
+    let none = Settled::Passed;
+    let sided1 = then_file(none, FileKind::Interface, interface1, 1, limits);
+    let drawn1 = then_graph(sided1, graph1, 2, limits);
+    let first = drawn1.settled;
+    let view1 = drawn1.view;
+    let sided2 = then_file(first, FileKind::Interface, interface2, 3, limits);
+    let drawn2 = then_graph(sided2, graph2, 4, limits);
+    let both = drawn2.settled;
+    let view2 = drawn2.view;
+    let own1 = then_own(both, graph1, 2, interface1);
+    let own2 = then_own(own1, graph2, 4, interface2);
+    let settled = then_apart(own2, interface1, interface2);
+    ViewedBoth {
+        settled: settled,
+        first: view1,
+        second: view2,
     }
-    let second = first_foreign(graph2, interface2);
-    if second < s.nodes2 + s.edges2 {
-        return Joined::Refused(Refusal::at(9, 4, second));
-    }
-    if shares(interface1, interface2) {
-        return Joined::Refused(Refusal::whole(9));
-    }
-    join_sizes(interface1, graph1, interface2, graph2, out, limits, s)
 }
 
 // Joins within limits that leave node numbers in a byte.
@@ -146,22 +158,18 @@ pub fn join_within(
     requires { ⌜ Strides limits ⌝ }
     ensures { λ r. ⌜ Answers (joined limits (now (interface1 .entry)) (now (graph1 .entry)) (now (interface2 .entry)) (now (graph2 .entry)) (length (now (out .entry)))) (now (out .entry)) (now (out .exit)) (joined-answer r) ⌝ }
 {
-    match check_side(interface1, graph1, 1, limits) {
-        Checked::Refused(refusal) => Joined::Refused(refusal),
-        Checked::Accepted { nodes, records } => match check_side(interface2, graph2, 3, limits) {
-            Checked::Refused(refusal) => Joined::Refused(refusal),
-            Checked::Accepted {
-                nodes: nodes2,
-                records: records2,
-            } => {
-                let s = Sizes {
-                    nodes: nodes,
-                    edges: records - nodes,
-                    nodes2: nodes2,
-                    edges2: records2 - nodes2,
-                };
-                join_sides(interface1, graph1, interface2, graph2, out, limits, s)
-            }
-        },
+    let checked = check_join(interface1, graph1, interface2, graph2, limits);
+    let settled = checked.settled;
+    match settled {
+        Settled::Refused(refusal) => Joined::Refused(refusal),
+        Settled::Passed => {
+            let view1 = checked.first;
+            let view2 = checked.second;
+            let s = Sizes {
+                first: view1,
+                second: view2,
+            };
+            join_sizes(interface1, graph1, interface2, graph2, out, limits, s)
+        }
     }
 }

@@ -1,19 +1,20 @@
 // Showing: the record of a joined node, as six bytes of the file it came from. `show_within` gives the part, empty where it is refused; `show_refusal_within` says why.
 // `find_place` says both at once, for a caller that has the files at hand.
 ghost use mathlib.Core.Path.{_≡_};
-ghost use Prim.Native.Nat.{_+_, _*_, _≤_, _<_};
+ghost use Prim.Native.Nat.{_+_, _*_, _≤_};
 ghost use lib.ListN.{length};
 ghost use Rattle.files.specs.Outcome.{answer, written-of};
 ghost use Rattle.files.specs.Record.{part};
-ghost use Rattle.files.specs.Refusal.{nodes-of};
-ghost use Rattle.runs.specs.Showing.{shown, shown-answer, from-second, outcome-at, InFile, Stands, shown-at};
-ghost use Rattle.judging.specs.Judge.{GraphWithin};
+ghost use Rattle.files.specs.Settling.{Settles, WherePassed};
+ghost use Rattle.files.specs.View.{Views};
+ghost use Rattle.runs.specs.Showing.{shown, shown-answer, show-first, outcome-at, InFile, place-of, shown-at};
 use crate::answers::Shown;
-use files::check::Checked;
-use files::check::check_graph;
 use files::record::Limits;
 use files::record::Record;
 use files::refusal::Refusal;
+use files::settle::Settled;
+use files::settle::then_graph;
+use files::view::ViewedBoth;
 
 // Where the record of a number stands: its place in the first file or in the second, or why nowhere.
 pub enum Place {
@@ -22,32 +23,50 @@ pub enum Place {
     Refused(Refusal),
 }
 
-// The second graph's refusals, then the place, where the first graph has n nodes.
-fn place_second(graph1: &[u8], graph2: &[u8], number: usize, limits: Limits, n: usize) -> Place
-    requires { ⌜ (GraphWithin limits (now graph1)) × (n ≡ nodes-of (now graph1)) ⌝ }
-    ensures { λ r. ⌜ Stands (from-second limits (now (graph1 .entry)) (now (graph2 .entry)) number) (now (graph1 .entry)) (now (graph2 .entry)) r ⌝ }
+// The numbers of both files, in argument order.
+fn check_show(graph1: &[u8], graph2: &[u8], limits: Limits) -> ViewedBoth
+    ensures { λ r. ⌜ (Settles (show-first limits (now (graph1 .entry)) (now (graph2 .entry))) (r .settled)) × (WherePassed (r .settled) ((Views (r .first) (now (graph1 .entry))) × (Views (r .second) (now (graph2 .entry))))) ⌝ }
 {
-    match check_graph(graph2, 2, limits) {
-        Checked::Refused(refusal) => Place::Refused(refusal),
-        Checked::Accepted { nodes, .. } => {
-            if number < n {
-                return Place::First(number);
-            }
-            if number - n < nodes {
-                return Place::Second(number - n);
-            }
-            Place::Refused(Refusal::whole(7))
-        }
+    let none = Settled::Passed;
+    let drawn1 = then_graph(none, graph1, 1, limits);
+    let first = drawn1.settled;
+    let view1 = drawn1.view;
+    let drawn2 = then_graph(first, graph2, 2, limits);
+    let settled = drawn2.settled;
+    let view2 = drawn2.view;
+    ViewedBoth {
+        settled: settled,
+        first: view1,
+        second: view2,
     }
+}
+
+// Where a number stands in two graphs of so many nodes, or 7.
+fn place_of(number: usize, nodes1: usize, nodes2: usize) -> Place
+    ensures { λ r. ⌜ r ≡ place-of number nodes1 nodes2 ⌝ }
+{
+    if number < nodes1 {
+        return Place::First(number);
+    }
+    if number - nodes1 < nodes2 {
+        return Place::Second(number - nodes1);
+    }
+    Place::Refused(Refusal::whole(7))
 }
 
 // Both graphs' refusals, in argument order, then the place.
 pub fn find_place(graph1: &[u8], graph2: &[u8], number: usize, limits: Limits) -> Place
     ensures { λ r. ⌜ (shown limits (now (graph1 .entry)) (now (graph2 .entry)) number ≡ outcome-at (now (graph1 .entry)) (now (graph2 .entry)) r) × (InFile (now (graph1 .entry)) (now (graph2 .entry)) r) ⌝ }
 {
-    match check_graph(graph1, 1, limits) {
-        Checked::Refused(refusal) => Place::Refused(refusal),
-        Checked::Accepted { nodes, .. } => place_second(graph1, graph2, number, limits, nodes),
+    let checked = check_show(graph1, graph2, limits);
+    let settled = checked.settled;
+    match settled {
+        Settled::Refused(refusal) => Place::Refused(refusal),
+        Settled::Passed => {
+            let view1 = checked.first;
+            let view2 = checked.second;
+            place_of(number, view1.nodes, view2.nodes)
+        }
     }
 }
 

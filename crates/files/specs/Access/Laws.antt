@@ -29,17 +29,10 @@ use Rattle.files.specs.Decode.RuleFiles.{is-rule, decoded-count, decoded
 use Rattle.files.specs.Decode.Interfaces.{one-record, is-interface, decoded-interface}
 use Rattle.files.specs.Decode.Values.{row-same, of-kind-three}
 use Rattle.files.specs.Access.{AcceptedAs, first-edge}
-use Rattle.files.specs.Checking.{checked}
-use Rattle.files.specs.Checking.Laws.{accepted-counts}
 use Rattle.files.specs.declared.check.Checked.{Checked}
-use Rattle.files.specs.declared.check.Checked.the-variants.{Accepted}
 use Rattle.files.specs.declared.record.Limits.{Limits}
 use Rattle.files.specs.declared.record.Record.{Record}
 use Rattle.files.specs.declared.record.Parsed.the-variants.{Node as NodeRead, Edge as EdgeRead, Row as RowRead, Rule as RuleRead, Interface as InterfaceRead}
-
--- what checking accepts is accepted
-pub accepted-as : (L : Limits) (k : Kind) (l : List ℕ) (position : ℕ) (x : Checked) (n c : ℕ) → x ≡ checked L k l position → x ≡ Accepted n c → AcceptedAs k l
-accepted-as L k l position x n c e d = record { limits = L; accepted = (accepted-counts L k l position n c (sym e ∙ d)) .0 }
 
 -- ---- what a record of an accepted file reads as
 

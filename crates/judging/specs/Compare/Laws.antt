@@ -11,14 +11,14 @@ use lib.ListN.{length, getD}
 use Rattle.files.specs.Decode.{decode-graph}
 use Rattle.files.specs.Decode.Graphs.{decoded-flow}
 use Rattle.files.specs.Graph.{Graph, Flow, node, size}
-use Rattle.files.specs.Outcome.{Said, refuses, says, refusal-at, NoneOf, FirstOf, Matches, answer}
+use Rattle.files.specs.Outcome.{Said, refuses, says, refusal-at, NoneOf, FirstOf, Matches, answer, answered, out-check}
 use Rattle.files.specs.Outcome.Calls as calls
 use Rattle.files.specs.Outcome.Laws.{refused-by, accepted-by}
 use Rattle.files.specs.Refusal.{graph, refusal}
 use Rattle.files.specs.declared.record.Limits.{Limits}
 use Rattle.judging.specs.TwoFiles.{two-match, two-given, two-say}
-use Rattle.judging.specs.Compare.{compare-room, compare-said, compare-verdict, compare-checks, compare-lines, compared, Lowest, Compares, compared-answer}
-use Rattle.judging.specs.Simulation.{Covered, Simulates, covered, simulates, uncovered, relation-bytes, related}
+use Rattle.judging.specs.Compare.{compare-room, compare-said, compare-verdict, compare-checks, compare-lines, compared, Lowest, Compares, compared-answer, compare-first}
+use Rattle.judging.specs.Simulation.{Covered, Simulates, covered, simulates, uncovered, relation-bytes, related, Simulation}
 use Rattle.judging.specs.Simulation.Laws.{verdict, largest, covered-e, covered-i, uncovered-is, uncovered-lowest, simulates-covers, related-simulation, relation-bit}
 use Rattle.files.specs.Outcome.{published}
 use Rattle.files.specs.Basics.Tests.{one}
@@ -29,6 +29,10 @@ use Rattle.judging.specs.declared.answers.Compared.the-variants.{Yes, No
 module _ (L : Limits) (g h : List ℕ) (out work : ℕ) where
   compare-match : Matches (compare-checks L g h out work) (compare-lines L g h out work)
   compare-match = two-match L graph g graph h compare-room out work (compare-verdict L g h out work)
+
+  pub compared-is : compared L g h out work ≡ answered (compare-first L g h work (out-check out (compare-verdict L g h out work))) (compare-verdict L g h out work)
+  unfolding compared
+  compared-is = refl
 
   -- the lines stand in the published order
   pub compare-order : published (compare-lines L g h out work) ≡ true

@@ -12,14 +12,14 @@ use Rattle.files.specs.Decode.{decode-graph, decode-property}
 use Rattle.files.specs.Decode.Graphs.{decoded-flow}
 use Rattle.files.specs.Decode.Properties.{decoded-property}
 use Rattle.files.specs.Graph.{Graph, Flow}
-use Rattle.files.specs.Outcome.{Said, refuses, says, refusal-at, NoneOf, FirstOf, Matches, answer}
+use Rattle.files.specs.Outcome.{Said, refuses, says, refusal-at, NoneOf, FirstOf, Matches, answer, answered, out-check}
 use Rattle.files.specs.Outcome.Calls as calls
 use Rattle.files.specs.Outcome.Laws.{refused-by, accepted-by}
 use Rattle.files.specs.Property.{Row, Property}
 use Rattle.files.specs.Refusal.{graph, property, refusal}
 use Rattle.files.specs.declared.record.Limits.{Limits}
 use Rattle.judging.specs.TwoFiles.{two-match, two-given, two-say}
-use Rattle.judging.specs.Judge.{judge-room, judge-said, judge-verdict, judge-checks, judge-lines, judged, Judges, judged-answer}
+use Rattle.judging.specs.Judge.{judge-room, judge-first, judge-said, judge-verdict, judge-checks, judge-lines, judged, Judges, judged-answer}
 use Rattle.judging.specs.Levels.{Satisfies, satisfies}
 use Rattle.judging.specs.Levels.Laws.{satisfies-agrees}
 use Rattle.judging.specs.Levels.Greatest.{greatest-solution, holds-solves}
@@ -32,6 +32,10 @@ use Rattle.judging.specs.declared.answers.Judged.the-variants.{Holds, Fa
 module _ (L : Limits) (g p : List ℕ) (out work : ℕ) where
   judge-match : Matches (judge-checks L g p out work) (judge-lines L g p out work)
   judge-match = two-match L graph g property p judge-room out work (judge-verdict L g p out work)
+
+  pub judged-is : judged L g p out work ≡ answered (judge-first L g p work (out-check out (judge-verdict L g p out work))) (judge-verdict L g p out work)
+  unfolding judged
+  judged-is = refl
 
   -- the lines stand in the published order
   pub judge-order : published (judge-lines L g p out work) ≡ true

@@ -1,13 +1,13 @@
 -- What two accepted graph files say to the code of comparing: the counts and the flow graphs that they hold, the bounds, and where each edge stands.
-use mathlib.Core.Path.{_≡_, sym, _∙_}
+use mathlib.Core.Path.{_≡_}
 use mathlib.Core.List.{List}
 use Prim.Native.Nat.{ℕ, _≤_, _<_}
 use native.Mathlib.Omega.{arith}
 use lib.ListN.{length}
 use Rattle.files.specs.Basics.Lists.{index-e}
 use Rattle.files.specs.Decode.{decode-graph}
-use Rattle.files.specs.Decode.Graphs.{decoded-size, decoded-edges, decoded-flow, decoded-filed}
 use Rattle.files.specs.Graph.{Graph, size, no-edge, Flow}
+use Rattle.files.specs.View.{view-size, view-edges, view-flow, view-filed}
 use Rattle.judging.specs.declared.sizes.Sizes.{Sizes}
 use Rattle.judging.specs.Refinement.{Both, edge}
 
@@ -25,42 +25,42 @@ module _ (s : Sizes) (f g : List ℕ) (x : Both s f g) where
   abbrev H : Graph
   H = decode-graph g
 
-  pub first-size : size G ≡ s .nodes
-  first-size = decoded-size (x .first-file .limits) f (x .first-file .accepted) ∙ sym (x .first-nodes-are)
+  pub first-size : size G ≡ s .first .nodes
+  first-size = view-size (x .first-held .views)
 
-  pub second-size : size H ≡ s .nodes2
-  second-size = decoded-size (x .second-file .limits) g (x .second-file .accepted) ∙ sym (x .second-nodes-are)
+  pub second-size : size H ≡ s .second .nodes
+  second-size = view-size (x .second-held .views)
 
-  pub first-edges : length (G .edges) ≡ s .edges
-  first-edges = decoded-edges (x .first-file .limits) f (x .first-file .accepted) ∙ sym (x .first-edges-are)
+  pub first-edges : length (G .edges) ≡ s .first .edges
+  first-edges = view-edges (x .first-held .views)
 
-  pub second-edges : length (H .edges) ≡ s .edges2
-  second-edges = decoded-edges (x .second-file .limits) g (x .second-file .accepted) ∙ sym (x .second-edges-are)
+  pub second-edges : length (H .edges) ≡ s .second .edges
+  second-edges = view-edges (x .second-held .views)
 
   pub first-flow : Flow G
-  first-flow = decoded-flow (x .first-file .limits) f (x .first-file .accepted)
+  first-flow = view-flow (x .first-held .views)
 
   pub second-flow : Flow H
-  second-flow = decoded-flow (x .second-file .limits) g (x .second-file .accepted)
+  second-flow = view-flow (x .second-held .views)
 
   pub first-fits : size G ≤ 256
-  first-fits = omega (arith, first-size, x .few-first-nodes)
+  first-fits = omega (arith, first-size, x .first-held .few-nodes)
 
   pub second-fits : size H ≤ 256
-  second-fits = omega (arith, second-size, x .few-second-nodes)
+  second-fits = omega (arith, second-size, x .second-held .few-nodes)
 
   pub first-edges-fit : length (G .edges) ≤ 4096
-  first-edges-fit = omega (arith, first-edges, x .few-first-edges)
+  first-edges-fit = omega (arith, first-edges, x .first-held .few-edges)
 
   -- an edge of the first graph leads from node to node, and its label has a row of bits
-  pub first-edge-in : (e : ℕ) → e < s .edges → ((edge G e) .from < s .nodes) × ((edge G e) .to < s .nodes) × ((edge G e) .label < 9)
+  pub first-edge-in : (e : ℕ) → e < s .first .edges → ((edge G e) .from < s .first .nodes) × ((edge G e) .to < s .first .nodes) × ((edge G e) .label < 9)
   first-edge-in e h =
       let m = index-e no-edge (G .edges) e (omega (arith, first-edges)) in
-      let l = (decoded-filed (x .first-file .limits) f (x .first-file .accepted)) .labels (edge G e) m in
+      let l = (view-filed (x .first-held .views)) .labels (edge G e) m in
       (omega (arith, first-size, first-flow .from-node (edge G e) m), omega (arith, first-size, first-flow .to-node (edge G e) m), omega (arith, l))
 
-  pub second-edge-in : (e : ℕ) → e < s .edges2 → ((edge H e) .from < s .nodes2) × ((edge H e) .to < s .nodes2) × ((edge H e) .label < 9)
+  pub second-edge-in : (e : ℕ) → e < s .second .edges → ((edge H e) .from < s .second .nodes) × ((edge H e) .to < s .second .nodes) × ((edge H e) .label < 9)
   second-edge-in e h =
       let m = index-e no-edge (H .edges) e (omega (arith, second-edges)) in
-      let l = (decoded-filed (x .second-file .limits) g (x .second-file .accepted)) .labels (edge H e) m in
+      let l = (view-filed (x .second-held .views)) .labels (edge H e) m in
       (omega (arith, second-size, second-flow .from-node (edge H e) m), omega (arith, second-size, second-flow .to-node (edge H e) m), omega (arith, l))

@@ -1,6 +1,10 @@
+-- The call is `model_within` at the desk's limits, which the buffer allows.
+use lib.ListN.{length}
+use Rattle.files.specs.Outcome.{Outcome}
+use Rattle.files.specs.Settling.Calls.{does-desk}
+use Rattle.files.specs.declared.record.Limits.{Limits}
 use Rattle.maximal.proofs.BuildLaws.{desk-bounded}
-use Rattle.maximal.specs.Modelling.{modelled-answer}
-use Rattle.maximal.specs.Modelling.Steps.{does-desk}
+use Rattle.maximal.specs.Modelling.{modelled}
 use borrow.Author.Needs.{needs}
 use Rattle.maximal.proofs.model.Statement.{statement}
 use Rattle.maximal.proofs.model.Tie as tie
@@ -18,7 +22,11 @@ same-length-2 : tie.Need-same-length-2
 same-length-2 c = search needs
 
 returns : tie.Need-returns
-returns c = let k = c .before .before .before .before .before .before .before .before .before .before .before .before in let j = c .before .before .before .before .model-within in does-desk (c .before .before .before .before .before .desk .result) (k .args .interface .now) (k .args .property .now) (k .args .out .now) (k .args .work .now) (j .last .1 .1 .0) (j .last .1 .1 .1 .0) (modelled-answer (j .result)) (c .before .before .before .before .before .desk .ensures) (j .ensures)
+returns c =
+    let a = c .before .before .before .before .before .before .before .before .before .before .before .before .args in
+    let d = c .before .before .before .before .before .desk in
+    let outcome : Limits → Outcome = λ M. modelled M (a .interface .now) (a .property .now) (length (a .out .now)) (length (a .work .now)) in
+    does-desk outcome (d .result) (d .ensures) (c .before .before .before .before .model-within .ensures)
 
 pub model-spec : {M : Type 1} → statement M
 model-spec =

@@ -28,7 +28,7 @@ use Rattle.maximal.specs.Model.Ordered.{Earlier, earlier-not, state-orde
 use Rattle.maximal.specs.Model.Computed.{is-model}
 use Rattle.maximal.specs.Model.Filed.{model-is-of, model-filed}
 use Rattle.maximal.specs.Model.Maximal.{maximal}
-use Rattle.maximal.specs.Modelling.{model-room, model-graph, model-checks, model-lines, modelled, Models, modelled-answer}
+use Rattle.maximal.specs.Modelling.{model-room, model-first, model-graph, model-last, model-checks, model-lines, modelled, Models, modelled-answer}
 use Rattle.files.specs.Outcome.{published}
 use mathlib.Core.Bool.{true}
 use Rattle.files.specs.declared.refusal.Refusal.{Refusal}
@@ -61,7 +61,8 @@ module _ (L : Limits) (i p : List ℕ) (out work : ℕ) where
   unfolding modelled
   model-accepted = accepted-by _ _ model-match said
 
-  pub modelled-is : modelled L i p out work ≡ answered (model-checks L i p out work) said
+  -- the checks before the work, then what is left to it
+  pub modelled-is : modelled L i p out work ≡ answered (model-first L i p work (model-last L i p out work)) said
   unfolding modelled
   modelled-is = refl
 

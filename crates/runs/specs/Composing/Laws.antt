@@ -13,7 +13,7 @@ use Rattle.files.specs.Decode.RuleFiles.{decoded-rules}
 use Rattle.files.specs.Graph.{Graph, Flow}
 use Rattle.files.specs.Interface.{Interface, Of}
 use Rattle.files.specs.Interface.Laws.{labelled-small}
-use Rattle.files.specs.Outcome.{Said, refuses, says, refusal-at, line, whole-line, file-lines, out-line, NoneOf, FirstOf, Matches, NoStart, TooLarge}
+use Rattle.files.specs.Outcome.{Said, refuses, says, refusal-at, line, whole-line, file-lines, out-line, NoneOf, FirstOf, Matches, NoStart, TooLarge, answered}
 use Rattle.files.specs.Outcome.Calls as calls
 use Rattle.files.specs.Outcome.Laws.{whole-match, scan-match, files-match, out-match, refused-by, accepted-by, verdict-is, file-accepted, whole-none, says-no-start, says-too-large, past-line, past-file}
 use Rattle.files.specs.Property.{Row, Property}
@@ -28,7 +28,7 @@ use Rattle.judging.specs.Simulation.Laws.{simulates-refl}
 use Rattle.maximal.specs.Model.{model}
 use Rattle.maximal.specs.Model.Filed.{model-is-flow, model-is-of}
 use Rattle.maximal.specs.Modelling.Laws.{model-simulates-iff}
-use Rattle.runs.specs.Composing.{Conforms, Side, known, unwritten, gives, Admits, compose-store, compose-work, other-side, compose-graph, compose-sides, compose-verdict, compose-checks, compose-lines, composed}
+use Rattle.runs.specs.Composing.{Conforms, Side, known, unwritten, gives, Admits, compose-store, compose-work, other-side, compose-graph, compose-sides, compose-verdict, compose-checks, compose-lines, composed, compose-first, compose-said, compose-last}
 use Rattle.runs.specs.Join.{join}
 use Rattle.runs.specs.Join.Laws.{join-flow, join-labels, join-simulates}
 use Rattle.runs.specs.Runs.{Clean}
@@ -100,6 +100,10 @@ module _ (L : Limits) (ki kg oi p r : List ℕ) (m out store work : ℕ) where
       (whole-match 10 _ _ (says-unprovided (compose-sides L ki kg oi p r m out) m) _ _
       (whole-match 11 _ _ (says-or (says-too-large L (gives (other-side L ki kg oi p r m out))) (says-too-large L (compose-graph L ki kg oi p r m out))) _ _
       (out-match out said)))))))))))
+
+  pub composed-is : composed L ki kg oi p r m out store work ≡ answered (compose-first L ki kg oi p r m store work (compose-last L kg oi p r m out)) (compose-said kg oi p r m)
+  unfolding composed
+  composed-is = refl
 
   -- the lines stand in the published order
   pub compose-order : published (compose-lines L ki kg oi p r m out store work) ≡ true

@@ -7,7 +7,7 @@ use lib.ListN.{length}
 use Rattle.files.specs.Decode.{decode-graph, decode-property, decode-interface, decode-rules}
 use Rattle.files.specs.Graph.{Graph, Flow}
 use Rattle.files.specs.Interface.{Interface, Of}
-use Rattle.files.specs.Outcome.{Said, Outcome, answer, refusal-at, NoneOf, Lines}
+use Rattle.files.specs.Outcome.{Said, Outcome, answer, refusal-at, NoneOf, Lines, DoesBoth}
 use Rattle.files.specs.Outcome.Meaning.{Decided, Clears, Heard, itself, heard-itself, only-verdict, outcome-case}
 use Rattle.files.specs.Property.{Row, Property}
 use Rattle.files.specs.Rules.{Monitor, watch}
@@ -16,7 +16,7 @@ use Rattle.judging.specs.Simulation.Laws.{simulates-refl}
 use Rattle.maximal.specs.Model.{model}
 use Rattle.maximal.specs.Modelling.Laws.{model-simulates-iff}
 use Rattle.runs.specs.Answer.{watched-answer, verdict-enum}
-use Rattle.runs.specs.Composing.{Conforms, compose-verdict, compose-checks, compose-lines, composed, DoesBoth}
+use Rattle.runs.specs.Composing.{Conforms, compose-verdict, compose-checks, compose-lines, composed}
 use Rattle.runs.specs.Composing.Laws.{compose-refused, compose-accepted, compose-own, compose-says, clean-for-all, model-conforms}
 use Rattle.runs.specs.Join.{join}
 use Rattle.runs.specs.Join.Laws.{join-simulates}

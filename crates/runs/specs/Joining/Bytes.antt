@@ -91,26 +91,26 @@ module _ (s : Sizes) (f g : List ℕ) (both : Both s f g) where
   G = decode-graph g
 
   -- the parts stand in their files
-  pub first-room : 6 * (s .nodes + s .edges) ≤ length f
-  first-room = omega (arith, both .first-nodes-are, both .first-edges-are, few (both .first-file .limits) f (both .first-file .accepted))
+  pub first-room : 6 * (s .first .nodes + s .first .edges) ≤ length f
+  first-room = omega (arith, both .first-held .views .nodes-are, both .first-held .views .edges-are, few (both .first-held .views .graph-file .limits) f (both .first-held .views .graph-file .accepted))
 
-  pub first-cut : length (take (6 * s .nodes) f) ≡ 6 * s .nodes
-  first-cut = length-take-le (6 * s .nodes) f (omega (arith, first-room))
+  pub first-cut : length (take (6 * s .first .nodes) f) ≡ 6 * s .first .nodes
+  first-cut = length-take-le (6 * s .first .nodes) f (omega (arith, first-room))
 
-  pub second-cut : length (take (6 * s .nodes2) g) ≡ 6 * s .nodes2
-  second-cut = length-take-le (6 * s .nodes2) g (omega (arith, both .second-nodes-are, few (both .second-file .limits) g (both .second-file .accepted)))
+  pub second-cut : length (take (6 * s .second .nodes) g) ≡ 6 * s .second .nodes
+  second-cut = length-take-le (6 * s .second .nodes) g (omega (arith, both .second-held .views .nodes-are, few (both .second-held .views .graph-file .limits) g (both .second-held .views .graph-file .accepted)))
 
   abbrev all-moved : List ℕ
-  all-moved = each (moved-bytes (s .nodes) G) (span 0 (s .edges2))
+  all-moved = each (moved-bytes (s .first .nodes) G) (span 0 (s .second .edges))
 
-  nodes-first : take (6 * s .nodes) f ≡ write (map node-rec (K .nodes))
-  nodes-first = ap (λ (n : ℕ). take (6 * n) f) (both .first-nodes-are) ∙ nodes-written (both .first-file .limits) f (both .first-file .accepted)
+  nodes-first : take (6 * s .first .nodes) f ≡ write (map node-rec (K .nodes))
+  nodes-first = ap (λ (n : ℕ). take (6 * n) f) (both .first-held .views .nodes-are) ∙ nodes-written (both .first-held .views .graph-file .limits) f (both .first-held .views .graph-file .accepted)
 
-  nodes-second : take (6 * s .nodes2) g ≡ write (map node-rec (G .nodes))
-  nodes-second = ap (λ (n : ℕ). take (6 * n) g) (both .second-nodes-are) ∙ nodes-written (both .second-file .limits) g (both .second-file .accepted)
+  nodes-second : take (6 * s .second .nodes) g ≡ write (map node-rec (G .nodes))
+  nodes-second = ap (λ (n : ℕ). take (6 * n) g) (both .second-held .views .nodes-are) ∙ nodes-written (both .second-held .views .graph-file .limits) g (both .second-held .views .graph-file .accepted)
 
-  edges-first : part f (s .nodes) (s .edges) ≡ write (map edge-rec (K .edges))
-  edges-first = ap₂ (part f) (both .first-nodes-are) (both .first-edges-are) ∙ edges-written (both .first-file .limits) f (both .first-file .accepted)
+  edges-first : part f (s .first .nodes) (s .first .edges) ≡ write (map edge-rec (K .edges))
+  edges-first = ap₂ (part f) (both .first-held .views .nodes-are) (both .first-held .views .edges-are) ∙ edges-written (both .first-held .views .graph-file .limits) f (both .first-held .views .graph-file .accepted)
 
   edges-second : all-moved ≡ write (map edge-rec (map (moved (size K)) (G .edges)))
   edges-second = ap₂ (λ (n m : ℕ). each (moved-bytes n G) (span 0 m)) (sym (first-size s f g both)) (sym (second-edges s f g both)) ∙ moved-all (size K) G
@@ -128,14 +128,14 @@ module _ (s : Sizes) (f g : List ℕ) (both : Both s f g) where
   edge-run-length es = omega (arith, length-write (map edge-rec es), length-map es edge-rec)
 
   -- the four parts, stored one after another, are the joined graph
-  pub join-stored : (out o₁ o₂ o₃ o₄ c : List ℕ) → o₁ ≡ put-at out 0 (take (6 * s .nodes) f) → o₂ ≡ put-at o₁ (6 * s .nodes) (take (6 * s .nodes2) g)
-      → o₃ ≡ put-at o₂ (6 * s .nodes + 6 * s .nodes2) c → c ≡ part f (s .nodes) (s .edges) → o₄ ≡ put-at o₃ (6 * (s .nodes + s .nodes2 + s .edges)) all-moved
+  pub join-stored : (out o₁ o₂ o₃ o₄ c : List ℕ) → o₁ ≡ put-at out 0 (take (6 * s .first .nodes) f) → o₂ ≡ put-at o₁ (6 * s .first .nodes) (take (6 * s .second .nodes) g)
+      → o₃ ≡ put-at o₂ (6 * s .first .nodes + 6 * s .second .nodes) c → c ≡ part f (s .first .nodes) (s .first .edges) → o₄ ≡ put-at o₃ (6 * (s .first .nodes + s .second .nodes + s .first .edges)) all-moved
       → o₄ ≡ put-at out 0 (graph-bytes (join K G))
   join-stored out o₁ o₂ o₃ o₄ c e₁ e₂ e₃ e e₄ =
       let d : List ℕ = edge-run (map (moved (size K)) (G .edges)) in
-      let p : ℕ = 6 * s .nodes in
-      let q : ℕ = 6 * s .nodes + 6 * s .nodes2 in
-      let r : ℕ = 6 * (s .nodes + s .nodes2 + s .edges) in
+      let p : ℕ = 6 * s .first .nodes in
+      let q : ℕ = 6 * s .first .nodes + 6 * s .second .nodes in
+      let r : ℕ = 6 * (s .first .nodes + s .second .nodes + s .first .edges) in
       let one : o₁ ≡ put-at out 0 (node-run K) = e₁ ∙ ap (put-at out 0) nodes-first in
       let two : o₂ ≡ put-at (put-at out 0 (node-run K)) p (node-run G) = e₂ ∙ ap₂ (λ (l m : List ℕ). put-at l p m) one nodes-second in
       let three : o₃ ≡ put-at (put-at (put-at out 0 (node-run K)) p (node-run G)) q (edge-run (K .edges)) = e₃ ∙ ap₂ (λ (l m : List ℕ). put-at l q m) two (e ∙ edges-first) in

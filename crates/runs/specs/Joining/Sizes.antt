@@ -20,19 +20,19 @@ use Rattle.runs.specs.Join.Laws.{join-size, join-edges}
 
 -- the counts of both together are past a limit
 abbrev pub passes-limits : Limits → Sizes → Bool
-passes-limits L s = ltb (L .nodes) (s .nodes + s .nodes2) || ltb (L .edges) (s .edges + s .edges2)
+passes-limits L s = ltb (L .nodes) (s .first .nodes + s .second .nodes) || ltb (L .edges) (s .first .edges + s .second .edges)
 
 module _ (s : Sizes) (f g : List ℕ) (both : Both s f g) where
   abbrev whole : Graph
   whole = join (decode-graph f) (decode-graph g)
 
-  pub nodes-joined : s .nodes + s .nodes2 ≡ size whole
+  pub nodes-joined : s .first .nodes + s .second .nodes ≡ size whole
   nodes-joined = omega (arith, join-size (decode-graph f) (decode-graph g), first-size s f g both, second-size s f g both)
 
-  pub edges-joined : s .edges + s .edges2 ≡ length (whole .edges)
+  pub edges-joined : s .first .edges + s .second .edges ≡ length (whole .edges)
   edges-joined = omega (arith, join-edges (decode-graph f) (decode-graph g), first-edges s f g both, second-edges s f g both)
 
-  pub bytes-joined : length (graph-bytes whole) ≡ 6 * (s .nodes + s .nodes2 + (s .edges + s .edges2))
+  pub bytes-joined : length (graph-bytes whole) ≡ 6 * (s .first .nodes + s .second .nodes + (s .first .edges + s .second .edges))
   bytes-joined = omega (arith, graph-length whole, nodes-joined, edges-joined)
 
 module _ (L : Limits) (s : Sizes) (f g : List ℕ) (both : Both s f g) where
@@ -46,8 +46,8 @@ module _ (L : Limits) (s : Sizes) (f g : List ℕ) (both : Both s f g) where
     pub small : TooLarge L joint → ⊥
     small h = subst T (sym limits-are ∙ within) (says-too-large L joint .hear h)
 
-    pub nodes-few : s .nodes + s .nodes2 ≤ L .nodes
+    pub nodes-few : s .first .nodes + s .second .nodes ≤ L .nodes
     nodes-few = omega (arith, nodes-joined s f g both, (small-enough L joint small) .0)
 
-    pub edges-few : s .edges + s .edges2 ≤ L .edges
+    pub edges-few : s .first .edges + s .second .edges ≤ L .edges
     edges-few = omega (arith, edges-joined s f g both, (small-enough L joint small) .1)

@@ -13,7 +13,7 @@ use Rattle.files.specs.Decode.{Filed, decode-graph, decode-interface, decode-ru
 use Rattle.files.specs.Decode.Graphs.{decoded-filed}
 use Rattle.files.specs.Decode.RuleFiles.{decoded-rules}
 use Rattle.files.specs.Graph.{Graph, Edge, Flow}
-use Rattle.files.specs.Outcome.{Said, refuses, says, refusal-at, line, whole-line, file-lines, out-line, NoneOf, FirstOf, Matches, NoStart}
+use Rattle.files.specs.Outcome.{Said, refuses, says, refusal-at, line, whole-line, file-lines, out-line, NoneOf, FirstOf, Matches, NoStart, answered, out-check}
 use Rattle.files.specs.Outcome.Calls as calls
 use Rattle.files.specs.Outcome.Laws.{whole-match, scan-match, files-match, out-match, refused-by, accepted-by, verdict-is, file-accepted, whole-none, says-no-start, whole-none-i, file-none}
 use Rattle.files.specs.Outcome.Laws.{none-i, none-end, past-line, past-file}
@@ -30,7 +30,7 @@ use Rattle.runs.specs.Summary.{clean}
 use Rattle.runs.specs.Summary.Places.{not-clean-bad, clean-no-bad}
 use Rattle.runs.specs.Summary.Trails.{trail, trail-bytes}
 use Rattle.runs.specs.Summary.Trails.OneRun.{trail-shows}
-use Rattle.runs.specs.Watching.{watch-said, watch-verdict, watch-checks, watch-lines, watched, Watches}
+use Rattle.runs.specs.Watching.{watch-said, watch-verdict, watch-checks, watch-lines, watched, Watches, watch-first}
 use Rattle.files.specs.Interface.{Interface, Of}
 use Rattle.files.specs.Basics.First.{Finds}
 use Rattle.files.specs.Outcome.{published}
@@ -85,6 +85,10 @@ module _ (L : Limits) (i g r : List ℕ) (m out work : ℕ) where
       whole-match 13 _ (work < watch-room) (says-lt work watch-room) _ _ (files-match L 1 interface i _ _ (files-match L 2 graph g _ _ (files-match L 3 rules r _ _
       (whole-match 3 _ _ (says-no-start m) _ _ (scan-match 9 2 _ _ (foreign-finds (decode-interface i) g) _ _
       (whole-match 10 _ _ (says-unprovided (decode-interface i) m) _ _ (out-match out said)))))))
+
+  pub watched-is : watched L i g r m out work ≡ answered (watch-first L i g r m work (out-check out said)) said
+  unfolding watched
+  watched-is = refl
 
   -- the lines stand in the published order
   pub watch-order : published (watch-lines L i g r m out work) ≡ true

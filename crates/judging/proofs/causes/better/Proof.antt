@@ -45,7 +45,7 @@ returns-2 c =
     let k = c .before .before .before .before .before .before .before .before .before .before .before .before .before .before in
     let a = k .args in
     let u = held-edge (c .before .before .before .before .before .before .before .before .before .before .edge-at .result) _ (getD ((decode-graph (a .graph .now)) .edges) (a .j) no-edge) (c .before .before .before .before .before .before .before .before .edge .given .1) (c .before .before .before .before .before .before .before .before .before .before .edge-at .ensures) in
-    better-is (decode-graph (a .graph .now)) (decode-property (a .property .now)) _ (aims (a .x .operator) (a .x .a)) (box-row (a .x .operator) (a .x .a) (a .x .b)) (a .s .nodes) (a .best) (a .j) true true true u (sym (ap (λ (y : Looks). y .along) (c .before .before .before .before .before .before .obliged .ensures)) ∙ c .before .before .before .before .before .if1 .taken) (lt-ltb _ _ (c .before .before .before .if2 .taken))
+    better-is (decode-graph (a .graph .now)) (decode-property (a .property .now)) _ (aims (a .x .operator) (a .x .a)) (box-row (a .x .operator) (a .x .a) (a .x .b)) (a .s .graph .nodes) (a .best) (a .j) true true true u (sym (ap (λ (y : Looks). y .along) (c .before .before .before .before .before .before .obliged .ensures)) ∙ c .before .before .before .before .before .if1 .taken) (lt-ltb _ _ (c .before .before .before .if2 .taken))
     (sym (c .before .is-ahead .ensures ∙ ap (λ (y : Looks). ahead (decode-graph (a .graph .now)) (decode-property (a .property .now)) (a .best, y .at) (c .before .before .before .before .before .before .before .before .edge .given .0 .0 .to, y .at)) (c .before .before .before .before .before .before .obliged .ensures)) ∙ c .if3 .taken)
 
 returns-3 : tie.Need-returns-3
@@ -53,7 +53,7 @@ returns-3 c =
     let k = c .before .before .before .before .before .before .before .before .before .before .before .before .before .before in
     let a = k .args in
     let u = held-edge (c .before .before .before .before .before .before .before .before .before .before .edge-at .result) _ (getD ((decode-graph (a .graph .now)) .edges) (a .j) no-edge) (c .before .before .before .before .before .before .before .before .edge .given .1) (c .before .before .before .before .before .before .before .before .before .before .edge-at .ensures) in
-    better-is (decode-graph (a .graph .now)) (decode-property (a .property .now)) _ (aims (a .x .operator) (a .x .a)) (box-row (a .x .operator) (a .x .a) (a .x .b)) (a .s .nodes) (a .best) (a .j) true true false u (sym (ap (λ (y : Looks). y .along) (c .before .before .before .before .before .before .obliged .ensures)) ∙ c .before .before .before .before .before .if1 .taken) (lt-ltb _ _ (c .before .before .before .if2 .taken))
+    better-is (decode-graph (a .graph .now)) (decode-property (a .property .now)) _ (aims (a .x .operator) (a .x .a)) (box-row (a .x .operator) (a .x .a) (a .x .b)) (a .s .graph .nodes) (a .best) (a .j) true true false u (sym (ap (λ (y : Looks). y .along) (c .before .before .before .before .before .before .obliged .ensures)) ∙ c .before .before .before .before .before .if1 .taken) (lt-ltb _ _ (c .before .before .before .if2 .taken))
     (sym (c .before .is-ahead .ensures ∙ ap (λ (y : Looks). ahead (decode-graph (a .graph .now)) (decode-property (a .property .now)) (a .best, y .at) (c .before .before .before .before .before .before .before .before .edge .given .0 .0 .to, y .at)) (c .before .before .before .before .before .before .obliged .ensures)) ∙ c .if3 .left)
 
 returns-4 : tie.Need-returns-4
@@ -61,14 +61,14 @@ returns-4 c =
     let k = c .before .before .before .before .before .before .before .before .before .before .before in
     let a = k .args in
     let u = held-edge (c .before .before .before .before .before .before .before .edge-at .result) _ (getD ((decode-graph (a .graph .now)) .edges) (a .j) no-edge) (c .before .before .before .before .before .edge .given .1) (c .before .before .before .before .before .before .before .edge-at .ensures) in
-    better-is (decode-graph (a .graph .now)) (decode-property (a .property .now)) _ (aims (a .x .operator) (a .x .a)) (box-row (a .x .operator) (a .x .a) (a .x .b)) (a .s .nodes) (a .best) (a .j) true false _ u (sym (ap (λ (y : Looks). y .along) (c .before .before .before .obliged .ensures)) ∙ c .before .before .if1 .taken) (le-ltb _ _ (c .if2 .left)) refl
+    better-is (decode-graph (a .graph .now)) (decode-property (a .property .now)) _ (aims (a .x .operator) (a .x .a)) (box-row (a .x .operator) (a .x .a) (a .x .b)) (a .s .graph .nodes) (a .best) (a .j) true false _ u (sym (ap (λ (y : Looks). y .along) (c .before .before .before .obliged .ensures)) ∙ c .before .before .if1 .taken) (le-ltb _ _ (c .if2 .left)) refl
 
 returns-5 : tie.Need-returns-5
 returns-5 c =
     let k = c .before .before .before .before .before .before .before .before .before in
     let a = k .args in
     let u = held-edge (c .before .before .before .before .before .edge-at .result) _ (getD ((decode-graph (a .graph .now)) .edges) (a .j) no-edge) (c .before .before .before .edge .given .1) (c .before .before .before .before .before .edge-at .ensures) in
-    better-is (decode-graph (a .graph .now)) (decode-property (a .property .now)) _ (aims (a .x .operator) (a .x .a)) (box-row (a .x .operator) (a .x .a) (a .x .b)) (a .s .nodes) (a .best) (a .j) false _ _ u (sym (ap (λ (y : Looks). y .along) (c .before .obliged .ensures)) ∙ c .if1 .left) refl refl
+    better-is (decode-graph (a .graph .now)) (decode-property (a .property .now)) _ (aims (a .x .operator) (a .x .a)) (box-row (a .x .operator) (a .x .a) (a .x .b)) (a .s .graph .nodes) (a .best) (a .j) false _ _ u (sym (ap (λ (y : Looks). y .along) (c .before .obliged .ensures)) ∙ c .if1 .left) refl refl
 
 pub better-spec : {M : Type 1} → statement M
 better-spec =

@@ -16,22 +16,22 @@ abbrev Inv-loop : tie.InvT-loop
 Inv-loop graph property s work g x end j₀ best₀ j best = (first-edge (decode-graph graph) g ≤ j)
     × (j ≤ end)
     × (end ≡ first-edge (decode-graph graph) (g + 1))
-    × (best ≡ first-or (best-target (decode-graph graph) (decode-property property) g (aims (x .operator) (x .a)) (box-row (x .operator) (x .a) (x .b)) j) (s .nodes))
+    × (best ≡ first-or (best-target (decode-graph graph) (decode-property property) g (aims (x .operator) (x .a)) (box-row (x .operator) (x .a) (x .b)) j) (s .graph .nodes))
 
 abbrev μ-loop : tie.MeasureT-loop
 μ-loop graph property s work g x end j₀ best₀ j best = end - j
 
 add-get16 : tie.Need-add-get16 Inv-loop μ-loop
-add-get16 c = let k = c .before .before .before in omega (arith, k .pre .1 .0, k .pre .0 .few-nodes)
+add-get16 c = let k = c .before .before .before in omega (arith, k .pre .1 .0, k .pre .0 .held .few-nodes)
 
 get16-requires : tie.Need-get16-requires Inv-loop μ-loop
-get16-requires c κs = let k = c .before .before .before in omega (arith, k .pre .1 .0, k .pre .0 .few-nodes, k .pre .1 .1 .1 .room)
+get16-requires c κs = let k = c .before .before .before in omega (arith, k .pre .1 .0, k .pre .0 .held .few-nodes, k .pre .1 .1 .1 .room)
 
 cast-end : tie.Need-cast-end Inv-loop μ-loop
 cast-end c = search needs
 
 get16-requires-2 : tie.Need-get16-requires-2 Inv-loop μ-loop
-get16-requires-2 c κs = let k = c .before .before .before .before in omega (arith, k .pre .1 .0, k .pre .0 .few-nodes, k .pre .1 .1 .1 .room)
+get16-requires-2 c κs = let k = c .before .before .before .before in omega (arith, k .pre .1 .0, k .pre .0 .held .few-nodes, k .pre .1 .1 .1 .room)
 
 cast-j : tie.Need-cast-j Inv-loop μ-loop
 cast-j c = search needs
@@ -42,7 +42,7 @@ loop-holds c = let k = c .before .before .before .before .before in
     let n = size-is (a .s) (a .graph .now) (a .property .now) (k .pre .0) in
     let e : c .before .get16 .result ≡ first-edge (decode-graph (a .graph .now)) (a .g + 1) = c .before .get16 .ensures ∙ k .pre .1 .1 .1 .firsts (a .g + 1) (omega (arith, k .pre .1 .0, n)) in
     let d : c .get162 .result ≡ first-edge (decode-graph (a .graph .now)) (a .g) = c .get162 .ensures ∙ k .pre .1 .1 .1 .firsts (a .g) (omega (arith, k .pre .1 .0, n)) in
-    (omega (arith, d), omega (arith, d, e, edges-start (a .s) (a .graph .now) (a .property .now) (k .pre .0) (a .g) (aims (a .x .operator) (a .x .a)) (box-row (a .x .operator) (a .x .a) (a .x .b))), e, best-start (a .s) (a .graph .now) (a .property .now) (k .pre .0) (a .g) (aims (a .x .operator) (a .x .a)) (box-row (a .x .operator) (a .x .a) (a .x .b)) ∙ ap (λ (i : ℕ). first-or (best-target (decode-graph (a .graph .now)) (decode-property (a .property .now)) (a .g) (aims (a .x .operator) (a .x .a)) (box-row (a .x .operator) (a .x .a) (a .x .b)) i) (a .s .nodes)) (sym d))
+    (omega (arith, d), omega (arith, d, e, edges-start (a .s) (a .graph .now) (a .property .now) (k .pre .0) (a .g) (aims (a .x .operator) (a .x .a)) (box-row (a .x .operator) (a .x .a) (a .x .b))), e, best-start (a .s) (a .graph .now) (a .property .now) (k .pre .0) (a .g) (aims (a .x .operator) (a .x .a)) (box-row (a .x .operator) (a .x .a) (a .x .b)) ∙ ap (λ (i : ℕ). first-or (best-target (decode-graph (a .graph .now)) (decode-property (a .property .now)) (a .g) (aims (a .x .operator) (a .x .a)) (box-row (a .x .operator) (a .x .a) (a .x .b)) i) (a .s .graph .nodes)) (sym d))
 
 better-requires : tie.Need-better-requires Inv-loop μ-loop
 better-requires c κs = let k = c .before .before .before .before .before .before .before in

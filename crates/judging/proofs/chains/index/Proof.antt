@@ -7,7 +7,6 @@ use Rattle.judging.proofs.ClearedLaws.{cleared-length}
 use borrow.Author.Needs.{needs}
 use Rattle.judging.proofs.chains.index.Statement.{statement}
 use Rattle.judging.proofs.chains.index.Tie as tie
-use Rattle.files.proofs.cells.clear.Reads as clear-reads
 
 sub-clear : tie.Need-sub-clear
 sub-clear c = search needs
@@ -27,7 +26,7 @@ link-graph-requires c κs =
     let a = k .args in
     let r = k .pre .0 in
     let x = c .before .before .before .clear in
-    (r .graph-file, (r .nodes-are, (r .edges-are, (r .few-edges, (omega (arith, r .few-nodes), (omega (arith, r .few-edges, k .pre .1, cleared-length 32768 512 (a .work .now) (x .last .0) (x .ensures)), edges-none (a .s) (a .graph .now) (a .property .now) r (a .work .now) (x .last .0) (k .pre .1) (x .ensures)))))))
+    (r .held .views .graph-file, (r .held .views .nodes-are, (r .held .views .edges-are, (r .held .few-edges, (omega (arith, r .held .few-nodes), (omega (arith, r .held .few-edges, k .pre .1, cleared-length 32768 512 (a .work .now) (x .last .0) (x .ensures)), edges-none (a .s) (a .graph .now) (a .property .now) r (a .work .now) (x .last .0) (k .pre .1) (x .ensures)))))))
 
 sub-clear-2 : tie.Need-sub-clear-2
 sub-clear-2 c = search needs

@@ -11,14 +11,12 @@ use Rattle.judging.specs.Refinement.{Chosen}
 use Rattle.judging.proofs.RowLaws.{chosen-none, chosen-put, chosen-over}
 use Rattle.judging.proofs.cover.entries.Statement.{statement}
 use Rattle.judging.proofs.cover.entries.Tie as tie
-use Rattle.files.proofs.cells.put_bit.Reads as put-bit-reads
-use Rattle.judging.proofs.cover.is_entry.Reads as is-entry-reads
 
 abbrev Inv-loop : tie.InvT-loop
-Inv-loop first second s row₀ h₀ row h = (h ≤ s .nodes2) × (length row ≡ 32) × Chosen (λ x. (node (decode-graph second) x) .entry) h row
+Inv-loop first second s row₀ h₀ row h = (h ≤ s .second .nodes) × (length row ≡ 32) × Chosen (λ x. (node (decode-graph second) x) .entry) h row
 
 abbrev μ-loop : tie.MeasureT-loop
-μ-loop first second s row₀ h₀ row h = s .nodes2 - h
+μ-loop first second s row₀ h₀ row h = s .second .nodes - h
 
 loop-holds : tie.Need-loop-holds Inv-loop μ-loop
 loop-holds c = (omega arith, refl, chosen-none (λ x. (node (decode-graph (c .before .before .args .second .now)) x) .entry))
@@ -45,11 +43,11 @@ loop-again c = let k = c .before .before .before .before .before .before .before
     let p : ℕ → Bool = λ x. (node (decode-graph (k .args .second .now)) x) .entry in (
       omega (arith, c .before .before .if1 .taken),
       ⊎-elim (λ u. ap length (u .4) ∙ u .2 .kept .0 ∙ l .inv .1) (λ u. ap length (u .1) ∙ l .inv .1) (c .if2 .came),
-      ⊎-elim (λ u. subst (Chosen p (l .h + 1)) (sym (u .4)) (chosen-put p (l .row) (l .h) (l .inv .2) (u .2 .last .0) (omega (arith, l .inv .1)) (omega (arith, c .before .before .if1 .taken, k .pre .few-second-nodes)) (u .2 .ensures) (sym (y .ensures) ∙ u .0 .taken))) (λ u. subst (Chosen p (l .h + 1)) (sym (u .1)) (chosen-over p (l .row) (l .h) (l .inv .2) (sym (y .ensures) ∙ u .0 .left))) (c .if2 .came),
+      ⊎-elim (λ u. subst (Chosen p (l .h + 1)) (sym (u .4)) (chosen-put p (l .row) (l .h) (l .inv .2) (u .2 .last .0) (omega (arith, l .inv .1)) (omega (arith, c .before .before .if1 .taken, k .pre .second-held .few-nodes)) (u .2 .ensures) (sym (y .ensures) ∙ u .0 .taken))) (λ u. subst (Chosen p (l .h + 1)) (sym (u .1)) (chosen-over p (l .row) (l .h) (l .inv .2) (sym (y .ensures) ∙ u .0 .left))) (c .if2 .came),
     )
 
 returns : tie.Need-returns Inv-loop μ-loop
-returns c = let l = c .before .before .loop in let k = c .before .before .before .before .before in let e : l .h ≡ k .args .s .nodes2 = omega (arith, c .if1 .left, l .inv .0) in (l .inv .1, subst (λ (n : ℕ). Chosen (λ x. (node (decode-graph (k .args .second .now)) x) .entry) n (l .row)) e (l .inv .2))
+returns c = let l = c .before .before .loop in let k = c .before .before .before .before .before in let e : l .h ≡ k .args .s .second .nodes = omega (arith, c .if1 .left, l .inv .0) in (l .inv .1, subst (λ (n : ℕ). Chosen (λ x. (node (decode-graph (k .args .second .now)) x) .entry) n (l .row)) e (l .inv .2))
 
 pub entries-spec : {M : Type 1} → statement M
 entries-spec =

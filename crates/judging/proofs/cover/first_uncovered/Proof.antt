@@ -10,14 +10,12 @@ use lib.Dec.{T}
 use Rattle.judging.specs.Simulation.Laws.{misses}
 use Rattle.judging.proofs.cover.first_uncovered.Statement.{statement}
 use Rattle.judging.proofs.cover.first_uncovered.Tie as tie
-use Rattle.judging.proofs.cover.entries.Reads as entries-reads
-use Rattle.judging.proofs.cover.is_uncovered.Reads as is-uncovered-reads
 
 abbrev Inv-loop : tie.InvT-loop
-Inv-loop first second s work row g₀ g = (g ≤ s .nodes) × ((u : ℕ) → u < g → T (not (misses (decode-graph first) (decode-graph second) u)))
+Inv-loop first second s work row g₀ g = (g ≤ s .first .nodes) × ((u : ℕ) → u < g → T (not (misses (decode-graph first) (decode-graph second) u)))
 
 abbrev μ-loop : tie.MeasureT-loop
-μ-loop first second s work row g₀ g = s .nodes - g
+μ-loop first second s work row g₀ g = s .first .nodes - g
 
 entries-requires : tie.Need-entries-requires Inv-loop μ-loop
 entries-requires c κs = search needs

@@ -10,22 +10,22 @@ use Rattle.judging.proofs.cover.write_relation.Statement.{statement}
 use Rattle.judging.proofs.cover.write_relation.Tie as tie
 
 abbrev Inv-loop : tie.InvT-loop
-Inv-loop first second s work out₀ g₀ out g = (g ≤ s .nodes) × (out ≡ put-at out₀ 0 (lines-of (decode-graph first) (decode-graph second) g)) × (length out ≡ length out₀)
+Inv-loop first second s work out₀ g₀ out g = (g ≤ s .first .nodes) × (out ≡ put-at out₀ 0 (lines-of (decode-graph first) (decode-graph second) g)) × (length out ≡ length out₀)
 
 abbrev μ-loop : tie.MeasureT-loop
-μ-loop first second s work out₀ g₀ out g = s .nodes - g
+μ-loop first second s work out₀ g₀ out g = s .first .nodes - g
 
 loop-holds : tie.Need-loop-holds Inv-loop μ-loop
 loop-holds c = let a = c .before .before .before .before .args in (omega arith, lines-none (decode-graph (a .first .now)) (decode-graph (a .second .now)) (a .out .now), refl)
 
 mul-put-line : tie.Need-mul-put-line Inv-loop μ-loop
-mul-put-line c = omega (arith, c .before .if1 .taken, c .before .before .before .before .before .before .before .before .pre .0 .few-first-nodes)
+mul-put-line c = omega (arith, c .before .if1 .taken, c .before .before .before .before .before .before .before .before .pre .0 .first-held .few-nodes)
 
 put-line-requires : tie.Need-put-line-requires Inv-loop μ-loop
-put-line-requires c κs = let k = c .before .before .before .before .before .before .before .before in (omega (arith, c .before .if1 .taken, k .pre .1 .1 .1, c .before .before .before .loop .inv .2), omega (arith, c .before .if1 .taken, k .pre .0 .few-first-nodes, k .pre .1 .0))
+put-line-requires c κs = let k = c .before .before .before .before .before .before .before .before in (omega (arith, c .before .if1 .taken, k .pre .1 .1 .1, c .before .before .before .loop .inv .2), omega (arith, c .before .if1 .taken, k .pre .0 .first-held .few-nodes, k .pre .1 .0))
 
 add-g : tie.Need-add-g Inv-loop μ-loop
-add-g c = omega (arith, c .before .before .before .before .if1 .taken, c .before .before .before .before .before .before .before .before .before .before .before .pre .0 .few-first-nodes)
+add-g c = omega (arith, c .before .before .before .before .if1 .taken, c .before .before .before .before .before .before .before .before .before .before .before .pre .0 .first-held .few-nodes)
 
 loop-less : tie.Need-loop-less Inv-loop μ-loop
 loop-less c = omega (arith, c .before .before .before .before .if1 .taken)

@@ -24,7 +24,7 @@ abbrev μ-loop : tie.MeasureT-loop
 get16-requires : tie.Need-get16-requires Inv-loop μ-loop
 get16-requires c κs =
     let k = c .before .before .before .before in
-    omega (arith, k .pre .1 .1 .1 .0 .room, k .pre .0 .few-nodes, k .pre .1 .0)
+    omega (arith, k .pre .1 .1 .1 .0 .room, k .pre .0 .held .few-nodes, k .pre .1 .0)
 
 cast-at : tie.Need-cast-at Inv-loop μ-loop
 cast-at c = search needs
@@ -44,7 +44,7 @@ arrive-requires c κs =
     let a = k .args in
     let l = c .before .before .loop in
     let i = walk-item (into (decode-graph (a .graph .now)) (a .v)) (length ((decode-graph (a .graph .now)) .edges)) (l .at) (λ (e : ℕ). T (aims (a .x .operator) (a .x .a) ((getD ((decode-graph (a .graph .now)) .edges) e no-edge) .label)) → Given (l .work) ((getD ((decode-graph (a .graph .now)) .edges) e no-edge) .from) (a .q)) (l .inv .2) (c .before .loop-test .taken) in
-    let h : l .at - 1 < a .s .edges = omega (arith, i .1, edges-is (a .s) (a .graph .now) (a .property .now) (k .pre .0)) in
+    let h : l .at - 1 < a .s .graph .edges = omega (arith, i .1, edges-is (a .s) (a .graph .now) (a .property .now) (k .pre .0)) in
     (k .pre .0, (h, (k .pre .1 .1 .0, (l .inv .1 .finding, k .pre .1 .1 .1 .1 (l .at - 1) h (i .0)))))
 
 get16-requires-2 : tie.Need-get16-requires-2 Inv-loop μ-loop
@@ -54,7 +54,7 @@ get16-requires-2 c κs =
     let l = c .before .before .before .before .before .before .loop in
     let x = c .before .before .before .arrive in
     let i = walk-item (into (decode-graph (a .graph .now)) (a .v)) (length ((decode-graph (a .graph .now)) .edges)) (l .at) (λ (e : ℕ). T (aims (a .x .operator) (a .x .a) ((getD ((decode-graph (a .graph .now)) .edges) e no-edge) .label)) → Given (l .work) ((getD ((decode-graph (a .graph .now)) .edges) e no-edge) .from) (a .q)) (l .inv .2) (c .before .before .before .before .before .loop-test .taken) in
-    omega (arith, i .1, edges-is (a .s) (a .graph .now) (a .property .now) (k .pre .0), k .pre .0 .few-edges, x .ensures .0 .finding .room)
+    omega (arith, i .1, edges-is (a .s) (a .graph .now) (a .property .now) (k .pre .0), k .pre .0 .held .few-edges, x .ensures .0 .finding .room)
 
 cast-at-2 : tie.Need-cast-at-2 Inv-loop μ-loop
 cast-at-2 c = search needs

@@ -1,5 +1,5 @@
 use mathlib.Core.Path.{_≡_, refl, _∙_}
-use Prim.Native.Nat.{ℕ, _-_, _<_}
+use Prim.Native.Nat.{ℕ, _<_}
 use native.Mathlib.Omega.{arith}
 use lib.Dec.{T}
 use lib.ListN.{length}
@@ -11,9 +11,6 @@ use Rattle.judging.proofs.LevelLaws.{Walk}
 use Rattle.judging.proofs.MatchLaws.{slot-start, slot-item, slot-less, source-dropped, all-dropped, taken}
 use Rattle.judging.proofs.matches.drop_from.Statement.{statement}
 use Rattle.judging.proofs.matches.drop_from.Tie as tie
-use Rattle.files.proofs.cells.get16.Reads as get16-reads
-use Rattle.judging.proofs.matches.source_of.Reads as source-of-reads
-use Rattle.judging.proofs.rows.drop_row.Reads as drop-row-reads
 
 abbrev Inv-loop : tie.InvT-loop
 Inv-loop first second s work₀ slot gone at₀ work at = (length work ≡ length work₀) × Shrank (decode-graph first) (decode-graph second) work₀ work × Walk (labelled-into (decode-graph first) slot) (length ((decode-graph first) .edges)) at (λ e. (h : ℕ) → h < 256 → T (rel work ((edge (decode-graph first) e) .from) h) → In gone h → ⊥)
@@ -22,7 +19,7 @@ abbrev μ-loop : tie.MeasureT-loop
 μ-loop first second s work₀ slot gone at₀ work at = at
 
 get16-requires : tie.Need-get16-requires Inv-loop μ-loop
-get16-requires c κs = omega (arith, c .before .before .before .before .before .pre .1 .1 .0, c .before .before .before .before .before .pre .1 .0 .few-first-nodes, c .before .before .before .before .before .pre .1 .1 .1 .0 .room)
+get16-requires c κs = omega (arith, c .before .before .before .before .before .pre .1 .1 .0, c .before .before .before .before .before .pre .1 .0 .first-held .few-nodes, c .before .before .before .before .before .pre .1 .1 .1 .0 .room)
 
 cast-at : tie.Need-cast-at Inv-loop μ-loop
 cast-at c = search needs
@@ -34,16 +31,16 @@ sub-e : tie.Need-sub-e Inv-loop μ-loop
 sub-e c = omega (arith, c .loop-test .taken)
 
 source-of-requires : tie.Need-source-of-requires Inv-loop μ-loop
-source-of-requires c κs = let k = c .before .before .before .before .before .before .before .before in let i = slot-item (c .before .before .before .before .before .before .before .before .args .s) (c .before .before .before .before .before .before .before .before .args .first .now) (c .before .before .before .before .before .before .before .before .args .second .now) (c .before .before .before .before .before .before .before .before .pre .1 .0) (k .args .slot) (k .pre .1 .1 .0) (c .before .loop .at) _ (c .before .loop .inv .2) (c .loop-test .taken) in (k .pre .1 .0 .first-file, (k .pre .1 .0 .first-nodes-are, omega (arith, i .0, k .pre .1 .0 .first-edges-are, k .pre .1 .0 .first-nodes-are)))
+source-of-requires c κs = let k = c .before .before .before .before .before .before .before .before in let i = slot-item (c .before .before .before .before .before .before .before .before .args .s) (c .before .before .before .before .before .before .before .before .args .first .now) (c .before .before .before .before .before .before .before .before .args .second .now) (c .before .before .before .before .before .before .before .before .pre .1 .0) (k .args .slot) (k .pre .1 .1 .0) (c .before .loop .at) _ (c .before .loop .inv .2) (c .loop-test .taken) in (k .pre .1 .0 .first-held .views .graph-file, (k .pre .1 .0 .first-held .views .nodes-are, omega (arith, i .0, k .pre .1 .0 .first-held .views .edges-are, k .pre .1 .0 .first-held .views .nodes-are)))
 
 mul-drop-row : tie.Need-mul-drop-row Inv-loop μ-loop
-mul-drop-row c = let k = c .before .before .before .before .before .before .before .before .before .before in let i = slot-item (c .before .before .before .before .before .before .before .before .before .before .args .s) (c .before .before .before .before .before .before .before .before .before .before .args .first .now) (c .before .before .before .before .before .before .before .before .before .before .args .second .now) (c .before .before .before .before .before .before .before .before .before .before .pre .1 .0) (k .args .slot) (k .pre .1 .1 .0) (c .before .before .before .loop .at) _ (c .before .before .before .loop .inv .2) (c .before .before .loop-test .taken) in omega (arith, c .before .source-of .ensures, i .1, k .pre .1 .0 .few-first-nodes)
+mul-drop-row c = let k = c .before .before .before .before .before .before .before .before .before .before in let i = slot-item (c .before .before .before .before .before .before .before .before .before .before .args .s) (c .before .before .before .before .before .before .before .before .before .before .args .first .now) (c .before .before .before .before .before .before .before .before .before .before .args .second .now) (c .before .before .before .before .before .before .before .before .before .before .pre .1 .0) (k .args .slot) (k .pre .1 .1 .0) (c .before .before .before .loop .at) _ (c .before .before .before .loop .inv .2) (c .before .before .loop-test .taken) in omega (arith, c .before .source-of .ensures, i .1, k .pre .1 .0 .first-held .few-nodes)
 
 drop-row-requires : tie.Need-drop-row-requires Inv-loop μ-loop
-drop-row-requires c κs = let k = c .before .before .before .before .before .before .before .before .before .before in let i = slot-item (c .before .before .before .before .before .before .before .before .before .before .args .s) (c .before .before .before .before .before .before .before .before .before .before .args .first .now) (c .before .before .before .before .before .before .before .before .before .before .args .second .now) (c .before .before .before .before .before .before .before .before .before .before .pre .1 .0) (k .args .slot) (k .pre .1 .1 .0) (c .before .before .before .loop .at) _ (c .before .before .before .loop .inv .2) (c .before .before .loop-test .taken) in (omega (arith, c .before .source-of .ensures, i .1, k .pre .1 .0 .few-first-nodes, c .before .before .before .loop .inv .1 .refining .room), k .pre .0)
+drop-row-requires c κs = let k = c .before .before .before .before .before .before .before .before .before .before in let i = slot-item (c .before .before .before .before .before .before .before .before .before .before .args .s) (c .before .before .before .before .before .before .before .before .before .before .args .first .now) (c .before .before .before .before .before .before .before .before .before .before .args .second .now) (c .before .before .before .before .before .before .before .before .before .before .pre .1 .0) (k .args .slot) (k .pre .1 .1 .0) (c .before .before .before .loop .at) _ (c .before .before .before .loop .inv .2) (c .before .before .loop-test .taken) in (omega (arith, c .before .source-of .ensures, i .1, k .pre .1 .0 .first-held .few-nodes, c .before .before .before .loop .inv .1 .refining .room), k .pre .0)
 
 get16-requires-2 : tie.Need-get16-requires-2 Inv-loop μ-loop
-get16-requires-2 c κs = let k = c .before .before .before .before .before .before .before .before .before .before .before .before .before .before in let i = slot-item (c .before .before .before .before .before .before .before .before .before .before .before .before .before .before .args .s) (c .before .before .before .before .before .before .before .before .before .before .before .before .before .before .args .first .now) (c .before .before .before .before .before .before .before .before .before .before .before .before .before .before .args .second .now) (c .before .before .before .before .before .before .before .before .before .before .before .before .before .before .pre .1 .0) (k .args .slot) (k .pre .1 .1 .0) (c .before .before .before .before .before .before .before .loop .at) _ (c .before .before .before .before .before .before .before .loop .inv .2) (c .before .before .before .before .before .before .loop-test .taken) in omega (arith, i .0, k .pre .1 .0 .few-first-edges, c .before .before .before .drop-row .kept .0, c .before .before .before .before .before .before .before .loop .inv .1 .refining .room)
+get16-requires-2 c κs = let k = c .before .before .before .before .before .before .before .before .before .before .before .before .before .before in let i = slot-item (c .before .before .before .before .before .before .before .before .before .before .before .before .before .before .args .s) (c .before .before .before .before .before .before .before .before .before .before .before .before .before .before .args .first .now) (c .before .before .before .before .before .before .before .before .before .before .before .before .before .before .args .second .now) (c .before .before .before .before .before .before .before .before .before .before .before .before .before .before .pre .1 .0) (k .args .slot) (k .pre .1 .1 .0) (c .before .before .before .before .before .before .before .loop .at) _ (c .before .before .before .before .before .before .before .loop .inv .2) (c .before .before .before .before .before .before .loop-test .taken) in omega (arith, i .0, k .pre .1 .0 .first-held .few-edges, c .before .before .before .drop-row .kept .0, c .before .before .before .before .before .before .before .loop .inv .1 .refining .room)
 
 cast-at-2 : tie.Need-cast-at-2 Inv-loop μ-loop
 cast-at-2 c = search needs

@@ -9,10 +9,6 @@ use Rattle.judging.specs.Refinement.Handing.{shrank-none, shrank-on}
 use Rattle.judging.proofs.MatchLaws.{labels-kept, met-first, met-still}
 use Rattle.judging.proofs.matches.hand_on.Statement.{statement}
 use Rattle.judging.proofs.matches.hand_on.Tie as tie
-use Rattle.judging.proofs.matches.hand_on_by.Reads as hand-on-by-reads
-use Rattle.judging.proofs.matches.nodes_near.Reads as nodes-near-reads
-use Rattle.judging.proofs.matches.predecessors.Reads as predecessors-reads
-use Rattle.judging.proofs.rows.row_without.Reads as row-without-reads
 
 abbrev Inv-loop : tie.InvT-loop
 Inv-loop first second s work₀ v row met near label₀ work label = (label ≤ 9) × (length work ≡ length work₀) × Shrank (decode-graph first) (decode-graph second) work₀ work × ((l : ℕ) → l < label → LabelMatched (decode-graph first) (decode-graph second) work v l row)
@@ -21,13 +17,13 @@ abbrev μ-loop : tie.MeasureT-loop
 μ-loop first second s work₀ v row met near label₀ work label = 9 - label
 
 mul-row-without : tie.Need-mul-row-without Inv-loop μ-loop
-mul-row-without c = let k = c .before .before .before .before .before in omega (arith, k .pre .1 .1 .0, k .pre .1 .0 .few-first-nodes)
+mul-row-without c = let k = c .before .before .before .before .before in omega (arith, k .pre .1 .1 .0, k .pre .1 .0 .first-held .few-nodes)
 
 add-row-without : tie.Need-add-row-without Inv-loop μ-loop
-add-row-without c = let k = c .before .before .before .before .before in omega (arith, k .pre .1 .1 .0, k .pre .1 .0 .few-first-nodes)
+add-row-without c = let k = c .before .before .before .before .before in omega (arith, k .pre .1 .1 .0, k .pre .1 .0 .first-held .few-nodes)
 
 row-without-requires : tie.Need-row-without-requires Inv-loop μ-loop
-row-without-requires c κs = let k = c .before .before .before .before .before in (omega (arith, k .pre .1 .1 .0, k .pre .1 .0 .few-first-nodes, k .pre .1 .1 .1 .0 .room), k .pre .0)
+row-without-requires c κs = let k = c .before .before .before .before .before in (omega (arith, k .pre .1 .1 .0, k .pre .1 .0 .first-held .few-nodes, k .pre .1 .1 .1 .0 .room), k .pre .0)
 
 slice-aggregate-predecessors : tie.Need-slice-aggregate-predecessors Inv-loop μ-loop
 slice-aggregate-predecessors c = search needs

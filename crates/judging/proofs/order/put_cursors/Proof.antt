@@ -7,11 +7,9 @@ use Rattle.judging.specs.Refinement.Files.{first-edge-in}
 use Rattle.judging.proofs.OrderLaws.{outside-on, pair-put}
 use Rattle.judging.proofs.order.put_cursors.Statement.{statement}
 use Rattle.judging.proofs.order.put_cursors.Tie as tie
-use Rattle.files.proofs.cells.put16.Reads as put16-reads
-use Rattle.judging.proofs.matches.source_of.Reads as source-of-reads
 
 abbrev Inv-loop : tie.InvT-loop
-Inv-loop first second s work₀ left₀ work left = (length work ≡ length work₀) × (left ≤ s .edges) × Outside 29760 30816 work₀ work
+Inv-loop first second s work₀ left₀ work left = (length work ≡ length work₀) × (left ≤ s .first .edges) × Outside 29760 30816 work₀ work
 
 abbrev μ-loop : tie.MeasureT-loop
 μ-loop first second s work₀ left₀ work left = left
@@ -23,13 +21,13 @@ sub-left : tie.Need-sub-left Inv-loop μ-loop
 sub-left c = omega (arith, c .loop-test .taken)
 
 source-of-requires : tie.Need-source-of-requires Inv-loop μ-loop
-source-of-requires c κs = let k = c .before .before .before .before .before in (k .pre .0 .first-file, (k .pre .0 .first-nodes-are, omega (arith, c .loop-test .taken, c .before .loop .inv .1, k .pre .0 .first-edges-are, k .pre .0 .first-nodes-are)))
+source-of-requires c κs = let k = c .before .before .before .before .before in (k .pre .0 .first-held .views .graph-file, (k .pre .0 .first-held .views .nodes-are, omega (arith, c .loop-test .taken, c .before .loop .inv .1, k .pre .0 .first-held .views .edges-are, k .pre .0 .first-held .views .nodes-are)))
 
 cast-put16 : tie.Need-cast-put16 Inv-loop μ-loop
-cast-put16 c = omega (arith, c .before .before .loop-test .taken, c .before .before .before .loop .inv .1, c .before .before .before .before .before .before .before .pre .0 .few-first-edges)
+cast-put16 c = omega (arith, c .before .before .loop-test .taken, c .before .before .before .loop .inv .1, c .before .before .before .before .before .before .before .pre .0 .first-held .few-edges)
 
 put16-requires : tie.Need-put16-requires Inv-loop μ-loop
-put16-requires c κs = let k = c .before .before .before .before .before .before .before in let b = first-edge-in (c .before .before .before .before .before .before .before .args .s) (c .before .before .before .before .before .before .before .args .first .now) (c .before .before .before .before .before .before .before .args .second .now) (c .before .before .before .before .before .before .before .pre .0) (c .before .before .before .loop .left - 1) (omega (arith, c .before .before .loop-test .taken, c .before .before .before .loop .inv .1)) in omega (arith, c .before .source-of .ensures, b .0, k .pre .0 .few-first-nodes, c .before .before .before .loop .inv .0, k .pre .1)
+put16-requires c κs = let k = c .before .before .before .before .before .before .before in let b = first-edge-in (c .before .before .before .before .before .before .before .args .s) (c .before .before .before .before .before .before .before .args .first .now) (c .before .before .before .before .before .before .before .args .second .now) (c .before .before .before .before .before .before .before .pre .0) (c .before .before .before .loop .left - 1) (omega (arith, c .before .before .loop-test .taken, c .before .before .before .loop .inv .1)) in omega (arith, c .before .source-of .ensures, b .0, k .pre .0 .first-held .few-nodes, c .before .before .before .loop .inv .0, k .pre .1)
 
 loop-less : tie.Need-loop-less Inv-loop μ-loop
 loop-less c = omega (arith, c .before .before .before .before .before .loop-test .taken)
@@ -39,7 +37,7 @@ loop-again c = let k = c .before .before .before .before .before .before .before
     let l = c .before .before .before .before .before .before .loop in
     let p = c .before .before .put16 in
     let b = first-edge-in (c .before .before .before .before .before .before .before .before .before .before .args .s) (c .before .before .before .before .before .before .before .before .before .before .args .first .now) (c .before .before .before .before .before .before .before .before .before .before .args .second .now) (c .before .before .before .before .before .before .before .before .before .before .pre .0) (l .left - 1) (omega (arith, c .before .before .before .before .before .loop-test .taken, l .inv .1)) in
-    (p .kept .0 ∙ l .inv .0, omega (arith, c .before .before .before .before .before .loop-test .taken, l .inv .1), outside-on 29760 30816 (k .args .work .now) (l .work) (p .last .0) (l .inv .2) (pair-put (l .work) (p .last .0) 29760 (c .before .before .before .before .source-of .result) _ 29760 30816 (p .ensures) (omega arith) (omega (arith, c .before .before .before .before .source-of .ensures, b .0, k .pre .0 .few-first-nodes))))
+    (p .kept .0 ∙ l .inv .0, omega (arith, c .before .before .before .before .before .loop-test .taken, l .inv .1), outside-on 29760 30816 (k .args .work .now) (l .work) (p .last .0) (l .inv .2) (pair-put (l .work) (p .last .0) 29760 (c .before .before .before .before .source-of .result) _ 29760 30816 (p .ensures) (omega arith) (omega (arith, c .before .before .before .before .source-of .ensures, b .0, k .pre .0 .first-held .few-nodes))))
 
 same-length : tie.Need-same-length Inv-loop μ-loop
 same-length c = c .before .loop .inv .0

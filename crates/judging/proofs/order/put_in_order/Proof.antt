@@ -6,14 +6,12 @@ use lib.ListN.{length}
 use Rattle.judging.specs.Chains.{Outside}
 use Rattle.judging.proofs.order.put_in_order.Statement.{statement}
 use Rattle.judging.proofs.order.put_in_order.Tie as tie
-use Rattle.judging.proofs.order.put_cursors.Reads as put-cursors-reads
-use Rattle.judging.proofs.order.visit.Reads as visit-reads
 
 abbrev Inv-loop : tie.InvT-loop
 Inv-loop first second s work₀ root₀ left₀ work root left = (length work ≡ length work₀) × Outside 29760 30816 work₀ work
 
 abbrev μ-loop : tie.MeasureT-loop
-μ-loop first second s work₀ root₀ left₀ work root left = s .nodes - root
+μ-loop first second s work₀ root₀ left₀ work root left = s .first .nodes - root
 
 put-cursors-requires : tie.Need-put-cursors-requires Inv-loop μ-loop
 put-cursors-requires c κs = c .before .before .before .before .pre
@@ -25,7 +23,7 @@ visit-requires : tie.Need-visit-requires Inv-loop μ-loop
 visit-requires c κs = (c .before .before .before .before .before .before .before .before .before .before .before .pre .0, (c .before .if1 .taken, omega (arith, c .before .before .before .loop .inv .0, c .before .before .before .before .before .before .put-cursors .kept .1 .1 .1 .0, c .before .before .before .before .before .before .before .before .before .before .before .pre .1)))
 
 add-root : tie.Need-add-root Inv-loop μ-loop
-add-root c = omega (arith, c .before .before .before .before .if1 .taken, c .before .before .before .before .before .before .before .before .before .before .before .before .before .before .pre .0 .few-first-nodes)
+add-root c = omega (arith, c .before .before .before .before .if1 .taken, c .before .before .before .before .before .before .before .before .before .before .before .before .before .before .pre .0 .first-held .few-nodes)
 
 loop-less : tie.Need-loop-less Inv-loop μ-loop
 loop-less c = omega (arith, c .before .before .before .before .if1 .taken)

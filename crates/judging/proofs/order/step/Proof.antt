@@ -1,5 +1,5 @@
 use mathlib.Core.Path.{ap}
-use Prim.Native.Nat.{_-_, _<_}
+use Prim.Native.Nat.{_<_}
 use native.Mathlib.Omega.{arith}
 use Rattle.files.specs.Decode.{decode-graph}
 use Rattle.files.specs.declared.graph.GraphEdge.{GraphEdge}
@@ -10,13 +10,6 @@ use Rattle.judging.proofs.OrderLaws.{outside-on, byte-put, pair-put, bi
 use borrow.Author.Needs.{needs}
 use Rattle.judging.proofs.order.step.Statement.{statement}
 use Rattle.judging.proofs.order.step.Tie as tie
-use Rattle.files.proofs.cells.get16.Reads as get16-reads
-use Rattle.files.proofs.cells.has_bit.Reads as has-bit-reads
-use Rattle.files.proofs.cells.put16.Reads as put16-reads
-use Rattle.files.proofs.cells.put8.Reads as put8-reads
-use Rattle.files.proofs.cells.put_bit.Reads as put-bit-reads
-use Rattle.files.proofs.graph.edge_at.Reads as edge-at-reads
-use Rattle.judging.proofs.order.leave.Reads as leave-reads
 
 get16-requires : tie.Need-get16-requires
 get16-requires c κs = search needs
@@ -67,33 +60,33 @@ put16-requires : tie.Need-put16-requires
 put16-requires c κs = search needs
 
 has-bit-requires : tie.Need-has-bit-requires
-has-bit-requires c κs = omega (arith, (ap (λ (z : GraphEdge). z .to) (held-edge (c .before .before .before .before .before .before .before .before .before .before .edge-at .result) _ (edge (decode-graph (c .before .before .before .before .before .before .before .before .before .before .before .before .before .before .before .before .before .before .args .first .now)) (c .before .before .before .before .before .before .before .before .before .before .before .before .before .get16 .result)) (c .before .before .before .before .before .before .before .before .x .given .1) (c .before .before .before .before .before .before .before .before .before .before .edge-at .ensures))), (first-edge-in (c .before .before .before .before .before .before .before .before .before .before .before .before .before .before .before .before .before .before .args .s) (c .before .before .before .before .before .before .before .before .before .before .before .before .before .before .before .before .before .before .args .first .now) (c .before .before .before .before .before .before .before .before .before .before .before .before .before .before .before .before .before .before .args .second .now) (c .before .before .before .before .before .before .before .before .before .before .before .before .before .before .before .before .before .before .pre .0) (c .before .before .before .before .before .before .before .before .before .before .before .before .before .get16 .result) (omega (arith, c .before .before .before .before .before .before .before .before .before .before .before .if1 .left))) .1, c .before .before .before .before .before .before .before .before .before .before .before .before .before .before .before .before .before .before .pre .0 .few-first-nodes, c .before .before .before .put16 .kept .0, c .before .before .before .before .before .before .before .before .before .before .before .before .before .before .before .before .before .before .pre .1 .1)
+has-bit-requires c κs = omega (arith, (ap (λ (z : GraphEdge). z .to) (held-edge (c .before .before .before .before .before .before .before .before .before .before .edge-at .result) _ (edge (decode-graph (c .before .before .before .before .before .before .before .before .before .before .before .before .before .before .before .before .before .before .args .first .now)) (c .before .before .before .before .before .before .before .before .before .before .before .before .before .get16 .result)) (c .before .before .before .before .before .before .before .before .x .given .1) (c .before .before .before .before .before .before .before .before .before .before .edge-at .ensures))), (first-edge-in (c .before .before .before .before .before .before .before .before .before .before .before .before .before .before .before .before .before .before .args .s) (c .before .before .before .before .before .before .before .before .before .before .before .before .before .before .before .before .before .before .args .first .now) (c .before .before .before .before .before .before .before .before .before .before .before .before .before .before .before .before .before .before .args .second .now) (c .before .before .before .before .before .before .before .before .before .before .before .before .before .before .before .before .before .before .pre .0) (c .before .before .before .before .before .before .before .before .before .before .before .before .before .get16 .result) (omega (arith, c .before .before .before .before .before .before .before .before .before .before .before .if1 .left))) .1, c .before .before .before .before .before .before .before .before .before .before .before .before .before .before .before .before .before .before .pre .0 .first-held .few-nodes, c .before .before .before .put16 .kept .0, c .before .before .before .before .before .before .before .before .before .before .before .before .before .before .before .before .before .before .pre .1 .1)
 
 same-length-4 : tie.Need-same-length-4
 same-length-4 c = search needs
 
 returns-4 : tie.Need-returns-4
-returns-4 c = (c .before .before .before .before .before .before .before .before .before .before .before .before .before .before .before .before .before .before .before .before .pre .1 .0, pair-put (c .before .before .before .before .before .before .before .before .before .before .before .before .before .before .before .before .before .before .before .before .args .work .now) (c .before .before .before .before .before .put16 .last .0) 29760 (c .before .before .before .before .before .before .before .before .before .before .before .before .before .before .before .before .before .before .before .before .args .w .node) _ 29760 30816 (c .before .before .before .before .before .put16 .ensures) (omega arith) (omega (arith, c .before .before .before .before .before .before .before .before .before .before .before .before .before .before .before .before .before .before .before .before .pre .1 .0, c .before .before .before .before .before .before .before .before .before .before .before .before .before .before .before .before .before .before .before .before .pre .0 .few-first-nodes)))
+returns-4 c = (c .before .before .before .before .before .before .before .before .before .before .before .before .before .before .before .before .before .before .before .before .pre .1 .0, pair-put (c .before .before .before .before .before .before .before .before .before .before .before .before .before .before .before .before .before .before .before .before .args .work .now) (c .before .before .before .before .before .put16 .last .0) 29760 (c .before .before .before .before .before .before .before .before .before .before .before .before .before .before .before .before .before .before .before .before .args .w .node) _ 29760 30816 (c .before .before .before .before .before .put16 .ensures) (omega arith) (omega (arith, c .before .before .before .before .before .before .before .before .before .before .before .before .before .before .before .before .before .before .before .before .pre .1 .0, c .before .before .before .before .before .before .before .before .before .before .before .before .before .before .before .before .before .before .before .before .pre .0 .first-held .few-nodes)))
 
 put-bit-requires : tie.Need-put-bit-requires
-put-bit-requires c κs = omega (arith, (ap (λ (z : GraphEdge). z .to) (held-edge (c .before .before .before .before .before .before .before .before .before .before .before .before .before .edge-at .result) _ (edge (decode-graph (c .before .before .before .before .before .before .before .before .before .before .before .before .before .before .before .before .before .before .before .before .before .args .first .now)) (c .before .before .before .before .before .before .before .before .before .before .before .before .before .before .before .before .get16 .result)) (c .before .before .before .before .before .before .before .before .before .before .before .x .given .1) (c .before .before .before .before .before .before .before .before .before .before .before .before .before .edge-at .ensures))), (first-edge-in (c .before .before .before .before .before .before .before .before .before .before .before .before .before .before .before .before .before .before .before .before .before .args .s) (c .before .before .before .before .before .before .before .before .before .before .before .before .before .before .before .before .before .before .before .before .before .args .first .now) (c .before .before .before .before .before .before .before .before .before .before .before .before .before .before .before .before .before .before .before .before .before .args .second .now) (c .before .before .before .before .before .before .before .before .before .before .before .before .before .before .before .before .before .before .before .before .before .pre .0) (c .before .before .before .before .before .before .before .before .before .before .before .before .before .before .before .before .get16 .result) (omega (arith, c .before .before .before .before .before .before .before .before .before .before .before .before .before .before .if1 .left))) .1, c .before .before .before .before .before .before .before .before .before .before .before .before .before .before .before .before .before .before .before .before .before .pre .0 .few-first-nodes, c .before .before .before .before .before .before .put16 .kept .0, c .before .before .before .before .before .before .before .before .before .before .before .before .before .before .before .before .before .before .before .before .before .pre .1 .1)
+put-bit-requires c κs = omega (arith, (ap (λ (z : GraphEdge). z .to) (held-edge (c .before .before .before .before .before .before .before .before .before .before .before .before .before .edge-at .result) _ (edge (decode-graph (c .before .before .before .before .before .before .before .before .before .before .before .before .before .before .before .before .before .before .before .before .before .args .first .now)) (c .before .before .before .before .before .before .before .before .before .before .before .before .before .before .before .before .get16 .result)) (c .before .before .before .before .before .before .before .before .before .before .before .x .given .1) (c .before .before .before .before .before .before .before .before .before .before .before .before .before .edge-at .ensures))), (first-edge-in (c .before .before .before .before .before .before .before .before .before .before .before .before .before .before .before .before .before .before .before .before .before .args .s) (c .before .before .before .before .before .before .before .before .before .before .before .before .before .before .before .before .before .before .before .before .before .args .first .now) (c .before .before .before .before .before .before .before .before .before .before .before .before .before .before .before .before .before .before .before .before .before .args .second .now) (c .before .before .before .before .before .before .before .before .before .before .before .before .before .before .before .before .before .before .before .before .before .pre .0) (c .before .before .before .before .before .before .before .before .before .before .before .before .before .before .before .before .get16 .result) (omega (arith, c .before .before .before .before .before .before .before .before .before .before .before .before .before .before .if1 .left))) .1, c .before .before .before .before .before .before .before .before .before .before .before .before .before .before .before .before .before .before .before .before .before .pre .0 .first-held .few-nodes, c .before .before .before .before .before .before .put16 .kept .0, c .before .before .before .before .before .before .before .before .before .before .before .before .before .before .before .before .before .before .before .before .before .pre .1 .1)
 
 cast-put8 : tie.Need-cast-put8
-cast-put8 c = omega (arith, c .before .before .before .before .before .before .before .before .before .before .before .before .before .before .before .before .before .before .before .before .before .before .before .before .before .pre .1 .0, c .before .before .before .before .before .before .before .before .before .before .before .before .before .before .before .before .before .before .before .before .before .before .before .before .before .pre .0 .few-first-nodes)
+cast-put8 c = omega (arith, c .before .before .before .before .before .before .before .before .before .before .before .before .before .before .before .before .before .before .before .before .before .before .before .before .before .pre .1 .0, c .before .before .before .before .before .before .before .before .before .before .before .before .before .before .before .before .before .before .before .before .before .before .before .before .before .pre .0 .first-held .few-nodes)
 
 put8-requires : tie.Need-put8-requires
-put8-requires c κs = omega (arith, (ap (λ (z : GraphEdge). z .to) (held-edge (c .before .before .before .before .before .before .before .before .before .before .before .before .before .before .before .before .before .edge-at .result) _ (edge (decode-graph (c .before .before .before .before .before .before .before .before .before .before .before .before .before .before .before .before .before .before .before .before .before .before .before .before .before .args .first .now)) (c .before .before .before .before .before .before .before .before .before .before .before .before .before .before .before .before .before .before .before .before .get16 .result)) (c .before .before .before .before .before .before .before .before .before .before .before .before .before .before .before .x .given .1) (c .before .before .before .before .before .before .before .before .before .before .before .before .before .before .before .before .before .edge-at .ensures))), (first-edge-in (c .before .before .before .before .before .before .before .before .before .before .before .before .before .before .before .before .before .before .before .before .before .before .before .before .before .args .s) (c .before .before .before .before .before .before .before .before .before .before .before .before .before .before .before .before .before .before .before .before .before .before .before .before .before .args .first .now) (c .before .before .before .before .before .before .before .before .before .before .before .before .before .before .before .before .before .before .before .before .before .before .before .before .before .args .second .now) (c .before .before .before .before .before .before .before .before .before .before .before .before .before .before .before .before .before .before .before .before .before .before .before .before .before .pre .0) (c .before .before .before .before .before .before .before .before .before .before .before .before .before .before .before .before .before .before .before .before .get16 .result) (omega (arith, c .before .before .before .before .before .before .before .before .before .before .before .before .before .before .before .before .before .before .if1 .left))) .1, c .before .before .before .before .before .before .before .before .before .before .before .before .before .before .before .before .before .before .before .before .before .before .before .before .before .pre .0 .few-first-nodes, c .before .before .before .before .before .before .before .before .before .before .put16 .kept .0, c .before .before .before .put-bit .kept .0, c .before .before .before .before .before .before .before .before .before .before .before .before .before .before .before .before .before .before .before .before .before .before .before .before .before .pre .1 .1)
+put8-requires c κs = omega (arith, (ap (λ (z : GraphEdge). z .to) (held-edge (c .before .before .before .before .before .before .before .before .before .before .before .before .before .before .before .before .before .edge-at .result) _ (edge (decode-graph (c .before .before .before .before .before .before .before .before .before .before .before .before .before .before .before .before .before .before .before .before .before .before .before .before .before .args .first .now)) (c .before .before .before .before .before .before .before .before .before .before .before .before .before .before .before .before .before .before .before .before .get16 .result)) (c .before .before .before .before .before .before .before .before .before .before .before .before .before .before .before .x .given .1) (c .before .before .before .before .before .before .before .before .before .before .before .before .before .before .before .before .before .edge-at .ensures))), (first-edge-in (c .before .before .before .before .before .before .before .before .before .before .before .before .before .before .before .before .before .before .before .before .before .before .before .before .before .args .s) (c .before .before .before .before .before .before .before .before .before .before .before .before .before .before .before .before .before .before .before .before .before .before .before .before .before .args .first .now) (c .before .before .before .before .before .before .before .before .before .before .before .before .before .before .before .before .before .before .before .before .before .before .before .before .before .args .second .now) (c .before .before .before .before .before .before .before .before .before .before .before .before .before .before .before .before .before .before .before .before .before .before .before .before .before .pre .0) (c .before .before .before .before .before .before .before .before .before .before .before .before .before .before .before .before .before .before .before .before .get16 .result) (omega (arith, c .before .before .before .before .before .before .before .before .before .before .before .before .before .before .before .before .before .before .if1 .left))) .1, c .before .before .before .before .before .before .before .before .before .before .before .before .before .before .before .before .before .before .before .before .before .before .before .before .before .pre .0 .first-held .few-nodes, c .before .before .before .before .before .before .before .before .before .before .put16 .kept .0, c .before .before .before .put-bit .kept .0, c .before .before .before .before .before .before .before .before .before .before .before .before .before .before .before .before .before .before .before .before .before .before .before .before .before .pre .1 .1)
 
 same-length-5 : tie.Need-same-length-5
 same-length-5 c = search needs
 
 returns-5 : tie.Need-returns-5
 returns-5 c = let k = c .before .before .before .before .before .before .before .before .before .before .before .before .before .before .before .before .before .before .before .before .before .before .before .before .before .before .before .before in
-    let to-low : c .before .before .before .before .before .before .before .before .before .before .before .before .before .before .before .before .before .before .x .given .0 .0 .to < k .args .s .nodes = omega (arith, (ap (λ (z : GraphEdge). z .to) (held-edge (c .before .before .before .before .before .before .before .before .before .before .before .before .before .before .before .before .before .before .before .before .edge-at .result) _ (edge (decode-graph (c .before .before .before .before .before .before .before .before .before .before .before .before .before .before .before .before .before .before .before .before .before .before .before .before .before .before .before .before .args .first .now)) (c .before .before .before .before .before .before .before .before .before .before .before .before .before .before .before .before .before .before .before .before .before .before .before .get16 .result)) (c .before .before .before .before .before .before .before .before .before .before .before .before .before .before .before .before .before .before .x .given .1) (c .before .before .before .before .before .before .before .before .before .before .before .before .before .before .before .before .before .before .before .before .edge-at .ensures))), (first-edge-in (c .before .before .before .before .before .before .before .before .before .before .before .before .before .before .before .before .before .before .before .before .before .before .before .before .before .before .before .before .args .s) (c .before .before .before .before .before .before .before .before .before .before .before .before .before .before .before .before .before .before .before .before .before .before .before .before .before .before .before .before .args .first .now) (c .before .before .before .before .before .before .before .before .before .before .before .before .before .before .before .before .before .before .before .before .before .before .before .before .before .before .before .before .args .second .now) (c .before .before .before .before .before .before .before .before .before .before .before .before .before .before .before .before .before .before .before .before .before .before .before .before .before .before .before .before .pre .0) (c .before .before .before .before .before .before .before .before .before .before .before .before .before .before .before .before .before .before .before .before .before .before .before .get16 .result) (omega (arith, c .before .before .before .before .before .before .before .before .before .before .before .before .before .before .before .before .before .before .before .before .before .if1 .left))) .1) in (
+    let to-low : c .before .before .before .before .before .before .before .before .before .before .before .before .before .before .before .before .before .before .x .given .0 .0 .to < k .args .s .first .nodes = omega (arith, (ap (λ (z : GraphEdge). z .to) (held-edge (c .before .before .before .before .before .before .before .before .before .before .before .before .before .before .before .before .before .before .before .before .edge-at .result) _ (edge (decode-graph (c .before .before .before .before .before .before .before .before .before .before .before .before .before .before .before .before .before .before .before .before .before .before .before .before .before .before .before .before .args .first .now)) (c .before .before .before .before .before .before .before .before .before .before .before .before .before .before .before .before .before .before .before .before .before .before .before .get16 .result)) (c .before .before .before .before .before .before .before .before .before .before .before .before .before .before .before .before .before .before .x .given .1) (c .before .before .before .before .before .before .before .before .before .before .before .before .before .before .before .before .before .before .before .before .edge-at .ensures))), (first-edge-in (c .before .before .before .before .before .before .before .before .before .before .before .before .before .before .before .before .before .before .before .before .before .before .before .before .before .before .before .before .args .s) (c .before .before .before .before .before .before .before .before .before .before .before .before .before .before .before .before .before .before .before .before .before .before .before .before .before .before .before .before .args .first .now) (c .before .before .before .before .before .before .before .before .before .before .before .before .before .before .before .before .before .before .before .before .before .before .before .before .before .before .before .before .args .second .now) (c .before .before .before .before .before .before .before .before .before .before .before .before .before .before .before .before .before .before .before .before .before .before .before .before .before .before .before .before .pre .0) (c .before .before .before .before .before .before .before .before .before .before .before .before .before .before .before .before .before .before .before .before .before .before .before .get16 .result) (omega (arith, c .before .before .before .before .before .before .before .before .before .before .before .before .before .before .before .before .before .before .before .before .before .if1 .left))) .1) in (
       to-low,
-      outside-on 29760 30816 (k .args .work .now) (c .before .before .before .before .before .before .before .before .before .before .before .before .before .put16 .last .0) (c .before .before .put8 .last .0) (pair-put (k .args .work .now) (c .before .before .before .before .before .before .before .before .before .before .before .before .before .put16 .last .0) 29760 (k .args .w .node) _ 29760 30816 (c .before .before .before .before .before .before .before .before .before .before .before .before .before .put16 .ensures) (omega arith) (omega (arith, k .pre .1 .0, k .pre .0 .few-first-nodes)))
-          (outside-on 29760 30816 (c .before .before .before .before .before .before .before .before .before .before .before .before .before .put16 .last .0) (c .before .before .before .before .before .before .put-bit .last .0) (c .before .before .put8 .last .0) (bit-put (c .before .before .before .before .before .before .before .before .before .before .before .before .before .put16 .last .0) (c .before .before .before .before .before .before .put-bit .last .0) 30784 _ 29760 30816 (c .before .before .before .before .before .before .put-bit .ensures) (omega arith) (omega (arith, to-low, k .pre .0 .few-first-nodes)))
-          (byte-put (c .before .before .before .before .before .before .put-bit .last .0) (c .before .before .put8 .last .0) 30272 _ _ 29760 30816 (c .before .before .put8 .ensures) (omega arith) (omega (arith, to-low, k .pre .0 .few-first-nodes)))),
+      outside-on 29760 30816 (k .args .work .now) (c .before .before .before .before .before .before .before .before .before .before .before .before .before .put16 .last .0) (c .before .before .put8 .last .0) (pair-put (k .args .work .now) (c .before .before .before .before .before .before .before .before .before .before .before .before .before .put16 .last .0) 29760 (k .args .w .node) _ 29760 30816 (c .before .before .before .before .before .before .before .before .before .before .before .before .before .put16 .ensures) (omega arith) (omega (arith, k .pre .1 .0, k .pre .0 .first-held .few-nodes)))
+          (outside-on 29760 30816 (c .before .before .before .before .before .before .before .before .before .before .before .before .before .put16 .last .0) (c .before .before .before .before .before .before .put-bit .last .0) (c .before .before .put8 .last .0) (bit-put (c .before .before .before .before .before .before .before .before .before .before .before .before .before .put16 .last .0) (c .before .before .before .before .before .before .put-bit .last .0) 30784 _ 29760 30816 (c .before .before .before .before .before .before .put-bit .ensures) (omega arith) (omega (arith, to-low, k .pre .0 .first-held .few-nodes)))
+          (byte-put (c .before .before .before .before .before .before .put-bit .last .0) (c .before .before .put8 .last .0) 30272 _ _ 29760 30816 (c .before .before .put8 .ensures) (omega arith) (omega (arith, to-low, k .pre .0 .first-held .few-nodes)))),
     )
 
 pub step-spec : {M : Type 1} → statement M

@@ -1,13 +1,8 @@
-use Prim.Native.Nat.{_-_}
 use native.Mathlib.Omega.{arith}
 use Rattle.judging.proofs.OrderLaws.{outside-on, byte-put, bit-put}
 use borrow.Author.Needs.{needs}
 use Rattle.judging.proofs.order.visit.Statement.{statement}
 use Rattle.judging.proofs.order.visit.Tie as tie
-use Rattle.files.proofs.cells.has_bit.Reads as has-bit-reads
-use Rattle.files.proofs.cells.put8.Reads as put8-reads
-use Rattle.files.proofs.cells.put_bit.Reads as put-bit-reads
-use Rattle.judging.proofs.order.walk_from.Reads as walk-from-reads
 
 has-bit-requires : tie.Need-has-bit-requires
 has-bit-requires c κs = search needs
@@ -35,8 +30,8 @@ same-length-2 c = search needs
 
 returns-2 : tie.Need-returns-2
 returns-2 c = let k = c .before .before .before .before .before .before .before .before .before .before .before .before .before .before .before .before .before .before in
-    outside-on 29760 30816 (k .args .work .now) (c .before .before .before .before .before .before .before .before .before .before .put-bit .last .0) (c .before .before .walk-from .last .1 .1 .1 .0) (bit-put (k .args .work .now) (c .before .before .before .before .before .before .before .before .before .before .put-bit .last .0) 30784 (k .args .root) 29760 30816 (c .before .before .before .before .before .before .before .before .before .before .put-bit .ensures) (omega arith) (omega (arith, k .pre .1 .0, k .pre .0 .few-first-nodes)))
-    (outside-on 29760 30816 (c .before .before .before .before .before .before .before .before .before .before .put-bit .last .0) (c .before .before .before .before .before .before .put8 .last .0) (c .before .before .walk-from .last .1 .1 .1 .0) (byte-put (c .before .before .before .before .before .before .before .before .before .before .put-bit .last .0) (c .before .before .before .before .before .before .put8 .last .0) 30272 (k .args .root) _ 29760 30816 (c .before .before .before .before .before .before .put8 .ensures) (omega arith) (omega (arith, k .pre .1 .0, k .pre .0 .few-first-nodes))) (c .before .before .walk-from .ensures))
+    outside-on 29760 30816 (k .args .work .now) (c .before .before .before .before .before .before .before .before .before .before .put-bit .last .0) (c .before .before .walk-from .last .1 .1 .1 .0) (bit-put (k .args .work .now) (c .before .before .before .before .before .before .before .before .before .before .put-bit .last .0) 30784 (k .args .root) 29760 30816 (c .before .before .before .before .before .before .before .before .before .before .put-bit .ensures) (omega arith) (omega (arith, k .pre .1 .0, k .pre .0 .first-held .few-nodes)))
+    (outside-on 29760 30816 (c .before .before .before .before .before .before .before .before .before .before .put-bit .last .0) (c .before .before .before .before .before .before .put8 .last .0) (c .before .before .walk-from .last .1 .1 .1 .0) (byte-put (c .before .before .before .before .before .before .before .before .before .before .put-bit .last .0) (c .before .before .before .before .before .before .put8 .last .0) 30272 (k .args .root) _ 29760 30816 (c .before .before .before .before .before .before .put8 .ensures) (omega arith) (omega (arith, k .pre .1 .0, k .pre .0 .first-held .few-nodes))) (c .before .before .walk-from .ensures))
 
 pub visit-spec : {M : Type 1} → statement M
 visit-spec =

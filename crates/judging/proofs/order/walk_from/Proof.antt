@@ -1,21 +1,20 @@
 use mathlib.Core.Path.{_≡_, refl, _∙_}
-use Prim.Native.Nat.{_-_, _<_}
+use Prim.Native.Nat.{_<_}
 use native.Mathlib.Omega.{arith}
 use lib.ListN.{length}
 use Rattle.judging.specs.Chains.{Outside}
 use Rattle.judging.proofs.OrderLaws.{outside-on}
 use Rattle.judging.proofs.order.walk_from.Statement.{statement}
 use Rattle.judging.proofs.order.walk_from.Tie as tie
-use Rattle.judging.proofs.order.step.Reads as step-reads
 
 abbrev Inv-loop : tie.InvT-loop
-Inv-loop first second s work₀ root left w₀ steps₀ work w steps = (length work ≡ length work₀) × (w .node < s .nodes) × Outside 29760 30816 work₀ work
+Inv-loop first second s work₀ root left w₀ steps₀ work w steps = (length work ≡ length work₀) × (w .node < s .first .nodes) × Outside 29760 30816 work₀ work
 
 abbrev μ-loop : tie.MeasureT-loop
 μ-loop first second s work₀ root left w₀ steps₀ work w steps = steps
 
 add-steps : tie.Need-add-steps Inv-loop μ-loop
-add-steps c = omega (arith, c .before .before .before .before .pre .0 .few-first-nodes, c .before .before .before .before .pre .0 .few-first-edges)
+add-steps c = omega (arith, c .before .before .before .before .pre .0 .first-held .few-nodes, c .before .before .before .before .pre .0 .first-held .few-edges)
 
 loop-holds : tie.Need-loop-holds Inv-loop μ-loop
 loop-holds c = (refl, c .before .before .before .before .pre .1 .0, λ q d. refl)

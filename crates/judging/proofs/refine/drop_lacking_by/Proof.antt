@@ -11,26 +11,24 @@ use Rattle.judging.specs.Refinement.Handing.{shrank-none, shrank-on}
 use Rattle.judging.proofs.MatchLaws.{lacking-drop, dropped-turn, leading-all}
 use Rattle.judging.proofs.refine.drop_lacking_by.Statement.{statement}
 use Rattle.judging.proofs.refine.drop_lacking_by.Tie as tie
-use Rattle.judging.proofs.matches.drop_from.Reads as drop-from-reads
-use Rattle.judging.proofs.refine.lacking.Reads as lacking-reads
 
 abbrev Inv-loop : tie.InvT-loop
-Inv-loop first second s work₀ label gone v₀ work v = (v ≤ s .nodes) × (length work ≡ length work₀) × Shrank (decode-graph first) (decode-graph second) work₀ work × ((e h : ℕ) → e < s .edges → (edge (decode-graph first) e) .label ≡ label → (edge (decode-graph first) e) .to < v → h < 256 → T (rel work ((edge (decode-graph first) e) .from) h) → T (has-bit gone 0 h) → ⊥)
+Inv-loop first second s work₀ label gone v₀ work v = (v ≤ s .first .nodes) × (length work ≡ length work₀) × Shrank (decode-graph first) (decode-graph second) work₀ work × ((e h : ℕ) → e < s .first .edges → (edge (decode-graph first) e) .label ≡ label → (edge (decode-graph first) e) .to < v → h < 256 → T (rel work ((edge (decode-graph first) e) .from) h) → T (has-bit gone 0 h) → ⊥)
 
 abbrev μ-loop : tie.MeasureT-loop
-μ-loop first second s work₀ label gone v₀ work v = s .nodes - v
+μ-loop first second s work₀ label gone v₀ work v = s .first .nodes - v
 
 lacking-requires : tie.Need-lacking-requires Inv-loop μ-loop
-lacking-requires c κs = let k = c .before .before .before .before in (k .pre .1 .1 .room, (k .pre .0 .few-second-nodes, k .pre .1 .0))
+lacking-requires c κs = let k = c .before .before .before .before in (k .pre .1 .1 .room, (k .pre .0 .second-held .few-nodes, k .pre .1 .0))
 
 loop-holds : tie.Need-loop-holds Inv-loop μ-loop
 loop-holds c = (omega arith, refl, shrank-none (decode-graph (c .before .before .before .before .before .args .first .now)) (decode-graph (c .before .before .before .before .before .args .second .now)) (c .before .before .before .before .before .args .work .now) (c .before .before .before .before .before .pre .1 .1), λ e h he li below. absurd (omega (arith, below)))
 
 mul-drop-from : tie.Need-mul-drop-from Inv-loop μ-loop
-mul-drop-from c = omega (arith, c .before .if1 .taken, c .before .before .before .before .before .before .before .before .before .pre .0 .few-first-nodes)
+mul-drop-from c = omega (arith, c .before .if1 .taken, c .before .before .before .before .before .before .before .before .before .pre .0 .first-held .few-nodes)
 
 add-drop-from : tie.Need-add-drop-from Inv-loop μ-loop
-add-drop-from c = omega (arith, c .before .if1 .taken, c .before .before .before .before .before .before .before .before .before .pre .0 .few-first-nodes, c .before .before .before .before .before .before .before .before .before .pre .1 .0)
+add-drop-from c = omega (arith, c .before .if1 .taken, c .before .before .before .before .before .before .before .before .before .pre .0 .first-held .few-nodes, c .before .before .before .before .before .before .before .before .before .pre .1 .0)
 
 slice-aggregate-drop-from : tie.Need-slice-aggregate-drop-from Inv-loop μ-loop
 slice-aggregate-drop-from c = omega (arith, c .before .before .before .before .before .lacking .ensures .0)

@@ -9,13 +9,12 @@ use Rattle.files.specs.Cells.{has-bit}
 use Rattle.judging.proofs.RowLaws.{chosen-none, chosen-put}
 use Rattle.judging.proofs.refine.everything.Statement.{statement}
 use Rattle.judging.proofs.refine.everything.Tie as tie
-use Rattle.files.proofs.cells.put_bit.Reads as put-bit-reads
 
 abbrev Inv-loop : tie.InvT-loop
-Inv-loop s row₀ x₀ row x = (x ≤ s .nodes2) × (length row ≡ 32) × ((h : ℕ) → h < 256 → has-bit row 0 h ≡ ltb h x)
+Inv-loop s row₀ x₀ row x = (x ≤ s .second .nodes) × (length row ≡ 32) × ((h : ℕ) → h < 256 → has-bit row 0 h ≡ ltb h x)
 
 abbrev μ-loop : tie.MeasureT-loop
-μ-loop s row₀ x₀ row x = s .nodes2 - x
+μ-loop s row₀ x₀ row x = s .second .nodes - x
 
 loop-holds : tie.Need-loop-holds Inv-loop μ-loop
 loop-holds c = (omega arith, refl, chosen-none (λ h. true))
@@ -36,7 +35,7 @@ loop-again : tie.Need-loop-again Inv-loop μ-loop
 loop-again c = let l = c .before .before .before .before .before .loop in let p = c .before .put-bit in (omega (arith, c .before .before .before .if1 .taken), p .kept .0 ∙ l .inv .1, chosen-put (λ h. true) (l .row) (l .x) (l .inv .2) (p .last .0) (omega (arith, l .inv .1)) (omega (arith, c .before .before .before .if1 .taken, c .before .before .before .before .before .before .pre)) (p .ensures) refl)
 
 returns : tie.Need-returns Inv-loop μ-loop
-returns c = let l = c .before .before .loop in let e : l .x ≡ c .before .before .before .args .s .nodes2 = omega (arith, c .if1 .left, l .inv .0) in (l .inv .1, λ h b. l .inv .2 h b ∙ ap (ltb h) e)
+returns c = let l = c .before .before .loop in let e : l .x ≡ c .before .before .before .args .s .second .nodes = omega (arith, c .if1 .left, l .inv .0) in (l .inv .1, λ h b. l .inv .2 h b ∙ ap (ltb h) e)
 
 pub everything-spec : {M : Type 1} → statement M
 everything-spec =

@@ -9,14 +9,12 @@ use Rattle.judging.specs.Refinement.{Lacking}
 use Rattle.judging.proofs.MatchLaws.{lacking-none, lacking-put, lacking-over, not-off}
 use Rattle.judging.proofs.refine.lacking.Statement.{statement}
 use Rattle.judging.proofs.refine.lacking.Tie as tie
-use Rattle.files.proofs.cells.put_bit.Reads as put-bit-reads
-use Rattle.judging.proofs.rows.any_at.Reads as any-at-reads
 
 abbrev Inv-loop : tie.InvT-loop
-Inv-loop s work label row₀ x₀ row x = (x ≤ s .nodes2) × (length row ≡ 32) × Lacking work label x row
+Inv-loop s work label row₀ x₀ row x = (x ≤ s .second .nodes) × (length row ≡ 32) × Lacking work label x row
 
 abbrev μ-loop : tie.MeasureT-loop
-μ-loop s work label row₀ x₀ row x = s .nodes2 - x
+μ-loop s work label row₀ x₀ row x = s .second .nodes - x
 
 loop-holds : tie.Need-loop-holds Inv-loop μ-loop
 loop-holds c = (omega arith, refl, lacking-none (c .before .args .work .now) (c .before .args .label))
@@ -59,7 +57,7 @@ loop-again c = let a = c .before .before .before .before .before .before .args i
     )
 
 returns : tie.Need-returns Inv-loop μ-loop
-returns c = let l = c .before .before .loop in let e : l .x ≡ c .before .before .before .before .args .s .nodes2 = omega (arith, c .if1 .left, l .inv .0) in (l .inv .1, subst (λ (n : ℕ). Lacking (c .before .before .before .before .args .work .now) (c .before .before .before .before .args .label) n (l .row)) e (l .inv .2))
+returns c = let l = c .before .before .loop in let e : l .x ≡ c .before .before .before .before .args .s .second .nodes = omega (arith, c .if1 .left, l .inv .0) in (l .inv .1, subst (λ (n : ℕ). Lacking (c .before .before .before .before .args .work .now) (c .before .before .before .before .args .label) n (l .row)) e (l .inv .2))
 
 pub lacking-spec : {M : Type 1} → statement M
 lacking-spec =

@@ -8,13 +8,12 @@ use Rattle.judging.proofs.LevelLaws.{below-more}
 use Rattle.judging.proofs.MatchLaws.{taken}
 use Rattle.judging.proofs.refine.lowest_unsettled.Statement.{statement}
 use Rattle.judging.proofs.refine.lowest_unsettled.Tie as tie
-use Rattle.judging.proofs.refine.has_lost.Reads as has-lost-reads
 
 abbrev Inv-loop : tie.InvT-loop
-Inv-loop first second s work v₀ v = (v ≤ s .nodes) × ((u h : ℕ) → u < v → h < 256 → T (held work u h) → T (rel work u h))
+Inv-loop first second s work v₀ v = (v ≤ s .first .nodes) × ((u h : ℕ) → u < v → h < 256 → T (held work u h) → T (rel work u h))
 
 abbrev μ-loop : tie.MeasureT-loop
-μ-loop first second s work v₀ v = s .nodes - v
+μ-loop first second s work v₀ v = s .first .nodes - v
 
 loop-holds : tie.Need-loop-holds Inv-loop μ-loop
 loop-holds c = (omega arith, λ u h a. absurd (omega (arith, a)))
@@ -26,7 +25,7 @@ returns : tie.Need-returns Inv-loop μ-loop
 returns c = (λ l. c .before .has-lost .ensures .0 (subst T (sym (c .if2 .taken)) tt), λ l. absurd (omega (arith, l, c .before .before .if1 .taken)))
 
 add-v : tie.Need-add-v Inv-loop μ-loop
-add-v c = omega (arith, c .before .before .if1 .taken, c .before .before .before .before .before .before .before .before .pre .0 .few-first-nodes)
+add-v c = omega (arith, c .before .before .if1 .taken, c .before .before .before .before .before .before .before .before .pre .0 .first-held .few-nodes)
 
 loop-less : tie.Need-loop-less Inv-loop μ-loop
 loop-less c = omega (arith, c .before .before .if1 .taken)

@@ -1,5 +1,5 @@
 use mathlib.Core.Path.{_≡_, refl, _∙_}
-use Prim.Native.Nat.{ℕ, _-_, _≤_, _<_}
+use Prim.Native.Nat.{ℕ, _≤_, _<_}
 use native.Mathlib.Omega.{arith}
 use lib.Dec.{T}
 use lib.ListN.{length}
@@ -8,15 +8,12 @@ use Rattle.judging.specs.Refinement.{rel, held, load, Matching}
 use Rattle.judging.proofs.MatchLaws.{taken, matching-still, load-less, settled-all}
 use Rattle.judging.proofs.refine.settle.Statement.{statement}
 use Rattle.judging.proofs.refine.settle.Tie as tie
-use Rattle.judging.proofs.refine.lowest_unsettled.Reads as lowest-unsettled-reads
-use Rattle.judging.proofs.refine.sweep.Reads as sweep-reads
-use Rattle.judging.proofs.refine.take.Reads as take-reads
 
 abbrev Inv-loop : tie.InvT-loop
-Inv-loop first second s work₀ v₀ work v = (length work ≡ length work₀) × Matching (decode-graph first) (decode-graph second) (s .nodes) work × (v < s .nodes → (h : ℕ) × (h < 256) × T (held work v h) × (T (rel work v h) → ⊥)) × (s .nodes ≤ v → (u h : ℕ) → u < s .nodes → h < 256 → T (held work u h) → T (rel work u h))
+Inv-loop first second s work₀ v₀ work v = (length work ≡ length work₀) × Matching (decode-graph first) (decode-graph second) (s .first .nodes) work × (v < s .first .nodes → (h : ℕ) × (h < 256) × T (held work v h) × (T (rel work v h) → ⊥)) × (s .first .nodes ≤ v → (u h : ℕ) → u < s .first .nodes → h < 256 → T (held work u h) → T (rel work u h))
 
 abbrev μ-loop : tie.MeasureT-loop
-μ-loop first second s work₀ v₀ work v = load (s .nodes) work
+μ-loop first second s work₀ v₀ work v = load (s .first .nodes) work
 
 sweep-requires : tie.Need-sweep-requires Inv-loop μ-loop
 sweep-requires c κs = c .before .before .before .before .pre

@@ -1,6 +1,6 @@
 use native.Mathlib.Nat.{le-refl, le-trans}
 use mathlib.Core.Path.{_≡_, refl, sym, subst, _∙_}
-use Prim.Native.Nat.{_-_, _≤_}
+use Prim.Native.Nat.{_≤_}
 use lib.Dec.{T}
 use lib.ListN.{length}
 use Rattle.files.specs.Decode.{decode-graph}
@@ -8,17 +8,15 @@ use Rattle.judging.specs.Refinement.{load, Matching}
 use Rattle.judging.proofs.MatchLaws.{taken, matching-still, load-down, load-less}
 use Rattle.judging.proofs.refine.settle_node.Statement.{statement}
 use Rattle.judging.proofs.refine.settle_node.Tie as tie
-use Rattle.judging.proofs.refine.has_lost.Reads as has-lost-reads
-use Rattle.judging.proofs.refine.take.Reads as take-reads
 
 abbrev Inv-loop : tie.InvT-loop
-Inv-loop first second s work₀ v work = (length work ≡ length work₀) × Matching (decode-graph first) (decode-graph second) (s .nodes) work × (load (s .nodes) work ≤ load (s .nodes) work₀)
+Inv-loop first second s work₀ v work = (length work ≡ length work₀) × Matching (decode-graph first) (decode-graph second) (s .first .nodes) work × (load (s .first .nodes) work ≤ load (s .first .nodes) work₀)
 
 abbrev μ-loop : tie.MeasureT-loop
-μ-loop first second s work₀ v work = load (s .nodes) work
+μ-loop first second s work₀ v work = load (s .first .nodes) work
 
 loop-holds : tie.Need-loop-holds Inv-loop μ-loop
-loop-holds c = (refl, c .before .before .before .pre .1 .1, le-refl (load (c .before .before .before .args .s .nodes) (c .before .before .before .args .work .now)))
+loop-holds c = (refl, c .before .before .before .pre .1 .1, le-refl (load (c .before .before .before .args .s .first .nodes) (c .before .before .before .args .work .now)))
 
 has-lost-requires : tie.Need-has-lost-requires Inv-loop μ-loop
 has-lost-requires c κs = (c .before .before .before .before .before .pre .0, (c .before .before .before .before .before .pre .1 .0, c .before .loop .inv .1 .refining .room))

@@ -9,26 +9,24 @@ use Rattle.judging.proofs.MatchLaws.{taken}
 use native.Mathlib.Nat.{le-refl, le-trans}
 use Rattle.judging.proofs.refine.sweep.Statement.{statement}
 use Rattle.judging.proofs.refine.sweep.Tie as tie
-use Rattle.files.proofs.cells.get8.Reads as get8-reads
-use Rattle.judging.proofs.refine.settle_node.Reads as settle-node-reads
 
 abbrev Inv-loop : tie.InvT-loop
-Inv-loop first second s work₀ i₀ work i = (length work ≡ length work₀) × Matching (decode-graph first) (decode-graph second) (s .nodes) work × (load (s .nodes) work ≤ load (s .nodes) work₀)
+Inv-loop first second s work₀ i₀ work i = (length work ≡ length work₀) × Matching (decode-graph first) (decode-graph second) (s .first .nodes) work × (load (s .first .nodes) work ≤ load (s .first .nodes) work₀)
 
 abbrev μ-loop : tie.MeasureT-loop
-μ-loop first second s work₀ i₀ work i = s .nodes - i
+μ-loop first second s work₀ i₀ work i = s .first .nodes - i
 
 loop-holds : tie.Need-loop-holds Inv-loop μ-loop
-loop-holds c = (refl, c .before .before .before .pre .1, le-refl (load (c .before .before .before .args .s .nodes) (c .before .before .before .args .work .now)))
+loop-holds c = (refl, c .before .before .before .pre .1, le-refl (load (c .before .before .before .args .s .first .nodes) (c .before .before .before .args .work .now)))
 
 get8-requires : tie.Need-get8-requires Inv-loop μ-loop
-get8-requires c κs = omega (arith, c .before .if1 .taken, c .before .before .before .before .before .before .before .pre .0 .few-first-nodes, c .before .before .before .loop .inv .1 .refining .room)
+get8-requires c κs = omega (arith, c .before .if1 .taken, c .before .before .before .before .before .before .before .pre .0 .first-held .few-nodes, c .before .before .before .loop .inv .1 .refining .room)
 
 cast-v : tie.Need-cast-v Inv-loop μ-loop
 cast-v c = search needs
 
 add-i : tie.Need-add-i Inv-loop μ-loop
-add-i c = omega (arith, c .before .before .if1 .taken, c .before .before .before .before .before .before .before .before .pre .0 .few-first-nodes)
+add-i c = omega (arith, c .before .before .if1 .taken, c .before .before .before .before .before .before .before .before .pre .0 .first-held .few-nodes)
 
 loop-less : tie.Need-loop-less Inv-loop μ-loop
 loop-less c = omega (arith, c .before .before .before .before .if1 .taken)

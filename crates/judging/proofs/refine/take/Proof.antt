@@ -1,12 +1,8 @@
-use Prim.Native.Nat.{_-_}
 use native.Mathlib.Omega.{arith}
 use Rattle.judging.proofs.MatchLaws.{contained, taken}
 use borrow.Author.Needs.{needs}
 use Rattle.judging.proofs.refine.take.Statement.{statement}
 use Rattle.judging.proofs.refine.take.Tie as tie
-use Rattle.judging.proofs.matches.hand_on.Reads as hand-on-reads
-use Rattle.judging.proofs.rows.put_row.Reads as put-row-reads
-use Rattle.judging.proofs.rows.row_at.Reads as row-at-reads
 
 mul-row-at : tie.Need-mul-row-at
 mul-row-at c = search needs
@@ -30,7 +26,7 @@ slice-aggregate-put-row : tie.Need-slice-aggregate-put-row
 slice-aggregate-put-row c = search needs
 
 put-row-requires : tie.Need-put-row-requires
-put-row-requires c κs = let k = c .before .before .before .before .before .before .before .before .before .before .before .before in (omega (arith, k .pre .1 .0, k .pre .0 .few-first-nodes, c .before .before .before .before .hand-on .kept .1 .1 .1 .0, k .pre .1 .1 .0 .room), omega (arith, c .before .before .before .before .before .before .before .row-at .ensures .0))
+put-row-requires c κs = let k = c .before .before .before .before .before .before .before .before .before .before .before .before in (omega (arith, k .pre .1 .0, k .pre .0 .first-held .few-nodes, c .before .before .before .before .hand-on .kept .1 .1 .1 .0, k .pre .1 .1 .0 .room), omega (arith, c .before .before .before .before .before .before .before .row-at .ensures .0))
 
 same-length : tie.Need-same-length
 same-length c = search needs

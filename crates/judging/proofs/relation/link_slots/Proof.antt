@@ -8,14 +8,12 @@ use Rattle.judging.specs.Refinement.{labelled-into}
 use Rattle.judging.proofs.RelationLaws.{slots-start, may-slot, slots-turn}
 use Rattle.judging.proofs.relation.link_slots.Statement.{statement}
 use Rattle.judging.proofs.relation.link_slots.Tie as tie
-use Rattle.judging.proofs.chains.link.Reads as link-reads
-use Rattle.judging.proofs.relation.slot_of.Reads as slot-of-reads
 
 abbrev Inv-loop : tie.InvT-loop
-Inv-loop first second s work₀ e₀ work e = (e ≤ s .edges) × (length work ≡ length work₀) × Chained work 16960 21568 (labelled-into (decode-graph first)) (9 * s .nodes) e × Outside 16960 29760 work₀ work
+Inv-loop first second s work₀ e₀ work e = (e ≤ s .first .edges) × (length work ≡ length work₀) × Chained work 16960 21568 (labelled-into (decode-graph first)) (9 * s .first .nodes) e × Outside 16960 29760 work₀ work
 
 abbrev μ-loop : tie.MeasureT-loop
-μ-loop first second s work₀ e₀ work e = s .edges - e
+μ-loop first second s work₀ e₀ work e = s .first .edges - e
 
 loop-holds : tie.Need-loop-holds Inv-loop μ-loop
 loop-holds c = (omega arith, refl, slots-start (c .before .before .before .args .s) (c .before .before .before .args .first .now) (c .before .before .before .args .second .now) (c .before .before .before .pre .0) (c .before .before .before .args .work .now) (c .before .before .before .pre .1 .1), λ q d. refl)
@@ -27,7 +25,7 @@ link-requires : tie.Need-link-requires Inv-loop μ-loop
 link-requires c κs = may-slot (c .before .before .before .before .before .before .before .before .args .s) (c .before .before .before .before .before .before .before .before .args .first .now) (c .before .before .before .before .before .before .before .before .args .second .now) (c .before .before .before .before .before .before .before .before .pre .0) (c .before .before .before .before .loop .work) (c .before .before .before .before .loop .e) (c .before .slot-of .result) (c .before .before .if1 .taken) (omega (arith, c .before .before .before .before .loop .inv .1, c .before .before .before .before .before .before .before .before .pre .1 .0)) (c .before .slot-of .ensures)
 
 add-e : tie.Need-add-e Inv-loop μ-loop
-add-e c = omega (arith, c .before .before .before .before .before .if1 .taken, c .before .before .before .before .before .before .before .before .before .before .before .pre .0 .few-first-edges)
+add-e c = omega (arith, c .before .before .before .before .before .if1 .taken, c .before .before .before .before .before .before .before .before .before .before .before .pre .0 .first-held .few-edges)
 
 loop-less : tie.Need-loop-less Inv-loop μ-loop
 loop-less c = omega (arith, c .before .before .before .before .before .if1 .taken)
@@ -44,8 +42,8 @@ same-length c = c .before .before .loop .inv .1
 
 returns : tie.Need-returns Inv-loop μ-loop
 returns c = let l = c .before .before .loop in
-    let e : l .e ≡ c .before .before .before .before .before .before .args .s .edges = omega (arith, c .if1 .left, l .inv .0) in
-    (subst (Chained (l .work) 16960 21568 (labelled-into (decode-graph (c .before .before .before .before .before .before .args .first .now))) (9 * c .before .before .before .before .before .before .args .s .nodes)) e (l .inv .2), l .inv .3)
+    let e : l .e ≡ c .before .before .before .before .before .before .args .s .first .edges = omega (arith, c .if1 .left, l .inv .0) in
+    (subst (Chained (l .work) 16960 21568 (labelled-into (decode-graph (c .before .before .before .before .before .before .args .first .now))) (9 * c .before .before .before .before .before .before .args .s .first .nodes)) e (l .inv .2), l .inv .3)
 
 pub link-slots-spec : {M : Type 1} → statement M
 link-slots-spec =

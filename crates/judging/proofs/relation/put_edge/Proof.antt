@@ -1,4 +1,3 @@
-use Prim.Native.Nat.{_-_}
 use native.Mathlib.Omega.{arith}
 use Rattle.files.specs.Decode.{decode-graph}
 use Rattle.judging.specs.Refinement.{edge}
@@ -7,11 +6,9 @@ use Rattle.judging.proofs.RelationLaws.{edge-fits, edge-put}
 use borrow.Author.Needs.{needs}
 use Rattle.judging.proofs.relation.put_edge.Statement.{statement}
 use Rattle.judging.proofs.relation.put_edge.Tie as tie
-use Rattle.files.proofs.cells.put_bit.Reads as put-bit-reads
-use Rattle.files.proofs.graph.edge_at.Reads as edge-at-reads
 
 edge-at-requires : tie.Need-edge-at-requires
-edge-at-requires c κs = (c .before .before .before .pre .0 .second-file, c .before .before .before .pre .0 .second-nodes-are, omega (arith, c .before .before .before .pre .1 .0, c .before .before .before .pre .0 .second-edges-are, c .before .before .before .pre .0 .second-nodes-are))
+edge-at-requires c κs = (c .before .before .before .pre .0 .second-held .views .graph-file, c .before .before .before .pre .0 .second-held .views .nodes-are, omega (arith, c .before .before .before .pre .1 .0, c .before .before .before .pre .0 .second-held .views .edges-are, c .before .before .before .pre .0 .second-held .views .nodes-are))
 
 enum-known-x : tie.Need-enum-known-x
 enum-known-x c = search needs

@@ -8,13 +8,12 @@ use Rattle.judging.specs.Refinement.Preparing.{Putting}
 use Rattle.judging.proofs.RelationLaws.{putting-start, putting-turn, putting-all}
 use Rattle.judging.proofs.relation.put_edges.Statement.{statement}
 use Rattle.judging.proofs.relation.put_edges.Tie as tie
-use Rattle.judging.proofs.relation.put_edge.Reads as put-edge-reads
 
 abbrev Inv-loop : tie.InvT-loop
-Inv-loop first second s work₀ j₀ work j = (j ≤ s .edges2) × (length work ≡ length work₀) × Putting (decode-graph second) (s .nodes2) j work × Outside 30816 112736 work₀ work
+Inv-loop first second s work₀ j₀ work j = (j ≤ s .second .edges) × (length work ≡ length work₀) × Putting (decode-graph second) (s .second .nodes) j work × Outside 30816 112736 work₀ work
 
 abbrev μ-loop : tie.MeasureT-loop
-μ-loop first second s work₀ j₀ work j = s .edges2 - j
+μ-loop first second s work₀ j₀ work j = s .second .edges - j
 
 loop-holds : tie.Need-loop-holds Inv-loop μ-loop
 loop-holds c = (omega arith, refl, putting-start (c .before .before .before .args .s) (c .before .before .before .args .first .now) (c .before .before .before .args .second .now) (c .before .before .before .pre .0) (c .before .before .before .args .work .now) (c .before .before .before .pre .1 .1), λ q d. refl)
@@ -23,7 +22,7 @@ put-edge-requires : tie.Need-put-edge-requires Inv-loop μ-loop
 put-edge-requires c κs = (c .before .before .before .before .before .before .before .pre .0, (c .before .if1 .taken, omega (arith, c .before .before .before .loop .inv .1, c .before .before .before .before .before .before .before .pre .1 .0)))
 
 add-j : tie.Need-add-j Inv-loop μ-loop
-add-j c = omega (arith, c .before .before .before .before .if1 .taken, c .before .before .before .before .before .before .before .before .before .before .pre .0 .few-second-edges)
+add-j c = omega (arith, c .before .before .before .before .if1 .taken, c .before .before .before .before .before .before .before .before .before .before .pre .0 .second-held .few-edges)
 
 loop-less : tie.Need-loop-less Inv-loop μ-loop
 loop-less c = omega (arith, c .before .before .before .before .if1 .taken)

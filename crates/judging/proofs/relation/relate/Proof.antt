@@ -12,21 +12,18 @@ use Rattle.judging.specs.Simulation.{alike}
 use Rattle.judging.proofs.RelationLaws.{related-turn}
 use Rattle.judging.proofs.relation.relate.Statement.{statement}
 use Rattle.judging.proofs.relation.relate.Tie as tie
-use Rattle.judging.proofs.relation.kind_of.Reads as kind-of-reads
-use Rattle.judging.proofs.rows.put_row.Reads as put-row-reads
-use Rattle.judging.proofs.rows.row_at.Reads as row-at-reads
 
 abbrev Inv-loop : tie.InvT-loop
-Inv-loop first second s work₀ g₀ work g = (g ≤ s .nodes) × (length work ≡ length work₀) × ((u h : ℕ) → u < g → h < 256 → rel work u h ≡ (ltb h (s .nodes2) && alike (node (decode-graph first) u) (node (decode-graph second) h))) × Outside 0 8192 work₀ work
+Inv-loop first second s work₀ g₀ work g = (g ≤ s .first .nodes) × (length work ≡ length work₀) × ((u h : ℕ) → u < g → h < 256 → rel work u h ≡ (ltb h (s .second .nodes) && alike (node (decode-graph first) u) (node (decode-graph second) h))) × Outside 0 8192 work₀ work
 
 abbrev μ-loop : tie.MeasureT-loop
-μ-loop first second s work₀ g₀ work g = s .nodes - g
+μ-loop first second s work₀ g₀ work g = s .first .nodes - g
 
 loop-holds : tie.Need-loop-holds Inv-loop μ-loop
 loop-holds c = (omega arith, refl, λ u h a b. absurd (omega (arith, a)), λ q d. refl)
 
 kind-of-requires : tie.Need-kind-of-requires Inv-loop μ-loop
-kind-of-requires c κs = (c .before .before .before .before .before .before .pre .0 .first-file, omega (arith, c .if1 .taken, c .before .before .before .before .before .before .pre .0 .first-nodes-are))
+kind-of-requires c κs = (c .before .before .before .before .before .before .pre .0 .first-held .views .graph-file, omega (arith, c .if1 .taken, c .before .before .before .before .before .before .pre .0 .first-held .views .nodes-are))
 
 mul-row-at : tie.Need-mul-row-at Inv-loop μ-loop
 mul-row-at c = omega (arith, c .before .kind-of .ensures .1)
@@ -38,16 +35,16 @@ row-at-requires : tie.Need-row-at-requires Inv-loop μ-loop
 row-at-requires c κs = omega (arith, c .before .kind-of .ensures .1, c .before .before .before .before .loop .inv .1, c .before .before .before .before .before .before .before .before .pre .1 .0)
 
 mul-put-row : tie.Need-mul-put-row Inv-loop μ-loop
-mul-put-row c = omega (arith, c .before .before .before .before .if1 .taken, c .before .before .before .before .before .before .before .before .before .before .pre .0 .few-first-nodes)
+mul-put-row c = omega (arith, c .before .before .before .before .if1 .taken, c .before .before .before .before .before .before .before .before .before .before .pre .0 .first-held .few-nodes)
 
 slice-aggregate-put-row : tie.Need-slice-aggregate-put-row Inv-loop μ-loop
 slice-aggregate-put-row c = omega (arith, c .before .before .row-at .ensures .0)
 
 put-row-requires : tie.Need-put-row-requires Inv-loop μ-loop
-put-row-requires c κs = (omega (arith, c .before .before .before .before .before .if1 .taken, c .before .before .before .before .before .before .before .before .before .before .before .pre .0 .few-first-nodes, c .before .before .before .before .before .before .before .loop .inv .1, c .before .before .before .before .before .before .before .before .before .before .before .pre .1 .0), omega (arith, c .before .before .row-at .ensures .0))
+put-row-requires c κs = (omega (arith, c .before .before .before .before .before .if1 .taken, c .before .before .before .before .before .before .before .before .before .before .before .pre .0 .first-held .few-nodes, c .before .before .before .before .before .before .before .loop .inv .1, c .before .before .before .before .before .before .before .before .before .before .before .pre .1 .0), omega (arith, c .before .before .row-at .ensures .0))
 
 add-g : tie.Need-add-g Inv-loop μ-loop
-add-g c = omega (arith, c .before .before .before .before .before .before .before .before .if1 .taken, c .before .before .before .before .before .before .before .before .before .before .before .before .before .before .pre .0 .few-first-nodes)
+add-g c = omega (arith, c .before .before .before .before .before .before .before .before .if1 .taken, c .before .before .before .before .before .before .before .before .before .before .before .before .before .before .pre .0 .first-held .few-nodes)
 
 loop-less : tie.Need-loop-less Inv-loop μ-loop
 loop-less c = omega (arith, c .before .before .before .before .before .before .before .before .if1 .taken)
@@ -64,7 +61,7 @@ same-length c = c .before .before .loop .inv .1
 
 returns : tie.Need-returns Inv-loop μ-loop
 returns c = let l = c .before .before .loop in
-    let e : l .g ≡ c .before .before .before .before .before .before .args .s .nodes = omega (arith, c .if1 .left, l .inv .0) in
+    let e : l .g ≡ c .before .before .before .before .before .before .args .s .first .nodes = omega (arith, c .if1 .left, l .inv .0) in
     (λ u h a b. l .inv .2 u h (omega (arith, a, e)) b, l .inv .3)
 
 pub relate-spec : {M : Type 1} → statement M

@@ -1,4 +1,3 @@
-use Prim.Native.Nat.{_-_}
 use native.Mathlib.Omega.{arith}
 use Rattle.files.specs.Decode.{decode-graph}
 use Rattle.judging.specs.Refinement.{edge}
@@ -7,10 +6,9 @@ use Rattle.judging.proofs.RelationLaws.{slot-is}
 use borrow.Author.Needs.{needs}
 use Rattle.judging.proofs.relation.slot_of.Statement.{statement}
 use Rattle.judging.proofs.relation.slot_of.Tie as tie
-use Rattle.files.proofs.graph.edge_at.Reads as edge-at-reads
 
 edge-at-requires : tie.Need-edge-at-requires
-edge-at-requires c κs = (c .before .before .pre .0 .first-file, c .before .before .pre .0 .first-nodes-are, omega (arith, c .before .before .pre .1, c .before .before .pre .0 .first-edges-are, c .before .before .pre .0 .first-nodes-are))
+edge-at-requires c κs = (c .before .before .pre .0 .first-held .views .graph-file, c .before .before .pre .0 .first-held .views .nodes-are, omega (arith, c .before .before .pre .1, c .before .before .pre .0 .first-held .views .edges-are, c .before .before .pre .0 .first-held .views .nodes-are))
 
 enum-known-x : tie.Need-enum-known-x
 enum-known-x c = search needs

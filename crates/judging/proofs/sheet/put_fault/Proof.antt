@@ -13,7 +13,7 @@ use Rattle.judging.proofs.sheet.put_fault.Tie as tie
 abbrev InRange : tie.After-get16 → Type 0
 InRange y =
     let s = y .before .before .before .before .before .args .s in
-    (y .get16 .result / 32 < s .nodes) × (y .get16 .result % 32 < s .rows)
+    (y .get16 .result / 32 < s .graph .nodes) × (y .get16 .result % 32 < s .rows)
 
 in-range : (y : tie.After-get16) → InRange y
 in-range y =

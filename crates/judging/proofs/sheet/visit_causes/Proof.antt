@@ -14,7 +14,7 @@ use Rattle.judging.proofs.sheet.visit_causes.Tie as tie
 abbrev Told : tie.After-causes-of → Cause → Type 0
 Told y c =
     let a = y .before .before .before .before .before .args in
-    (c .row ≡ 255) ⊎ ((c .node < a .s .nodes) × (c .row < a .s .rows))
+    (c .row ≡ 255) ⊎ ((c .node < a .s .graph .nodes) × (c .row < a .s .rows))
 
 first-told : (y : tie.After-causes-of) → Told y (y .causes-of .result .first)
 first-told y =

@@ -5,7 +5,7 @@ use Rattle.judging.proofs.simulate.contrast.Statement.{statement}
 use Rattle.judging.proofs.simulate.contrast.Tie as tie
 
 mul-if1 : tie.Need-mul-if1
-mul-if1 c = omega (arith, c .before .before .before .before .before .pre .0 .few-first-nodes)
+mul-if1 c = omega (arith, c .before .before .before .before .before .pre .0 .first-held .few-nodes)
 
 whole-requires : tie.Need-whole-requires
 whole-requires c κs = search needs

@@ -13,13 +13,10 @@ use Rattle.runs.specs.Joining.Sizes.{nodes-few, edges-few}
 use borrow.Author.Needs.{needs}
 use Rattle.runs.proofs.composing.watch_joined.Statement.{statement}
 use Rattle.runs.proofs.composing.watch_joined.Tie as tie
-use Rattle.files.proofs.refusal.Refusal.whole.Reads as whole-reads
-use Rattle.runs.proofs.joining.write_join.Reads as write-join-reads
-use Rattle.runs.proofs.watching.watch_runs.Reads as watch-runs-reads
 
 -- the second graph's bytes, where they stand in the buffer
 abbrev second : Sizes → List ℕ → List ℕ
-second s l = take (6 * (s .nodes2 + s .edges2)) l
+second s l = take (6 * (s .second .nodes + s .second .edges)) l
 
 add-nodes : tie.Need-add-nodes
 add-nodes c = search needs
@@ -50,7 +47,7 @@ slice-reshare-prefix-write-join c = search needs
 
 slice-aggregate-write-join : tie.Need-slice-aggregate-write-join
 slice-aggregate-write-join c = let k = c .before .before .before .before .before .before .before .before .before .before .before .before in
-    sym (length-take-le (6 * (k .args .s .nodes2 + k .args .s .edges2)) (k .args .store .now) (omega (arith, k .pre .0 .few-second-nodes, k .pre .0 .few-second-edges, k .pre .1 .1 .1 .0)))
+    sym (length-take-le (6 * (k .args .s .second .nodes + k .args .s .second .edges)) (k .args .store .now) (omega (arith, k .pre .0 .second-held .few-nodes, k .pre .0 .second-held .few-edges, k .pre .1 .1 .1 .0)))
 
 write-join-requires : tie.Need-write-join-requires
 write-join-requires c κs = let k = c .before .before .before .before .before .before .before .before .before .before .before .before .before in
@@ -60,7 +57,13 @@ write-join-requires c κs = let k = c .before .before .before .before .before .b
     (k .pre .0, (omega (arith, n, k .pre .1 .1 .0 .nodes-fit), omega (arith, n, e, k .pre .1 .1 .0 .nodes-fit, k .pre .1 .1 .0 .edges-fit, k .pre .1 .1 .1 .1)))
 
 slice-reshare-prefix-watch-runs : tie.Need-slice-reshare-prefix-watch-runs
-slice-reshare-prefix-watch-runs c = search needs
+slice-reshare-prefix-watch-runs c =
+    let k = c .before .before .before .before .before .before .before .before .before .before .before .before .before .before .before .before in
+    let a = k .args in
+    let past = c .before .before .before .before .before .before .if1 .left in
+    let n = nodes-few (a .limits) (a .s) (a .graph .now) (second (a .s) (a .store .now)) (k .pre .0) past in
+    let e = edges-few (a .limits) (a .s) (a .graph .now) (second (a .s) (a .store .now)) (k .pre .0) past in
+    omega (arith, n, e, k .pre .1 .1 .0 .nodes-fit, k .pre .1 .1 .0 .edges-fit, k .pre .1 .1 .1 .1, c .before .before .write-join .kept)
 
 slice-aggregate-watch-runs : tie.Need-slice-aggregate-watch-runs
 slice-aggregate-watch-runs c = let k = c .before .before .before .before .before .before .before .before .before .before .before .before .before .before .before .before .before in

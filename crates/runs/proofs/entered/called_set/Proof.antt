@@ -69,7 +69,7 @@ edge-at-requires c κs =
     let l = c .before .loop in
     let hn = node-in (a .s) (a .graph .now) (a .rules .now) (k .pre .0) (a .g) (k .pre .1 .0) in
     let d = edge-owned (a .s) (a .graph .now) (a .rules .now) (k .pre .0) (a .g) (a .work .now) hn _ (l .j) (k .pre .1 .1 .1) (c .before .before .get162 .ensures) (l .inv .0) (c .loop-test .taken) in
-    (k .pre .0 .graph-file, k .pre .0 .nodes-are, omega (arith, d .0, k .pre .0 .edges-are, k .pre .0 .nodes-are))
+    (k .pre .0 .held .views .graph-file, k .pre .0 .held .views .nodes-are, omega (arith, d .0, k .pre .0 .held .views .edges-are, k .pre .0 .held .views .nodes-are))
 
 enum-known-e : tie.Need-enum-known-e Inv-loop μ-loop
 enum-known-e c = search needs

@@ -17,7 +17,7 @@ node-at-requires c κs =
     let k = c .before .before .before in
     let a = k .args in
     let at = k .pre .1 .1 .1 .1 .0 in
-    (k .pre .0 .graph-file, node-readable (a .s) (a .graph .now) (a .rules .now) (k .pre .0) (a .g) (at .at-node))
+    (k .pre .0 .held .views .graph-file, node-readable (a .s) (a .graph .now) (a .rules .now) (k .pre .0) (a .g) (at .at-node))
 
 enum-known-v : tie.Need-enum-known-v
 enum-known-v c = search needs

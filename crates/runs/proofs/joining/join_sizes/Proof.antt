@@ -1,6 +1,6 @@
 use native.Mathlib.Omega.{arith}
 use Rattle.runs.specs.Joining.Sizes.{nodes-few}
-use Rattle.runs.specs.Joining.Steps.{large-refused, short-refused, join-written}
+use Rattle.runs.specs.Joining.Work.{large-refused, short-refused, join-written}
 use borrow.Author.Needs.{needs}
 use Rattle.runs.proofs.joining.join_sizes.Statement.{statement}
 use Rattle.runs.proofs.joining.join_sizes.Tie as tie

@@ -12,10 +12,10 @@ use Rattle.runs.proofs.joining.write_all_moved.Statement.{statement}
 use Rattle.runs.proofs.joining.write_all_moved.Tie as tie
 
 abbrev Inv-loop : tie.InvT-loop
-Inv-loop graph2 s out₀ first j₀ out j = (j ≤ s .edges2) × Wrote out₀ out first (first + j) (each (moved-bytes (s .nodes) (decode-graph graph2)) (span 0 j))
+Inv-loop graph2 s out₀ first j₀ out j = (j ≤ s .second .edges) × Wrote out₀ out first (first + j) (each (moved-bytes (s .first .nodes) (decode-graph graph2)) (span 0 j))
 
 abbrev μ-loop : tie.MeasureT-loop
-μ-loop graph2 s out₀ first j₀ out j = s .edges2 - j
+μ-loop graph2 s out₀ first j₀ out j = s .second .edges - j
 
 loop-holds : tie.Need-loop-holds Inv-loop μ-loop
 loop-holds c =
@@ -43,7 +43,7 @@ loop-again c =
     let a = k .args in
     let l = c .before .before .before .before .before .before .loop in
     let w = c .before .before .write-moved in
-    let f : ℕ → List ℕ = moved-bytes (a .s .nodes) (decode-graph (a .graph2 .now)) in (
+    let f : ℕ → List ℕ = moved-bytes (a .s .first .nodes) (decode-graph (a .graph2 .now)) in (
       omega (arith, c .before .before .before .before .if1 .taken),
       wrote-more (a .out .now) (l .out) (w .last .1 .1 .0) (a .first) (a .first + l .j) (a .first + (l .j + 1)) (each f (span 0 (l .j))) (f (l .j)) (each f (span 0 (l .j + 1)))
           (omega (arith, k .pre .1 .1 .1 .1)) (ap (λ (n : ℕ). each f (span 0 n)) (add-one (l .j)) ∙ each-more f (l .j)) (l .inv .1) (w .ensures) (w .kept .1 .1 .0) (omega arith),
@@ -56,8 +56,8 @@ returns : tie.Need-returns Inv-loop μ-loop
 returns c =
     let a = c .before .before .before .before .before .args in
     let l = c .before .before .loop in
-    let e : l .j ≡ a .s .edges2 = omega (arith, c .if1 .left, l .inv .0) in
-    l .inv .1 .bytes ∙ ap (λ (n : ℕ). put-at (a .out .now) (6 * a .first) (each (moved-bytes (a .s .nodes) (decode-graph (a .graph2 .now))) (span 0 n))) e
+    let e : l .j ≡ a .s .second .edges = omega (arith, c .if1 .left, l .inv .0) in
+    l .inv .1 .bytes ∙ ap (λ (n : ℕ). put-at (a .out .now) (6 * a .first) (each (moved-bytes (a .s .first .nodes) (decode-graph (a .graph2 .now))) (span 0 n))) e
 
 pub write-all-moved-spec : {M : Type 1} → statement M
 write-all-moved-spec =

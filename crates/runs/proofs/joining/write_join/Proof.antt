@@ -1,3 +1,4 @@
+-- Four runs of bytes stored one behind the other are the bytes of the joined graph.
 use mathlib.Core.Path.{_≡_, sym, ap}
 use Prim.Native.Nat.{ℕ, _+_, _*_, _-_}
 use native.Mathlib.Omega.{arith}
@@ -60,7 +61,10 @@ add-write-all-moved : tie.Need-add-write-all-moved
 add-write-all-moved c = search needs
 
 add-write-all-moved-2 : tie.Need-add-write-all-moved-2
-add-write-all-moved-2 c = search needs
+add-write-all-moved-2 c =
+    let d = c .before .before .before .before .before .before .before .before .before .before .before .before .before .before .before in
+    let k = d .before .before .before .before .before .before .before .before .before in
+    omega (arith, k .pre .1 .0, k .pre .0 .first-held .few-edges)
 
 write-all-moved-requires : tie.Need-write-all-moved-requires
 write-all-moved-requires c κs =
@@ -70,7 +74,7 @@ write-all-moved-requires c κs =
     let c1 = d .copy-at in
     let c2 = c .before .before .before .before .before .before .before .before .before .before .copy-at2 in
     let c3 = c .before .before .before .before .before .copy-at3 in
-    (b .second-file, (b .second-nodes-are, (b .second-edges-are, (k .pre .1 .0, omega (arith, k .pre .1 .1, c3 .kept .0, c2 .kept .0, c1 .kept .0)))))
+    (b .second-held .views .graph-file, (b .second-held .views .nodes-are, (b .second-held .views .edges-are, (k .pre .1 .0, omega (arith, k .pre .1 .1, c3 .kept .0, c2 .kept .0, c1 .kept .0)))))
 
 same-length : tie.Need-same-length
 same-length c = search needs
@@ -85,10 +89,10 @@ returns c =
     let c2 = d .copy-at2 in
     let c3 = c .before .before .before .before .before .before .before .before .copy-at3 in
     let w = c .before .before .write-all-moved in
-    let e : 6 * (s .nodes + s .edges) - 6 * s .nodes ≡ 6 * s .edges = omega arith in
+    let e : 6 * (s .first .nodes + s .first .edges) - 6 * s .first .nodes ≡ 6 * s .first .edges = omega arith in
     join-stored s f (k .args .graph2 .now) (k .pre .0) (k .args .out .now) (c1 .last .0) (c2 .last .0) (c3 .last .0) (w .last .1 .1 .0)
-    (take (6 * (s .nodes + s .edges) - 6 * s .nodes) (drop (6 * s .nodes) f)) (c1 .ensures) (c2 .ensures) (c3 .ensures)
-    (ap (λ (n : ℕ). take n (drop (6 * s .nodes) f)) e) (w .ensures)
+    (take (6 * (s .first .nodes + s .first .edges) - 6 * s .first .nodes) (drop (6 * s .first .nodes) f)) (c1 .ensures) (c2 .ensures) (c3 .ensures)
+    (ap (λ (n : ℕ). take n (drop (6 * s .first .nodes) f)) e) (w .ensures)
 
 pub write-join-spec : {M : Type 1} → statement M
 write-join-spec =

@@ -31,7 +31,7 @@ moved-node-requires c κs =
     let p = k .pre .1 in
     let x = c .before .before .before .edge-at in
     let h = held-edge (x .result) _ (getD ((decode-graph (a .graph2 .now)) .edges) (a .j) no-edge) (c .before .e .given .1) (x .ensures) in
-    from-fits (a .graph2 .now) (k .pre .0) (a .s .nodes) (a .s .nodes2) (a .s .edges2) (p .0) (p .1 .0) (p .1 .1 .0) (a .j) (p .1 .1 .1 .0) _ h
+    from-fits (a .graph2 .now) (k .pre .0) (a .s .first .nodes) (a .s .second .nodes) (a .s .second .edges) (p .0) (p .1 .0) (p .1 .1 .0) (a .j) (p .1 .1 .1 .0) _ h
 
 moved-node-requires-2 : tie.Need-moved-node-requires-2
 moved-node-requires-2 c κs =
@@ -40,7 +40,7 @@ moved-node-requires-2 c κs =
     let p = k .pre .1 in
     let x = c .before .before .before .before .edge-at in
     let h = held-edge (x .result) _ (getD ((decode-graph (a .graph2 .now)) .edges) (a .j) no-edge) (c .before .before .e .given .1) (x .ensures) in
-    to-fits (a .graph2 .now) (k .pre .0) (a .s .nodes) (a .s .nodes2) (a .s .edges2) (p .0) (p .1 .0) (p .1 .1 .0) (a .j) (p .1 .1 .1 .0) _ h
+    to-fits (a .graph2 .now) (k .pre .0) (a .s .first .nodes) (a .s .second .nodes) (a .s .second .edges) (p .0) (p .1 .0) (p .1 .1 .0) (a .j) (p .1 .1 .1 .0) _ h
 
 edge-requires : tie.Need-edge-requires
 edge-requires c κs = search needs
@@ -61,7 +61,7 @@ returns-2 c =
     let from = c .before .before .before .before .before .before .moved-node in
     let to = c .before .before .before .before .before .moved-node2 in
     c .before .before .put-record .ensures
-    ∙ ap (put-at (a .out .now) (6 * a .at)) (ap six (c .before .before .before .edge .ensures) ∙ moved-is (a .graph2 .now) (k .pre .0) (a .s .nodes) (a .s .nodes2) (a .s .edges2) (p .0) (p .1 .0) (p .1 .1 .0) (a .j) (p .1 .1 .1 .0) _ h (from .result) (to .result) (from .ensures) (to .ensures))
+    ∙ ap (put-at (a .out .now) (6 * a .at)) (ap six (c .before .before .before .edge .ensures) ∙ moved-is (a .graph2 .now) (k .pre .0) (a .s .first .nodes) (a .s .second .nodes) (a .s .second .edges) (p .0) (p .1 .0) (p .1 .1 .0) (a .j) (p .1 .1 .1 .0) _ h (from .result) (to .result) (from .ensures) (to .ensures))
 
 pub write-moved-spec : {M : Type 1} → statement M
 write-moved-spec =

@@ -35,11 +35,11 @@ link-requires c κs =
     let x = c .before .opened-label in
     let b = opened-below (a .s) (a .graph .now) (a .rules .now) (k .pre .0) (l .e) (x .result) t (x .ensures) in (
       omega (arith, b, l .inv .1, k .pre .1 .0),
-      (omega (arith, t, l .inv .1, k .pre .1 .0, k .pre .0 .few-edges), omega (arith, t, k .pre .0 .few-edges)),
+      (omega (arith, t, l .inv .1, k .pre .1 .0, k .pre .0 .held .few-edges), omega (arith, t, k .pre .0 .held .few-edges)),
     )
 
 add-e : tie.Need-add-e Inv-loop μ-loop
-add-e c = omega (arith, c .before .before .before .before .before .if1 .taken, c .before .before .before .before .before .before .before .before .before .before .before .pre .0 .few-edges)
+add-e c = omega (arith, c .before .before .before .before .before .if1 .taken, c .before .before .before .before .before .before .before .before .before .before .before .pre .0 .held .few-edges)
 
 loop-less : tie.Need-loop-less Inv-loop μ-loop
 loop-less c = omega (arith, c .before .before .before .before .before .if1 .taken)

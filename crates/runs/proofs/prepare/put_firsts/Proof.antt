@@ -41,10 +41,10 @@ loop-holds c =
     )
 
 next-first-requires : tie.Need-next-first-requires Inv-loop μ-loop
-next-first-requires c κs = let k = c .before .before .before .before .before .before .before .before .before .before in (k .pre .0 .graph-file, k .pre .0 .nodes-are, c .before .before .loop .inv .2)
+next-first-requires c κs = let k = c .before .before .before .before .before .before .before .before .before .before in (k .pre .0 .held .views .graph-file, k .pre .0 .held .views .nodes-are, c .before .before .loop .inv .2)
 
 add-g : tie.Need-add-g Inv-loop μ-loop
-add-g c = omega (arith, c .before .if1 .taken, c .before .before .before .before .before .before .before .before .before .before .before .pre .0 .few-nodes)
+add-g c = omega (arith, c .before .if1 .taken, c .before .before .before .before .before .before .before .before .before .before .before .pre .0 .held .few-nodes)
 
 cast-put16 : tie.Need-cast-put16 Inv-loop μ-loop
 cast-put16 c =
@@ -56,7 +56,7 @@ put16-requires-2 : tie.Need-put16-requires-2 Inv-loop μ-loop
 put16-requires-2 c κs =
     let k = c .before .before .before .before .before .before .before .before .before .before .before .before in
     let z = c .before .before .before .before .before .before .before .put16 in
-    omega (arith, c .before .before .if1 .taken, k .pre .0 .few-nodes, k .pre .1, c .before .before .before .before .loop .inv .1, z .kept .0)
+    omega (arith, c .before .before .if1 .taken, k .pre .0 .held .few-nodes, k .pre .1, c .before .before .before .before .loop .inv .1, z .kept .0)
 
 loop-less : tie.Need-loop-less Inv-loop μ-loop
 loop-less c = omega (arith, c .before .before .before .before .before .if1 .taken)
@@ -75,8 +75,8 @@ loop-again c =
       p .kept .0 ∙ l .inv .1,
       f .ensures,
       cells-on (first-edge (decode-graph (a .graph .now))) (l .work) _ 33792 2 (l .g + 1) (f .result) (p .ensures)
-          (omega (arith, t, k .pre .0 .few-nodes, k .pre .1, l .inv .1, z .kept .0)) (omega (arith, f .ensures, few)) (f .ensures) (l .inv .3),
-      put-outside (z .last .0) (l .work) _ 33792 2 (l .g + 1) (f .result) 33792 34306 (p .ensures) (omega arith) (omega (arith, t, k .pre .0 .few-nodes)) (l .inv .4),
+          (omega (arith, t, k .pre .0 .held .few-nodes, k .pre .1, l .inv .1, z .kept .0)) (omega (arith, f .ensures, few)) (f .ensures) (l .inv .3),
+      put-outside (z .last .0) (l .work) _ 33792 2 (l .g + 1) (f .result) 33792 34306 (p .ensures) (omega arith) (omega (arith, t, k .pre .0 .held .few-nodes)) (l .inv .4),
     )
 
 same-length : tie.Need-same-length Inv-loop μ-loop

@@ -49,7 +49,7 @@ node-at-requires : tie.Need-node-at-requires
 node-at-requires c κs =
     let k = c .before .before .before .before .before .before in
     let a = k .args in (
-      k .pre .0 .graph-file,
+      k .pre .0 .held .views .graph-file,
       node-readable (a .s) (a .graph .now) (a .rules .now) (k .pre .0) (c .before .wide .result)
           (subst (λ (i : ℕ). i < size (decode-graph (a .graph .now))) (sym (c .before .wide .ensures .0))
           (node-there (a .s) (a .graph .now) (a .rules .now) (k .pre .0) (a .start) (a .head) (a .tail) (a .work .now) (k .pre .1 .1 .1 .0) (k .pre .1 .1 .0))),

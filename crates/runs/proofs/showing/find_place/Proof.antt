@@ -1,47 +1,37 @@
-use Rattle.runs.specs.Showing.Steps.{first-refused, first-counts, first-passed}
+-- A file is refused, or both are accepted, and the counts of their views give the place.
+use mathlib.Core.Path.{sym, subst}
+use Rattle.runs.specs.Showing.{shown, Stands}
+use Rattle.runs.specs.Showing.Work.{stands-refused, stands-placed}
 use borrow.Author.Needs.{needs}
 use Rattle.runs.proofs.showing.find_place.Statement.{statement}
 use Rattle.runs.proofs.showing.find_place.Tie as tie
 
-check-graph-requires : tie.Need-check-graph-requires
-check-graph-requires c κs = search needs
+check-show-requires : tie.Need-check-show-requires
+check-show-requires c κs = search needs
 
-enum-known-refusal : tie.Need-enum-known-refusal
-enum-known-refusal c = search needs
+enum-known-settled : tie.Need-enum-known-settled
+enum-known-settled c = search needs
 
-enum-known-nodes : tie.Need-enum-known-nodes
-enum-known-nodes c = search needs
+enum-told : tie.Need-enum-told
+enum-told c = search needs
 
-place-second-requires : tie.Need-place-second-requires
-place-second-requires c κs =
-    let k = c .before .before .before .before .before .before in
-    let g = c .before .before .before .check-graph in
-    let x = c .before .nodes .given in
-    first-counts (k .args .limits) (k .args .graph1 .now) (k .args .graph2 .now) (k .args .number) (g .result) (g .ensures)
-    (x .0 .0) (x .0 .1 .0) (x .1)
+place-of-requires : tie.Need-place-of-requires
+place-of-requires c κs = search needs
 
 returns : tie.Need-returns
 returns c =
-    let k = c .before .before .before .before .before .before in
-    let g = c .before .before .before .check-graph in
-    first-refused (k .args .limits) (k .args .graph1 .now) (k .args .graph2 .now) (k .args .number) (g .result) (g .ensures)
-    (c .before .refusal .given .0 .0) (c .before .refusal .given .1)
+    let a = c .before .before .before .before .before .before .args in
+    stands-refused (a .limits) (a .graph1 .now) (a .graph2 .now) (a .number) (c .before .before .before .check-show .ensures .0) (c .before .settled .given .1)
 
 returns-2 : tie.Need-returns-2
 returns-2 c =
-    let k = c .before .before .before .before .before .before .before in
-    let g = c .before .before .before .before .check-graph in
-    let x = c .before .before .nodes .given in
-    first-passed (k .args .limits) (k .args .graph1 .now) (k .args .graph2 .now) (k .args .number) (g .result) (g .ensures)
-    (x .0 .0) (x .0 .1 .0) (c .place-second .result) (x .1) (c .place-second .ensures)
+    let a = c .before .before .before .before .before .before .before .before .args in
+    let s = c .before .before .before .before .before .check-show .ensures in
+    let e = c .before .before .before .enum-told .given .1 in
+    subst (Stands (shown (a .limits) (a .graph1 .now) (a .graph2 .now) (a .number)) (a .graph1 .now) (a .graph2 .now)) (sym (c .place-of .ensures))
+    (stands-placed (a .limits) (a .graph1 .now) (a .graph2 .now) (a .number) (s .0) e (s .1 e .0) (s .1 e .1))
 
 pub find-place-spec : {M : Type 1} → statement M
 find-place-spec =
     tie.close
-    (tie.spec
-    check-graph-requires
-    enum-known-refusal
-    enum-known-nodes
-    place-second-requires
-    returns
-    returns-2)
+    (tie.spec check-show-requires enum-known-settled enum-told place-of-requires returns returns-2)

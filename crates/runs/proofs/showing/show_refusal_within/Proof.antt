@@ -1,7 +1,7 @@
 -- The answer at the place found is that of the outcome.
 use mathlib.Core.Path.{ap, _∙_}
 use Rattle.runs.specs.Showing.{shown-answer, shown}
-use Rattle.runs.specs.Showing.Steps.{stands-answer}
+use Rattle.runs.specs.Showing.Work.{stands-answer}
 use borrow.Author.Needs.{needs}
 use Rattle.runs.proofs.showing.show_refusal_within.Statement.{statement}
 use Rattle.runs.proofs.showing.show_refusal_within.Tie as tie

@@ -1,7 +1,7 @@
 -- The place found is that of the record shown, or there is none.
 use mathlib.Core.Path.{_∙_}
 use Rattle.runs.specs.Showing.{shown}
-use Rattle.runs.specs.Showing.Steps.{found-first, found-second, found-nowhere}
+use Rattle.runs.specs.Showing.Work.{found-first, found-second, found-nowhere}
 use borrow.Author.Needs.{needs}
 use Rattle.runs.proofs.showing.show_within.Statement.{statement}
 use Rattle.runs.proofs.showing.show_within.Tie as tie

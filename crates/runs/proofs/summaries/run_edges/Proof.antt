@@ -29,25 +29,25 @@ abbrev μ-loop : tie.MeasureT-loop
 μ-loop graph rules s work₀ tail g p caller x j₀ last end₀ label₀ y₀ work j end label y = last - j
 
 mul-get8 : tie.Need-mul-get8 Inv-loop μ-loop
-mul-get8 c = let k = c .before .before .before .before in omega (arith, k .pre .0 .few-nodes, k .pre .1 .0)
+mul-get8 c = let k = c .before .before .before .before in omega (arith, k .pre .0 .held .few-nodes, k .pre .1 .0)
 
 add-get8 : tie.Need-add-get8 Inv-loop μ-loop
-add-get8 c = let k = c .before .before .before .before in omega (arith, k .pre .0 .few-nodes, k .pre .1 .0, k .pre .1 .1 .0)
+add-get8 c = let k = c .before .before .before .before in omega (arith, k .pre .0 .held .few-nodes, k .pre .1 .0, k .pre .1 .1 .0)
 
 get8-requires : tie.Need-get8-requires Inv-loop μ-loop
-get8-requires c κs = let k = c .before .before .before .before in omega (arith, k .pre .0 .few-nodes, k .pre .1 .0, k .pre .1 .1 .0, k .pre .1 .1 .1 .1 .1 .room)
+get8-requires c κs = let k = c .before .before .before .before in omega (arith, k .pre .0 .held .few-nodes, k .pre .1 .0, k .pre .1 .1 .0, k .pre .1 .1 .1 .1 .1 .room)
 
 get16-requires : tie.Need-get16-requires Inv-loop μ-loop
-get16-requires c κs = let k = c .before .before .before .before .before .before in omega (arith, k .pre .0 .few-nodes, k .pre .1 .0, k .pre .1 .1 .1 .1 .1 .room)
+get16-requires c κs = let k = c .before .before .before .before .before .before in omega (arith, k .pre .0 .held .few-nodes, k .pre .1 .0, k .pre .1 .1 .1 .1 .1 .room)
 
 cast-j : tie.Need-cast-j Inv-loop μ-loop
 cast-j c = search needs
 
 add-get16 : tie.Need-add-get16 Inv-loop μ-loop
-add-get16 c = let k = c .before .before .before .before .before .before .before .before in omega (arith, k .pre .0 .few-nodes, k .pre .1 .0)
+add-get16 c = let k = c .before .before .before .before .before .before .before .before in omega (arith, k .pre .0 .held .few-nodes, k .pre .1 .0)
 
 get16-requires-2 : tie.Need-get16-requires-2 Inv-loop μ-loop
-get16-requires-2 c κs = let k = c .before .before .before .before .before .before .before .before in omega (arith, k .pre .0 .few-nodes, k .pre .1 .0, k .pre .1 .1 .1 .1 .1 .room)
+get16-requires-2 c κs = let k = c .before .before .before .before .before .before .before .before in omega (arith, k .pre .0 .held .few-nodes, k .pre .1 .0, k .pre .1 .1 .1 .1 .1 .room)
 
 cast-last : tie.Need-cast-last Inv-loop μ-loop
 cast-last c = search needs
@@ -66,7 +66,7 @@ edge-at-requires c κs =
     let l = c .before .loop in
     let f = first-held (a .s) (a .graph .now) (a .rules .now) (k .pre .0) (a .tail) (a .work .now) (k .pre .1 .1 .1 .1 .1) (a .g + 1) _ (omega (arith, k .pre .1 .0)) (c .before .before .get162 .ensures) in
     let hj = edge-in-file (a .s) (a .graph .now) (a .rules .now) (k .pre .0) (a .g + 1) (l .j) (omega (arith, c .loop-test .taken, f)) in
-    (k .pre .0 .graph-file, k .pre .0 .nodes-are, omega (arith, hj, k .pre .0 .edges-are, k .pre .0 .nodes-are))
+    (k .pre .0 .held .views .graph-file, k .pre .0 .held .views .nodes-are, omega (arith, hj, k .pre .0 .held .views .edges-are, k .pre .0 .held .views .nodes-are))
 
 enum-known-e : tie.Need-enum-known-e Inv-loop μ-loop
 enum-known-e c = search needs

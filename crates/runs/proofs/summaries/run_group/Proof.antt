@@ -30,7 +30,7 @@ loop-holds c =
     (omega arith, refl, grew-none (decode-graph (a .graph .now)) (watch (decode-rules (a .rules .now))) (a .tail) (a .work .now) (k .pre .1 .1 .1 .0), λ i h f. absurd (omega (arith, h, f)))
 
 edge-at-requires : tie.Need-edge-at-requires Inv-loop μ-loop
-edge-at-requires c κs = let k = c .before .before .before .before .before .before in (k .pre .0 .graph-file, k .pre .0 .nodes-are, omega (arith, c .if1 .taken, k .pre .0 .edges-are, k .pre .0 .nodes-are))
+edge-at-requires c κs = let k = c .before .before .before .before .before .before in (k .pre .0 .held .views .graph-file, k .pre .0 .held .views .nodes-are, omega (arith, c .if1 .taken, k .pre .0 .held .views .edges-are, k .pre .0 .held .views .nodes-are))
 
 enum-known-e : tie.Need-enum-known-e Inv-loop μ-loop
 enum-known-e c = search needs
@@ -67,7 +67,7 @@ add-row-requires c κs =
     (k .pre .0, (n .0, (l .inv .2 .holding, n .1)))
 
 add-j : tie.Need-add-j Inv-loop μ-loop
-add-j c = omega (arith, c .before .before .before .before .before .before .before .before .before .before .before .if1 .taken, c .before .before .before .before .before .before .before .before .before .before .before .before .before .before .before .before .before .pre .0 .few-edges)
+add-j c = omega (arith, c .before .before .before .before .before .before .before .before .before .before .before .if1 .taken, c .before .before .before .before .before .before .before .before .before .before .before .before .before .before .before .before .before .pre .0 .held .few-edges)
 
 loop-less : tie.Need-loop-less Inv-loop μ-loop
 loop-less c = omega (arith, c .before .before .before .before .before .before .before .before .before .before .before .if1 .taken)

@@ -29,7 +29,7 @@ node-at-requires c κs =
     let k = c .before .before .before .before .before .before .before in
     let a = k .args in
     let u = held-edge (c .before .before .before .edge-at .result) _ (getD ((decode-graph (a .graph .now)) .edges) (a .first) no-edge) (c .before .e .given .1) (c .before .before .before .edge-at .ensures) in
-    (k .pre .0 .graph-file, node-readable (a .s) (a .graph .now) (a .rules .now) (k .pre .0) (c .before .e .given .0 .0 .from) (from-in (a .s) (a .graph .now) (a .rules .now) (k .pre .0) (a .first) (k .pre .1 .0) _ u))
+    (k .pre .0 .held .views .graph-file, node-readable (a .s) (a .graph .now) (a .rules .now) (k .pre .0) (c .before .e .given .0 .0 .from) (from-in (a .s) (a .graph .now) (a .rules .now) (k .pre .0) (a .first) (k .pre .1 .0) _ u))
 
 enum-known-v : tie.Need-enum-known-v
 enum-known-v c = search needs

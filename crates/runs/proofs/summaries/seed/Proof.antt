@@ -32,7 +32,7 @@ seed-node-requires : tie.Need-seed-node-requires Inv-loop μ-loop
 seed-node-requires c κs = let l = c .before .before .before .loop in (c .before .before .before .before .before .before .before .pre .0, (c .before .if1 .taken, l .inv .2 .holding))
 
 add-g : tie.Need-add-g Inv-loop μ-loop
-add-g c = omega (arith, c .before .before .before .before .if1 .taken, c .before .before .before .before .before .before .before .before .before .before .pre .0 .few-nodes)
+add-g c = omega (arith, c .before .before .before .before .if1 .taken, c .before .before .before .before .before .before .before .before .before .before .pre .0 .held .few-nodes)
 
 loop-less : tie.Need-loop-less Inv-loop μ-loop
 loop-less c = omega (arith, c .before .before .before .before .if1 .taken)

@@ -28,7 +28,7 @@ node-at-requires : tie.Need-node-at-requires Inv-loop μ-loop
 node-at-requires c κs =
     let k = c .before .before .before in
     let a = k .args in
-    (k .pre .0 .graph-file, node-readable (a .s) (a .graph .now) (a .rules .now) (k .pre .0) (a .g) (node-in (a .s) (a .graph .now) (a .rules .now) (k .pre .0) (a .g) (k .pre .1 .0)))
+    (k .pre .0 .held .views .graph-file, node-readable (a .s) (a .graph .now) (a .rules .now) (k .pre .0) (a .g) (node-in (a .s) (a .graph .now) (a .rules .now) (k .pre .0) (a .g) (k .pre .1 .0)))
 
 enum-known-v : tie.Need-enum-known-v Inv-loop μ-loop
 enum-known-v c = search needs

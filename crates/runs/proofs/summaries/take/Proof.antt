@@ -21,7 +21,7 @@ node-at-requires : tie.Need-node-at-requires
 node-at-requires c κs =
     let k = c .before .before .before .before .before in
     let a = k .args in (
-      k .pre .0 .graph-file,
+      k .pre .0 .held .views .graph-file,
       node-readable (a .s) (a .graph .now) (a .rules .now) (k .pre .0) (c .get16 .result / 8)
           (node-there (a .s) (a .graph .now) (a .rules .now) (k .pre .0) (a .head) (a .tail) (a .work .now) (k .pre .1 .1) (k .pre .1 .0) (c .get16 .result) (c .get16 .ensures)),
     )

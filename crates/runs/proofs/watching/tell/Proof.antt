@@ -3,7 +3,7 @@ use borrow.Author.Needs.{needs}
 use Rattle.files.specs.Decode.{decode-graph, decode-rules}
 use Rattle.files.specs.Rules.{watch}
 use Rattle.runs.specs.Searching.Trace.{says-zero, says-item, trail-small}
-use Rattle.runs.specs.Watching.Steps.{clean-told, bad-short, bad-told}
+use Rattle.runs.specs.Watching.Work.{clean-told, bad-short, bad-told}
 use Rattle.runs.proofs.watching.tell.Statement.{statement}
 use Rattle.runs.proofs.watching.tell.Tie as tie
 
