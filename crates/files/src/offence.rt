@@ -213,7 +213,7 @@ fn crossing(records: &[u8], i: usize, n: usize) -> bool
 }
 
 // A row with operator 8.
-pub fn is_or(p: Parsed) -> bool
+pub(crate) fn is_or(p: Parsed) -> bool
     ensures { λ r. ⌜ r ≡ is-or-of p ⌝ }
 {
     let Parsed::Row { operator, .. } = p else {
@@ -223,7 +223,7 @@ pub fn is_or(p: Parsed) -> bool
 }
 
 // Whether number 2, 3, 4, 7 or 8 offends at record i.
-pub fn offends(number: u8, kind: FileKind, records: &[u8], bound: usize, i: usize) -> bool
+pub(crate) fn offends(number: u8, kind: FileKind, records: &[u8], bound: usize, i: usize) -> bool
     requires { ⌜ (6 * i + 6 ≤ length (now records)) × (6 * bound ≤ length (now records)) ⌝ }
     ensures { λ r. ⌜ r ≡ offends number (kind-of kind) (now (records .entry)) bound i ⌝ }
 {

@@ -23,7 +23,7 @@ pub(crate) fn read(records: &[u8], i: usize) -> Record
 }
 
 // The kind of record i, whatever its fields.
-pub fn kind_at(records: &[u8], i: usize) -> u8
+pub(crate) fn kind_at(records: &[u8], i: usize) -> u8
     requires { ⌜ 6 * i + 6 ≤ length (now records) ⌝ }
     ensures { λ r. ⌜ r ≡ kind-at (now (records .entry)) i ⌝ }
 {
@@ -171,7 +171,7 @@ fn reads(r: Record) -> Parsed
 }
 
 // What record i reads as.
-pub fn parse(records: &[u8], i: usize) -> Parsed
+pub(crate) fn parse(records: &[u8], i: usize) -> Parsed
     requires { ⌜ 6 * i + 6 ≤ length (now records) ⌝ }
     ensures { λ p. ⌜ p ≡ parsed (record-at (now (records .entry)) i) ⌝ }
 {
@@ -181,7 +181,7 @@ pub fn parse(records: &[u8], i: usize) -> Parsed
 
 // ---- Record i where one kind is looked for: any other record is Other, and the tests of the other kinds are not made.
 
-pub fn parse_node(records: &[u8], i: usize) -> Parsed
+pub(crate) fn parse_node(records: &[u8], i: usize) -> Parsed
     requires { ⌜ 6 * i + 6 ≤ length (now records) ⌝ }
     ensures { λ p. ⌜ p ≡ parsed-as 1 (record-at (now (records .entry)) i) ⌝ }
 {
@@ -192,7 +192,7 @@ pub fn parse_node(records: &[u8], i: usize) -> Parsed
     Parsed::Other
 }
 
-pub fn parse_edge(records: &[u8], i: usize) -> Parsed
+pub(crate) fn parse_edge(records: &[u8], i: usize) -> Parsed
     requires { ⌜ 6 * i + 6 ≤ length (now records) ⌝ }
     ensures { λ p. ⌜ p ≡ parsed-as 2 (record-at (now (records .entry)) i) ⌝ }
 {
@@ -203,7 +203,7 @@ pub fn parse_edge(records: &[u8], i: usize) -> Parsed
     Parsed::Other
 }
 
-pub fn parse_row(records: &[u8], i: usize) -> Parsed
+pub(crate) fn parse_row(records: &[u8], i: usize) -> Parsed
     requires { ⌜ 6 * i + 6 ≤ length (now records) ⌝ }
     ensures { λ p. ⌜ p ≡ parsed-as 3 (record-at (now (records .entry)) i) ⌝ }
 {
@@ -214,7 +214,7 @@ pub fn parse_row(records: &[u8], i: usize) -> Parsed
     Parsed::Other
 }
 
-pub fn parse_rule(records: &[u8], i: usize) -> Parsed
+pub(crate) fn parse_rule(records: &[u8], i: usize) -> Parsed
     requires { ⌜ 6 * i + 6 ≤ length (now records) ⌝ }
     ensures { λ p. ⌜ p ≡ parsed-as 4 (record-at (now (records .entry)) i) ⌝ }
 {
@@ -225,7 +225,7 @@ pub fn parse_rule(records: &[u8], i: usize) -> Parsed
     Parsed::Other
 }
 
-pub fn parse_interface(records: &[u8], i: usize) -> Parsed
+pub(crate) fn parse_interface(records: &[u8], i: usize) -> Parsed
     requires { ⌜ 6 * i + 6 ≤ length (now records) ⌝ }
     ensures { λ p. ⌜ p ≡ parsed-as 5 (record-at (now (records .entry)) i) ⌝ }
 {

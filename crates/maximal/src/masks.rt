@@ -21,7 +21,7 @@ use files::property::row_at;
 pub const LABELS: usize = 9;
 
 // Row r is in the set.
-pub fn has_row(set: u32, r: usize) -> bool
+pub(crate) fn has_row(set: u32, r: usize) -> bool
     requires { ⌜ r < 32 ⌝ }
     ensures { λ t. ⌜ t ≡ member set r ⌝ }
 {
@@ -29,7 +29,7 @@ pub fn has_row(set: u32, r: usize) -> bool
 }
 
 // The set of row r alone.
-pub fn one_row(r: usize) -> u32
+pub(crate) fn one_row(r: usize) -> u32
     requires { ⌜ r < 32 ⌝ }
     ensures { λ t. ⌜ t ≡ 2 ^ r ⌝ }
 {
@@ -75,7 +75,7 @@ fn and_rows(property: &[u8], n: usize, r: usize) -> u32
 }
 
 // The set and what its "and" rows ask for, and theirs, and so on: the highest row not yet worked is taken next.
-pub fn complete(property: &[u8], n: usize, set: u32) -> u32
+pub(crate) fn complete(property: &[u8], n: usize, set: u32) -> u32
     requires { ⌜ (PropertyFile (now property)) × ((n ≡ count (now property)) × ((n ≤ 32) × (set < 2 ^ n))) ⌝ }
     ensures { λ t. ⌜ t ≡ completion (decode-property (now (property .entry))) set ⌝ }
 {
@@ -107,7 +107,7 @@ fn is_untrue(property: &[u8], n: usize, r: usize, method: u8, flag: bool) -> boo
 }
 
 // All rows that are.
-pub fn untrue(property: &[u8], n: usize, method: u8, flag: bool) -> u32
+pub(crate) fn untrue(property: &[u8], n: usize, method: u8, flag: bool) -> u32
     requires { ⌜ (PropertyFile (now property)) × ((n ≡ count (now property)) × (n ≤ 32)) ⌝ }
     ensures { λ t. ⌜ t ≡ untrue (decode-property (now (property .entry))) method flag ⌝ }
 {
@@ -170,7 +170,7 @@ fn enter_box(boxes: [u32; LABELS], x: PropertyRow, r: usize) -> [u32; LABELS]
 }
 
 // For each label the boxes that look along it, as a set: the rows of a state that ask for nothing under a label need not be read.
-pub fn boxes_by_label(property: &[u8], n: usize) -> [u32; LABELS]
+pub(crate) fn boxes_by_label(property: &[u8], n: usize) -> [u32; LABELS]
     requires { ⌜ (PropertyFile (now property)) × ((n ≡ count (now property)) × (n ≤ 32)) ⌝ }
     ensures { λ t. ⌜ Boxes (decode-property (now (property .entry))) t ⌝ }
 {

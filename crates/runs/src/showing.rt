@@ -79,7 +79,7 @@ pub fn record_at<'a>(graph: &'a [u8], i: usize) -> &'a [u8]
 }
 
 // The six bytes of the node of this number in the joined graph, as a part of its file; empty where showing is refused.
-pub fn show_within<'a>(
+pub(crate) fn show_within<'a>(
     graph1: &'a [u8],
     graph2: &'a [u8],
     number: usize,
@@ -106,7 +106,12 @@ fn shown_at(place: Place) -> Shown
 }
 
 // Why the part is empty, or that it is not.
-pub fn show_refusal_within(graph1: &[u8], graph2: &[u8], number: usize, limits: Limits) -> Shown
+pub(crate) fn show_refusal_within(
+    graph1: &[u8],
+    graph2: &[u8],
+    number: usize,
+    limits: Limits,
+) -> Shown
     ensures { λ r. ⌜ shown-answer r ≡ answer (shown limits (now (graph1 .entry)) (now (graph2 .entry)) number) ⌝ }
 {
     shown_at(find_place(graph1, graph2, number, limits))
