@@ -3,6 +3,7 @@ ghost use mathlib.Core.Path.{_≡_};
 ghost use Prim.Native.Nat.{_+_, _*_, _≤_};
 ghost use lib.ListN.{length};
 ghost use Rattle.files.specs.Record.{record-at, kind-at, node-wrong, edge-wrong, row-wrong, rule-wrong, interface-wrong, parsed, parsed-as};
+use crate::record::Operator;
 use crate::record::Parsed;
 use crate::record::Record;
 
@@ -11,7 +12,7 @@ pub(crate) fn read(records: &[u8], i: usize) -> Record
     requires { ⌜ 6 * i + 6 ≤ length (now records) ⌝ }
     ensures { λ r. ⌜ r ≡ record-at (now (records .entry)) i ⌝ }
 {
-    let p = 6 * i;
+    let p = Record::LEN * i;
     Record {
         kind: records[p],
         first: records[p + 1],
@@ -27,7 +28,7 @@ pub(crate) fn kind_at(records: &[u8], i: usize) -> u8
     requires { ⌜ 6 * i + 6 ≤ length (now records) ⌝ }
     ensures { λ r. ⌜ r ≡ kind-at (now (records .entry)) i ⌝ }
 {
-    records[6 * i]
+    records[Record::LEN * i]
 }
 
 pub(crate) fn node_wrong(r: Record) -> bool
@@ -47,15 +48,16 @@ fn row_wrong(r: Record) -> bool
     ensures { λ b. ⌜ b ≡ row-wrong r ⌝ }
 {
     let x = r.first;
-    let none = (x == 1) | ((x == 2) | ((x == 5) | (x == 6)));
-    let method = (x == 3) | (x == 4);
+    let none = (x == Operator::TRUE)
+        | ((x == Operator::FALSE) | ((x == Operator::RETURNS) | (x == Operator::NOT_RETURNS)));
+    let method = (x == Operator::IN_METHOD) | (x == Operator::NOT_IN_METHOD);
     let spare = !(r.fourth == 0) | !(r.fifth == 0);
     let method_out = (r.second < 1) | (8 < r.second);
-    let no_second = (x < 7) | (9 < x);
-    ((x < 1) | (10 < x))
+    let no_second = (x < Operator::AND) | (Operator::BOX < x);
+    ((x < Operator::TRUE) | (Operator::BOX_ALL < x))
         | ((none & !(r.second == 0))
             | ((no_second & !(r.third == 0))
-                | ((method & method_out) | (((x == 9) & (8 < r.second)) | spare))))
+                | ((method & method_out) | (((x == Operator::BOX) & (8 < r.second)) | spare))))
 }
 
 fn rule_wrong(r: Record) -> bool
