@@ -7,7 +7,7 @@ ghost use Rattle.files.specs.Outcome.{answer, written-of};
 ghost use Rattle.files.specs.Record.{part};
 ghost use Rattle.files.specs.Settling.{Settles, WherePassed};
 ghost use Rattle.files.specs.View.{Views};
-ghost use Rattle.runs.specs.Showing.{shown, shown-answer, show-first, outcome-at, InFile, place-of, shown-at};
+ghost use Rattle.runs.specs.Showing.{shown, shown-answer, show-first, found-place, place-of, shown-at};
 use crate::answers::Shown;
 use files::record::Limits;
 use files::record::Record;
@@ -56,7 +56,7 @@ fn place_of(number: usize, nodes1: usize, nodes2: usize) -> Place
 
 // Both graphs' refusals, in argument order, then the place.
 pub fn find_place(graph1: &[u8], graph2: &[u8], number: usize, limits: Limits) -> Place
-    ensures { λ r. ⌜ (shown limits (now (graph1 .entry)) (now (graph2 .entry)) number ≡ outcome-at (now (graph1 .entry)) (now (graph2 .entry)) r) × (InFile (now (graph1 .entry)) (now (graph2 .entry)) r) ⌝ }
+    ensures { λ r. ⌜ r ≡ found-place limits (now (graph1 .entry)) (now (graph2 .entry)) number ⌝ }
 {
     let checked = check_show(graph1, graph2, limits);
     let settled = checked.settled;
