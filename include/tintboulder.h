@@ -1,4 +1,6 @@
-/* The C boundary of the flow-graph checker. A slice is a pointer, then its length in bytes; a length of 0 allows any pointer that is not null. */
+/* The C boundary of the flow-graph checker. A slice is a pointer, then its length in bytes. The slices of one call must not overlap where one of them is written (out, store, work):
+   what is proved holds of slices that are apart. With a length of 0 nothing is read or written through the pointer, which may be null: such a file is empty, such an output or buffer
+   has no room. */
 #ifndef TINTBOULDER_H
 #define TINTBOULDER_H
 

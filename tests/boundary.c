@@ -208,6 +208,19 @@ static int wrong_composing(void)
         + !composes(anything, n, 1, short_work, 0, 13) + (tintboulder_work(7) != whole.work) + (tintboulder_work(8) != whole.store);
 }
 
+/* A null pointer with length 0 is an empty slice: an empty graph is accepted, an empty property refused by 6; no room for a sheet is 12, no work buffer 13. */
+static int wrong_nothing(void)
+{
+    static const uint8_t graph[] = {1, 1, 0, 1, 0, 0};
+    static const uint8_t never[] = {3, 2, 0, 0, 0, 0};
+    static uint8_t work[41664];
+    struct tintboulder_answer a = tintboulder_judge(graph, sizeof graph, never, sizeof never, NULL, 0, work, sizeof work);
+    struct tintboulder_answer b = tintboulder_judge(graph, sizeof graph, never, sizeof never, NULL, 0, NULL, 0);
+    struct tintboulder_answer c = tintboulder_judge(NULL, 0, never, sizeof never, NULL, 0, work, sizeof work);
+    return !accepts(tintboulder_check_graph, NULL, 0, 0) + (tintboulder_check_property(NULL, 0).number != 6) + (a.number != 12) + (b.number != 13)
+        + (c.verdict != 1);
+}
+
 int main(void)
 {
     static const uint8_t graph[] = {1, 1, 0, 1, 0, 0, 2, 0, 0, 0, 0, 0};
@@ -224,6 +237,7 @@ int main(void)
     wrong += !accepts(tintboulder_check_interface, interface, 6, 0);
     wrong += !refuses(tintboulder_check_interface, interface, 12, 2, 1);
     wrong += wrong_judging();
+    wrong += wrong_nothing();
     wrong += wrong_comparing();
     wrong += wrong_modelling();
     wrong += wrong_joining();

@@ -13,7 +13,8 @@ use Rattle.files.specs.Outcome.{Said, Outcome, refuses, says, refusal-at, answe
 use Rattle.files.specs.Outcome.Laws.{refusal-leaves-output}
 use Rattle.files.specs.declared.record.Limits.{Limits}
 use Rattle.files.specs.declared.refusal.Refusal.{Refusal}
-use Rattle.runs.specs.Showing.{part-said, shown, outcome-at, InFile, Stands}
+use Rattle.runs.specs.Showing.{part-said, shown, outcome-at, InFile, Stands, found-place}
+use Rattle.runs.specs.Showing.Work.{stands-found}
 use Rattle.runs.specs.declared.showing.Place.{Place}
 use Rattle.runs.specs.declared.showing.Place.the-variants.{Refused}
 use Rattle.exports.specs.Boundary.{refused-numbers, answer-numbers, GivesOut, fitting}
@@ -48,12 +49,14 @@ module _ (out : List ℕ) (s : Said) where
 
 -- ---- what is shown, at the place that was found within the limits of the desk
 
-module _ (L : Limits) (limits : L ≡ desk) (g1 g2 : List ℕ) (number : ℕ) (p : Place) (stands : Stands (shown L g1 g2 number) g1 g2 p) where
+module _ (L : Limits) (limits : L ≡ desk) (g1 g2 : List ℕ) (number : ℕ) (p : Place) (found : p ≡ found-place L g1 g2 number) where
   abbrev o : Outcome
   o = shown desk g1 g2 number
 
   at : (q : Place) → p ≡ q → Stands o g1 g2 q
-  at q e = subst (λ (M : Limits). Stands (shown M g1 g2 number) g1 g2 q) limits (subst (Stands (shown L g1 g2 number) g1 g2) e stands)
+  at q e =
+      let there : found-place desk g1 g2 number ≡ q = sym (ap (λ (M : Limits). found-place M g1 g2 number) limits) ∙ sym found ∙ e in
+      subst (Stands o g1 g2) there (stands-found desk g1 g2 number)
 
   pub in-file : (q : Place) → p ≡ q → InFile g1 g2 q
   in-file q e = at q e .1

@@ -14,7 +14,7 @@ use Rattle.files.specs.Basics.First.{first-where, first-miss}
 use Rattle.files.specs.Record.{kind-at, count, part}
 use Rattle.files.specs.Refusal.{edge-before, Kind, graph, property, rules, interface, missing}
 use Rattle.files.specs.Checking.{parsed-at, edges-out, rules-out, disordered-at, counts, counted, nodes-in, nodes-with, bound-with, bound-of, missing-with, scanned, unless, first-offending, over, checked, from-two, from-five, from-seven}
-use lib.ListN.{length, take, drop}
+use lib.ListN.{length}
 use borrow.Author.Tests.{lt-ltb, le-ltb}
 use Rattle.files.specs.Outcome.{refusal-at}
 use Rattle.files.specs.declared.check.Checked.the-variants.{Accepted, Refused}
@@ -22,7 +22,6 @@ use Rattle.files.specs.declared.scan.Found.{Found}
 use Rattle.files.specs.declared.scan.Found.the-variants.{Nothing, At}
 use Rattle.files.specs.declared.record.Limits.{Limits}
 use Rattle.files.specs.Checking.Laws.{counted-is, scanned-none, scanned-more, from-seven-is, from-five-is, from-two-is, from-one-is, checked-steps}
-use Rattle.files.specs.Record.Laws.{part-length}
 
 pub edge-before-at : (l : List ℕ) (i : ℕ) → (i ≡ 0 → ⊥) → eqb (kind-at l (i - 1)) 2 ≡ edge-before l i
 edge-before-at l zero h = absurd (h refl)
@@ -121,15 +120,3 @@ module _ (L : Limits) (k : Kind) (l : List ℕ) (first position : ℕ) where
 
   pub one-whole : eqb (length l % 6) 0 ≡ true → from-two L k l 0 position ≡ checked L k l position
   one-whole e = rw (← checked-steps L k l position, from-one-is, e) refl
-
--- ---- a part of a file, as a slice from one place to another
-
-span-is : (a n : ℕ) → 6 * (a + n) - 6 * a ≡ 6 * n
-span-is a n = omega arith
-
-pub part-span : (l : List ℕ) (a n : ℕ) → 6 * (a + n) ≤ length l → length (take (6 * (a + n) - 6 * a) (drop (6 * a) l)) ≡ 6 * n
-part-span l a n h = ap (λ (k : ℕ). length (take k (drop (6 * a) l))) (span-is a n) ∙ part-length l a n (omega arith)
-
-pub part-checked : (L : Limits) (k : Kind) (l : List ℕ) (a n position : ℕ)
-    → from-two L k (take (6 * (a + n) - 6 * a) (drop (6 * a) l)) a position ≡ from-two L k (part l a n) a position
-part-checked L k l a n position = ap (λ (m : ℕ). from-two L k (take m (drop (6 * a) l)) a position) (span-is a n)

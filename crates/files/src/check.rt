@@ -1,9 +1,8 @@
 // Checking a file: accepted, with the counts that upper layers need, or refused by the lowest number among 1 to 8 at its first offending record.
 // Numbers 2 to 4 are one scan, 7 and 8 another; 1, 5 and 6 are of the whole file, and the numbers follow each other.
 ghost use mathlib.Core.Path.{_≡_};
-ghost use Prim.Native.Nat.{_+_, _*_, _%_, _≤_, _<_};
+ghost use Prim.Native.Nat.{_+_, _%_, _≤_, _<_};
 ghost use lib.ListN.{length};
-ghost use Rattle.files.specs.Record.{part};
 ghost use Rattle.files.specs.Refusal.{graph, property, rules, interface};
 ghost use Rattle.files.specs.FileKind.{kind-of};
 ghost use Rattle.files.specs.Checking.{checked, counted, nodes-with, bound-with, over-with, missing-with, from-seven, from-five, from-two};
@@ -172,21 +171,4 @@ pub fn check_interface(file: &[u8], position: u8, limits: Limits) -> Checked
     ensures { λ r. ⌜ r ≡ checked limits interface (now (file .entry)) position ⌝ }
 {
     check(FileKind::Interface, file, position, limits)
-}
-
-// Checks the records of a graph from record `first` on, `count` of them, as a part of a longer file: record numbers count from the file's start, node numbers
-// from the part's.
-pub fn check_graph_part(
-    file: &[u8],
-    first: usize,
-    count: usize,
-    position: u8,
-    limits: Limits,
-) -> Checked
-    requires { ⌜ 6 * (first + count) ≤ length (now file) ⌝ }
-    ensures { λ r. ⌜ r ≡ from-two limits graph (part (now (file .entry)) first count) first position ⌝ }
-{
-    let start = Record::LEN * first;
-    let end = Record::LEN * (first + count);
-    from_two(limits, FileKind::Graph, &file[start..end], first, position)
 }

@@ -14,6 +14,7 @@ use crate::parse::parse_edge;
 use crate::parse::parse_node;
 use crate::parse::parse_row;
 use crate::parse::parse_rule;
+use crate::record::Operator;
 use crate::record::Parsed;
 use crate::record::Record;
 
@@ -59,14 +60,14 @@ fn misplaced(kind: FileKind, records: &[u8], i: usize) -> bool
     match kind {
         // Most records of a graph are edges, and an edge is in its place wherever it stands.
         FileKind::Graph => {
-            if k == 2 {
+            if k == Record::EDGE {
                 return false;
             }
-            !(k == 1) | edge_before(records, i)
+            !(k == Record::NODE) | edge_before(records, i)
         }
-        FileKind::Property => !(k == 3),
-        FileKind::Rules => !(k == 4),
-        FileKind::Interface => !(k == 5) | (1 <= i),
+        FileKind::Property => !(k == Record::ROW),
+        FileKind::Rules => !(k == Record::RULE),
+        FileKind::Interface => !(k == Record::INTERFACE) | (1 <= i),
     }
 }
 
@@ -168,8 +169,8 @@ fn row_past(p: Parsed, n: usize) -> bool
     };
     let named_a = n <= (a as usize);
     let named_b = n <= (b as usize);
-    (((operator == 7) | (operator == 8)) & (named_a | named_b))
-        | (((operator == 9) & named_b) | ((operator == 10) & named_a))
+    (((operator == Operator::AND) | (operator == Operator::OR)) & (named_a | named_b))
+        | (((operator == Operator::BOX) & named_b) | ((operator == Operator::BOX_ALL) & named_a))
 }
 
 // 7: an edge names a node, or a row a row, that is not below n.
@@ -213,17 +214,17 @@ fn crossing(records: &[u8], i: usize, n: usize) -> bool
 }
 
 // A row with operator 8.
-pub fn is_or(p: Parsed) -> bool
+pub(crate) fn is_or(p: Parsed) -> bool
     ensures { λ r. ⌜ r ≡ is-or-of p ⌝ }
 {
     let Parsed::Row { operator, .. } = p else {
         return false;
     };
-    operator == 8
+    operator == Operator::OR
 }
 
 // Whether number 2, 3, 4, 7 or 8 offends at record i.
-pub fn offends(number: u8, kind: FileKind, records: &[u8], bound: usize, i: usize) -> bool
+pub(crate) fn offends(number: u8, kind: FileKind, records: &[u8], bound: usize, i: usize) -> bool
     requires { ⌜ (6 * i + 6 ≤ length (now records)) × (6 * bound ≤ length (now records)) ⌝ }
     ensures { λ r. ⌜ r ≡ offends number (kind-of kind) (now (records .entry)) bound i ⌝ }
 {

@@ -3,6 +3,7 @@ ghost use mathlib.Core.Path.{_≡_};
 ghost use Prim.Native.Nat.{_+_, _*_, _≤_};
 ghost use lib.ListN.{length};
 ghost use Rattle.files.specs.Record.{record-at, kind-at, node-wrong, edge-wrong, row-wrong, rule-wrong, interface-wrong, parsed, parsed-as};
+use crate::record::Operator;
 use crate::record::Parsed;
 use crate::record::Record;
 
@@ -11,7 +12,7 @@ pub(crate) fn read(records: &[u8], i: usize) -> Record
     requires { ⌜ 6 * i + 6 ≤ length (now records) ⌝ }
     ensures { λ r. ⌜ r ≡ record-at (now (records .entry)) i ⌝ }
 {
-    let p = 6 * i;
+    let p = Record::LEN * i;
     Record {
         kind: records[p],
         first: records[p + 1],
@@ -23,11 +24,11 @@ pub(crate) fn read(records: &[u8], i: usize) -> Record
 }
 
 // The kind of record i, whatever its fields.
-pub fn kind_at(records: &[u8], i: usize) -> u8
+pub(crate) fn kind_at(records: &[u8], i: usize) -> u8
     requires { ⌜ 6 * i + 6 ≤ length (now records) ⌝ }
     ensures { λ r. ⌜ r ≡ kind-at (now (records .entry)) i ⌝ }
 {
-    records[6 * i]
+    records[Record::LEN * i]
 }
 
 pub(crate) fn node_wrong(r: Record) -> bool
@@ -47,15 +48,16 @@ fn row_wrong(r: Record) -> bool
     ensures { λ b. ⌜ b ≡ row-wrong r ⌝ }
 {
     let x = r.first;
-    let none = (x == 1) | ((x == 2) | ((x == 5) | (x == 6)));
-    let method = (x == 3) | (x == 4);
+    let none = (x == Operator::TRUE)
+        | ((x == Operator::FALSE) | ((x == Operator::RETURNS) | (x == Operator::NOT_RETURNS)));
+    let method = (x == Operator::IN_METHOD) | (x == Operator::NOT_IN_METHOD);
     let spare = !(r.fourth == 0) | !(r.fifth == 0);
     let method_out = (r.second < 1) | (8 < r.second);
-    let no_second = (x < 7) | (9 < x);
-    ((x < 1) | (10 < x))
+    let no_second = (x < Operator::AND) | (Operator::BOX < x);
+    ((x < Operator::TRUE) | (Operator::BOX_ALL < x))
         | ((none & !(r.second == 0))
             | ((no_second & !(r.third == 0))
-                | ((method & method_out) | (((x == 9) & (8 < r.second)) | spare))))
+                | ((method & method_out) | (((x == Operator::BOX) & (8 < r.second)) | spare))))
 }
 
 fn rule_wrong(r: Record) -> bool
@@ -171,7 +173,7 @@ fn reads(r: Record) -> Parsed
 }
 
 // What record i reads as.
-pub fn parse(records: &[u8], i: usize) -> Parsed
+pub(crate) fn parse(records: &[u8], i: usize) -> Parsed
     requires { ⌜ 6 * i + 6 ≤ length (now records) ⌝ }
     ensures { λ p. ⌜ p ≡ parsed (record-at (now (records .entry)) i) ⌝ }
 {
@@ -181,7 +183,7 @@ pub fn parse(records: &[u8], i: usize) -> Parsed
 
 // ---- Record i where one kind is looked for: any other record is Other, and the tests of the other kinds are not made.
 
-pub fn parse_node(records: &[u8], i: usize) -> Parsed
+pub(crate) fn parse_node(records: &[u8], i: usize) -> Parsed
     requires { ⌜ 6 * i + 6 ≤ length (now records) ⌝ }
     ensures { λ p. ⌜ p ≡ parsed-as 1 (record-at (now (records .entry)) i) ⌝ }
 {
@@ -192,7 +194,7 @@ pub fn parse_node(records: &[u8], i: usize) -> Parsed
     Parsed::Other
 }
 
-pub fn parse_edge(records: &[u8], i: usize) -> Parsed
+pub(crate) fn parse_edge(records: &[u8], i: usize) -> Parsed
     requires { ⌜ 6 * i + 6 ≤ length (now records) ⌝ }
     ensures { λ p. ⌜ p ≡ parsed-as 2 (record-at (now (records .entry)) i) ⌝ }
 {
@@ -203,7 +205,7 @@ pub fn parse_edge(records: &[u8], i: usize) -> Parsed
     Parsed::Other
 }
 
-pub fn parse_row(records: &[u8], i: usize) -> Parsed
+pub(crate) fn parse_row(records: &[u8], i: usize) -> Parsed
     requires { ⌜ 6 * i + 6 ≤ length (now records) ⌝ }
     ensures { λ p. ⌜ p ≡ parsed-as 3 (record-at (now (records .entry)) i) ⌝ }
 {
@@ -214,7 +216,7 @@ pub fn parse_row(records: &[u8], i: usize) -> Parsed
     Parsed::Other
 }
 
-pub fn parse_rule(records: &[u8], i: usize) -> Parsed
+pub(crate) fn parse_rule(records: &[u8], i: usize) -> Parsed
     requires { ⌜ 6 * i + 6 ≤ length (now records) ⌝ }
     ensures { λ p. ⌜ p ≡ parsed-as 4 (record-at (now (records .entry)) i) ⌝ }
 {
@@ -225,7 +227,7 @@ pub fn parse_rule(records: &[u8], i: usize) -> Parsed
     Parsed::Other
 }
 
-pub fn parse_interface(records: &[u8], i: usize) -> Parsed
+pub(crate) fn parse_interface(records: &[u8], i: usize) -> Parsed
     requires { ⌜ 6 * i + 6 ≤ length (now records) ⌝ }
     ensures { λ p. ⌜ p ≡ parsed-as 5 (record-at (now (records .entry)) i) ⌝ }
 {

@@ -6,6 +6,7 @@ ghost use Rattle.files.specs.Property.{row, is-box, box-row};
 ghost use Rattle.files.specs.Decode.{decode-property};
 ghost use Rattle.files.specs.Access.{PropertyFile, row-held, looks};
 use crate::parse::parse_row;
+use crate::record::Operator;
 use crate::record::Parsed;
 use crate::refusal::Refusal;
 
@@ -30,14 +31,14 @@ pub struct Looks {
 pub fn is_box(operator: u8) -> bool
     ensures { λ r. ⌜ r ≡ is-box operator ⌝ }
 {
-    9 <= operator
+    Operator::BOX <= operator
 }
 
 // The row that a box looks at, whatever the label.
 fn box_row(operator: u8, a: u8, b: u8) -> u8
     ensures { λ r. ⌜ r ≡ box-row operator a b ⌝ }
 {
-    if operator == 10 { a } else { b }
+    if operator == Operator::BOX_ALL { a } else { b }
 }
 
 // What a row obliges the end of an edge with this label to. Judging, the sheet's causes and the model's obligations ask this and nothing else.
@@ -45,7 +46,7 @@ pub fn obliged(x: PropertyRow, label: u8) -> Looks
     ensures { λ r. ⌜ r ≡ looks x label ⌝ }
 {
     Looks {
-        along: (x.operator == 10) | ((x.operator == 9) & (x.a == label)),
+        along: (x.operator == Operator::BOX_ALL) | ((x.operator == Operator::BOX) & (x.a == label)),
         at: box_row(x.operator, x.a, x.b),
     }
 }

@@ -107,6 +107,32 @@ impl Record {
     }
 }
 
+// The operators of a property's rows.
+pub struct Operator {}
+
+impl Operator {
+    pub const TRUE: u8 = 1;
+
+    pub const FALSE: u8 = 2;
+
+    pub const IN_METHOD: u8 = 3;
+
+    pub const NOT_IN_METHOD: u8 = 4;
+
+    pub const RETURNS: u8 = 5;
+
+    pub const NOT_RETURNS: u8 = 6;
+
+    pub const AND: u8 = 7;
+
+    pub const OR: u8 = 8;
+
+    // After every edge of one label, and after every edge.
+    pub const BOX: u8 = 9;
+
+    pub const BOX_ALL: u8 = 10;
+}
+
 // How much a file may hold.
 pub struct Limits {
     pub nodes: usize,

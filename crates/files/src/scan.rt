@@ -36,7 +36,7 @@ fn first_offending(number: u8, kind: FileKind, records: &[u8], bound: usize) -> 
 }
 
 // The first of the numbers from `low` up to `past` that offends somewhere, at its first record.
-pub fn scan(
+pub(crate) fn scan(
     low: u8,
     past: u8,
     kind: FileKind,

@@ -47,7 +47,7 @@ fn foreign(graph: &[u8], i: usize, provided: u8, required: u8) -> bool
 }
 
 // The first record of the graph that is not of the interface, or the count of records.
-pub fn first_foreign(graph: &[u8], interface: &[u8]) -> usize
+pub(crate) fn first_foreign(graph: &[u8], interface: &[u8]) -> usize
     requires { ⌜ (GraphFile (now graph)) × (InterfaceFile (now interface)) ⌝ }
     ensures { λ r. ⌜ r ≡ first-foreign-record (decode-interface (now (interface .entry))) (now (graph .entry)) ⌝ }
 {
@@ -65,7 +65,7 @@ pub fn first_foreign(graph: &[u8], interface: &[u8]) -> usize
 }
 
 // Two sides provide one method.
-pub fn shares(first: &[u8], second: &[u8]) -> bool
+pub(crate) fn shares(first: &[u8], second: &[u8]) -> bool
     requires { ⌜ (InterfaceFile (now first)) × (InterfaceFile (now second)) ⌝ }
     ensures { λ r. ⌜ r ≡ shares (decode-interface (now (first .entry))) (decode-interface (now (second .entry))) ⌝ }
 {
@@ -94,7 +94,7 @@ fn lacks(provided: u8, required: u8) -> bool
 }
 
 // A required method, or the start method, is provided by nobody, where these methods are provided and required.
-pub fn unprovided(provided: u8, required: u8, start: u8) -> bool
+pub(crate) fn unprovided(provided: u8, required: u8, start: u8) -> bool
     ensures { λ r. ⌜ r ≡ unprovided (record { provided = provided; required = required }) start ⌝ }
 {
     !in_set(provided, start) | lacks(provided, required)

@@ -22,6 +22,7 @@ use files::property::RowAt;
 use files::property::is_box;
 use files::property::obliged;
 use files::property::row_at;
+use files::record::Operator;
 
 // A pair of a node and a row; row 255 is none.
 pub struct Cause {
@@ -225,14 +226,14 @@ pub(crate) fn causes_of(
     };
     let a = x.a as usize;
     let b = x.b as usize;
-    if x.operator == 7 {
+    if x.operator == Operator::AND {
         let c = lower(graph, property, s, work, g, a, b);
         return Causes {
             first: Cause { node: g, row: c },
             second: none,
         };
     }
-    if x.operator == 8 {
+    if x.operator == Operator::OR {
         return Causes {
             first: Cause { node: g, row: a },
             second: Cause { node: g, row: b },

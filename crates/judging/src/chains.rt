@@ -18,6 +18,7 @@ use files::graph::EdgeAt;
 use files::graph::edge_at;
 use files::property::RowAt;
 use files::property::row_at;
+use files::record::Operator;
 
 // Puts an item at the head of a key's chain.
 pub fn link(work: &mut [u8], heads: usize, nexts: usize, key: usize, item: usize)
@@ -44,16 +45,16 @@ fn edge_target(graph: &[u8], nodes: usize, e: usize) -> usize
 fn operand(operator: u8, a: u8, b: u8, i: usize, n: usize) -> usize
     ensures { λ r. ⌜ r ≡ operand-of operator a b i n ⌝ }
 {
-    if (operator == 7) | (operator == 8) {
+    if (operator == Operator::AND) | (operator == Operator::OR) {
         if i == 0 {
             return a as usize;
         }
         return b as usize;
     }
-    if (operator == 9) & !(i == 0) {
+    if (operator == Operator::BOX) & !(i == 0) {
         return b as usize;
     }
-    if (operator == 10) & (i == 0) {
+    if (operator == Operator::BOX_ALL) & (i == 0) {
         return a as usize;
     }
     n

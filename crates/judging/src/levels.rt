@@ -25,6 +25,7 @@ use files::property::RowAt;
 use files::property::is_box;
 use files::property::obliged;
 use files::property::row_at;
+use files::record::Operator;
 
 // Gives pair (g, r) rank k + 1 and puts it at the queue's end, unless it has a rank. The queue's end after it.
 fn give(work: &mut [u8], tail: usize, g: usize, r: usize, k: u16) -> usize
@@ -56,11 +57,11 @@ fn leaf_false(operator: u8, a: u8, method: u8, returns: bool) -> bool
     ensures { λ b. ⌜ b ≡ leaf-false operator a method returns ⌝ }
 {
     let at = method == a;
-    (operator == 2)
-        | ((operator == 3) & !at)
-        | ((operator == 4) & at)
-        | ((operator == 5) & !returns)
-        | ((operator == 6) & returns)
+    (operator == Operator::FALSE)
+        | ((operator == Operator::IN_METHOD) & !at)
+        | ((operator == Operator::NOT_IN_METHOD) & at)
+        | ((operator == Operator::RETURNS) & !returns)
+        | ((operator == Operator::NOT_RETURNS) & returns)
 }
 
 // Whether row r is false at node g by itself, which is at level 1.
@@ -104,7 +105,7 @@ fn may_fall(property: &[u8], r: usize) -> bool
     let RowAt::Is(x) = row_at(property, r, 0) else {
         return false;
     };
-    (2 <= x.operator) & (x.operator <= 6)
+    (Operator::FALSE <= x.operator) & (x.operator <= Operator::NOT_RETURNS)
 }
 
 // Gives rank 1 to row r at each node where it is false by itself.
@@ -220,7 +221,7 @@ fn row_on(
     }
     let a = is_false(work, v, x.a as usize, k);
     let b = is_false(work, v, x.b as usize, k);
-    if (x.operator == 7) | (a & b) {
+    if (x.operator == Operator::AND) | (a & b) {
         return give(work, tail, v, q, k);
     }
     tail

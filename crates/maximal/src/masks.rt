@@ -16,12 +16,13 @@ use files::property::RowAt;
 use files::property::is_box;
 use files::property::obliged;
 use files::property::row_at;
+use files::record::Operator;
 
 // Internal steps, and calls of eight methods.
 pub const LABELS: usize = 9;
 
 // Row r is in the set.
-pub fn has_row(set: u32, r: usize) -> bool
+pub(crate) fn has_row(set: u32, r: usize) -> bool
     requires { ⌜ r < 32 ⌝ }
     ensures { λ t. ⌜ t ≡ member set r ⌝ }
 {
@@ -29,7 +30,7 @@ pub fn has_row(set: u32, r: usize) -> bool
 }
 
 // The set of row r alone.
-pub fn one_row(r: usize) -> u32
+pub(crate) fn one_row(r: usize) -> u32
     requires { ⌜ r < 32 ⌝ }
     ensures { λ t. ⌜ t ≡ 2 ^ r ⌝ }
 {
@@ -60,7 +61,7 @@ pub(crate) fn operands_or(property: &[u8], n: usize, r: usize, last: u8, other: 
     let RowAt::Is(x) = row_at(property, r, 2) else {
         return 0;
     };
-    if (7 <= x.operator) & (x.operator <= last) {
+    if (Operator::AND <= x.operator) & (x.operator <= last) {
         return one_row(x.a as usize) | one_row(x.b as usize);
     }
     other
@@ -71,11 +72,11 @@ fn and_rows(property: &[u8], n: usize, r: usize) -> u32
     requires { ⌜ (PropertyFile (now property)) × ((n ≡ count (now property)) × ((n ≤ 32) × (r < n))) ⌝ }
     ensures { λ t. ⌜ t ≡ and-rows (row (decode-property (now (property .entry))) r) ⌝ }
 {
-    operands_or(property, n, r, 7, 0)
+    operands_or(property, n, r, Operator::AND, 0)
 }
 
 // The set and what its "and" rows ask for, and theirs, and so on: the highest row not yet worked is taken next.
-pub fn complete(property: &[u8], n: usize, set: u32) -> u32
+pub(crate) fn complete(property: &[u8], n: usize, set: u32) -> u32
     requires { ⌜ (PropertyFile (now property)) × ((n ≡ count (now property)) × ((n ≤ 32) × (set < 2 ^ n))) ⌝ }
     ensures { λ t. ⌜ t ≡ completion (decode-property (now (property .entry))) set ⌝ }
 {
@@ -98,16 +99,16 @@ fn is_untrue(property: &[u8], n: usize, r: usize, method: u8, flag: bool) -> boo
         return false;
     };
     let here = method == x.a;
-    let never = x.operator == 2;
-    let elsewhere = (x.operator == 3) & !here;
-    let shunned = (x.operator == 4) & here;
-    let goes_on = (x.operator == 5) & !flag;
-    let returns = (x.operator == 6) & flag;
+    let never = x.operator == Operator::FALSE;
+    let elsewhere = (x.operator == Operator::IN_METHOD) & !here;
+    let shunned = (x.operator == Operator::NOT_IN_METHOD) & here;
+    let goes_on = (x.operator == Operator::RETURNS) & !flag;
+    let returns = (x.operator == Operator::NOT_RETURNS) & flag;
     never | elsewhere | shunned | goes_on | returns
 }
 
 // All rows that are.
-pub fn untrue(property: &[u8], n: usize, method: u8, flag: bool) -> u32
+pub(crate) fn untrue(property: &[u8], n: usize, method: u8, flag: bool) -> u32
     requires { ⌜ (PropertyFile (now property)) × ((n ≡ count (now property)) × (n ≤ 32)) ⌝ }
     ensures { λ t. ⌜ t ≡ untrue (decode-property (now (property .entry))) method flag ⌝ }
 {
@@ -170,7 +171,7 @@ fn enter_box(boxes: [u32; LABELS], x: PropertyRow, r: usize) -> [u32; LABELS]
 }
 
 // For each label the boxes that look along it, as a set: the rows of a state that ask for nothing under a label need not be read.
-pub fn boxes_by_label(property: &[u8], n: usize) -> [u32; LABELS]
+pub(crate) fn boxes_by_label(property: &[u8], n: usize) -> [u32; LABELS]
     requires { ⌜ (PropertyFile (now property)) × ((n ≡ count (now property)) × (n ≤ 32)) ⌝ }
     ensures { λ t. ⌜ Boxes (decode-property (now (property .entry))) t ⌝ }
 {

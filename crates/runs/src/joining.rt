@@ -147,7 +147,7 @@ fn check_join(
 }
 
 // Joins within limits that leave node numbers in a byte.
-pub fn join_within(
+pub(crate) fn join_within(
     interface1: &[u8],
     graph1: &[u8],
     interface2: &[u8],

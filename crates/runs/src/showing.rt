@@ -1,13 +1,14 @@
 // Showing: the record of a joined node, as six bytes of the file it came from. `show_within` gives the part, empty where it is refused; `show_refusal_within` says why.
 // `find_place` says both at once, for a caller that has the files at hand.
 ghost use mathlib.Core.Path.{_≡_};
+ghost use denote.Ref.{ptr};
 ghost use Prim.Native.Nat.{_+_, _*_, _≤_};
 ghost use lib.ListN.{length};
 ghost use Rattle.files.specs.Outcome.{answer, written-of};
 ghost use Rattle.files.specs.Record.{part};
 ghost use Rattle.files.specs.Settling.{Settles, WherePassed};
 ghost use Rattle.files.specs.View.{Views};
-ghost use Rattle.runs.specs.Showing.{shown, shown-answer, show-first, outcome-at, InFile, place-of, shown-at};
+ghost use Rattle.runs.specs.Showing.{shown, shown-answer, show-first, found-place, place-of, part-ptr, shown-at};
 use crate::answers::Shown;
 use files::record::Limits;
 use files::record::Record;
@@ -56,7 +57,7 @@ fn place_of(number: usize, nodes1: usize, nodes2: usize) -> Place
 
 // Both graphs' refusals, in argument order, then the place.
 pub fn find_place(graph1: &[u8], graph2: &[u8], number: usize, limits: Limits) -> Place
-    ensures { λ r. ⌜ (shown limits (now (graph1 .entry)) (now (graph2 .entry)) number ≡ outcome-at (now (graph1 .entry)) (now (graph2 .entry)) r) × (InFile (now (graph1 .entry)) (now (graph2 .entry)) r) ⌝ }
+    ensures { λ r. ⌜ r ≡ found-place limits (now (graph1 .entry)) (now (graph2 .entry)) number ⌝ }
 {
     let checked = check_show(graph1, graph2, limits);
     let settled = checked.settled;
@@ -73,19 +74,19 @@ pub fn find_place(graph1: &[u8], graph2: &[u8], number: usize, limits: Limits) -
 // Record i of a file.
 pub fn record_at<'a>(graph: &'a [u8], i: usize) -> &'a [u8]
     requires { ⌜ 6 * i + 6 ≤ length (now graph) ⌝ }
-    ensures { λ r. ⌜ now r ≡ part (now (graph .entry)) i 1 ⌝ }
+    ensures { λ r. ⌜ (now r ≡ part (now (graph .entry)) i 1) × (ptr r ≡ (ptr (graph .entry) .0, 6 * i + ptr (graph .entry) .1)) ⌝ }
 {
     &graph[Record::LEN * i..Record::LEN * i + Record::LEN]
 }
 
 // The six bytes of the node of this number in the joined graph, as a part of its file; empty where showing is refused.
-pub fn show_within<'a>(
+pub(crate) fn show_within<'a>(
     graph1: &'a [u8],
     graph2: &'a [u8],
     number: usize,
     limits: Limits,
 ) -> &'a [u8]
-    ensures { λ r. ⌜ now r ≡ written-of (shown limits (now (graph1 .entry)) (now (graph2 .entry)) number) ⌝ }
+    ensures { λ r. ⌜ (now r ≡ written-of (shown limits (now (graph1 .entry)) (now (graph2 .entry)) number)) × (ptr r ≡ part-ptr (ptr (graph1 .entry)) (ptr (graph2 .entry)) (found-place limits (now (graph1 .entry)) (now (graph2 .entry)) number)) ⌝ }
 {
     match find_place(graph1, graph2, number, limits) {
         Place::First(i) => record_at(graph1, i),
@@ -106,7 +107,12 @@ fn shown_at(place: Place) -> Shown
 }
 
 // Why the part is empty, or that it is not.
-pub fn show_refusal_within(graph1: &[u8], graph2: &[u8], number: usize, limits: Limits) -> Shown
+pub(crate) fn show_refusal_within(
+    graph1: &[u8],
+    graph2: &[u8],
+    number: usize,
+    limits: Limits,
+) -> Shown
     ensures { λ r. ⌜ shown-answer r ≡ answer (shown limits (now (graph1 .entry)) (now (graph2 .entry)) number) ⌝ }
 {
     shown_at(find_place(graph1, graph2, number, limits))

@@ -60,7 +60,7 @@ returns c =
     let x = c .before .before .before .before .before .before .i .given in
     let r = c .before .before .before .before .record-at in
     let w = c .before .before .write-part in
-    shown-given (d .result) (d .ensures) (a .graph1 .now) (a .graph2 .now) (a .number) (f .result) (f .ensures) (First (x .0 .0)) _ (a .out .now) (w .last .1 .0) (w .result) (x .1) (ap (λ (l : List ℕ). says (part-said l)) (sym (r .ensures))) (w .ensures)
+    shown-given (d .result) (d .ensures) (a .graph1 .now) (a .graph2 .now) (a .number) (f .result) (f .ensures) (First (x .0 .0)) _ (a .out .now) (w .last .1 .0) (w .result) (x .1) (ap (λ (l : List ℕ). says (part-said l)) (sym (r .ensures .0))) (w .ensures)
 
 same-length-2 : tie.Need-same-length-2
 same-length-2 c = search needs
@@ -73,7 +73,7 @@ returns-2 c =
     let x = c .before .before .before .before .before .before .i2 .given in
     let r = c .before .before .before .before .record-at2 in
     let w = c .before .before .write-part2 in
-    shown-given (d .result) (d .ensures) (a .graph1 .now) (a .graph2 .now) (a .number) (f .result) (f .ensures) (Second (x .0 .0)) _ (a .out .now) (w .last .1 .0) (w .result) (x .1) (ap (λ (l : List ℕ). says (part-said l)) (sym (r .ensures))) (w .ensures)
+    shown-given (d .result) (d .ensures) (a .graph1 .now) (a .graph2 .now) (a .number) (f .result) (f .ensures) (Second (x .0 .0)) _ (a .out .now) (w .last .1 .0) (w .result) (x .1) (ap (λ (l : List ℕ). says (part-said l)) (sym (r .ensures .0))) (w .ensures)
 
 returns-3 : tie.Need-returns-3
 returns-3 c =

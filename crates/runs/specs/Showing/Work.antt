@@ -1,7 +1,8 @@
 -- Showing as the code comes to it: where a number stands, through each check.
-use mathlib.Core.Path.{_≡_, refl, sym, ap, subst, _∙_}
+use mathlib.Core.Path.{_≡_, refl, sym, ap, ap₂, subst, _∙_}
 use mathlib.Core.Bool.{Bool, cond}
 use mathlib.Core.List.{List, []}
+use mathlib.Core.Option.{Option, none}
 use Prim.Native.Nat.{ℕ, _+_, _*_, _-_, _≤_, _<_}
 use native.Mathlib.Decide.{decLt}
 use native.Mathlib.Omega.{arith}
@@ -10,18 +11,20 @@ use lib.ListN.{length}
 use borrow.Author.Tests.{lt-ltb, le-ltb, le-leb, lt-leb}
 use Rattle.files.specs.Decode.{decode-graph}
 use Rattle.files.specs.Graph.{size}
-use Rattle.files.specs.Outcome.{Said, Outcome, says, refusal-at, answered, answer, written-of}
+use Rattle.files.specs.Outcome.{Said, says, refusal-at, file-checks, answered, answer, written-of}
 use Rattle.files.specs.Outcome.Ends.{whole-refuses, whole-passes}
 use Rattle.files.specs.Record.{count, part}
-use Rattle.files.specs.Settling.{Settles}
+use Rattle.files.specs.Refusal.{graph, nodes-of, refusal}
+use Rattle.files.specs.Settling.{or-else, Settles}
 use Rattle.files.specs.Settling.Calls.{refuses-is, left-is}
+use Rattle.files.specs.Settling.Laws.{file-settles, next-settles, file-known}
 use Rattle.files.specs.View.{Views, view-size, view-records}
 use Rattle.files.specs.declared.record.Limits.{Limits}
 use Rattle.files.specs.declared.refusal.Refusal.{Refusal}
 use Rattle.files.specs.declared.settle.Settled.{Settled}
 use Rattle.files.specs.declared.settle.Settled.the-variants.{Passed, Refused}
 use Rattle.files.specs.declared.view.GraphView.{GraphView}
-use Rattle.runs.specs.Showing.{shown-answer, show-first, show-last, show-size, show-said, shown, part-said, outcome-at, Stands, place-of, shown-at}
+use Rattle.runs.specs.Showing.{shown-answer, show-first, show-last, show-size, show-said, shown, part-said, outcome-at, Stands, place-of, unless-refused, found-place, shown-at}
 use Rattle.runs.specs.declared.showing.Place.{Place}
 use Rattle.runs.specs.declared.showing.Place.the-variants as place
 
@@ -33,12 +36,24 @@ module _ (L : Limits) (g1 g2 : List ℕ) (number : ℕ) {x : Settled} (settles :
   abbrev said : Said
   said = show-said L g1 g2 number
 
+  abbrev there : Place
+  there = place-of number (size (decode-graph g1)) (size (decode-graph g2))
+
   shown-is : shown L g1 g2 number ≡ answered (show-first L g1 g2 (show-last L g1 g2 number)) said
   unfolding shown
   shown-is = refl
 
+  -- the place that is found, by what the checks of the files come to
+  pub refused-place : {r : Refusal} → x ≡ Refused r → place.Refused r ≡ found-place L g1 g2 number
+  refused-place e = ap (λ (o : Option Refusal). unless-refused o there) (sym (settles .first-is [] ∙ ap (λ (y : Settled). or-else y none) e))
+
+  pub passed-place : x ≡ Passed → {v w : GraphView} → Views v g1 → Views w g2 → place-of number (v .nodes) (w .nodes) ≡ found-place L g1 g2 number
+  passed-place e a b =
+      ap₂ (λ (n m : ℕ). place-of number n m) (sym (view-size a)) (sym (view-size b))
+      ∙ ap (λ (o : Option Refusal). unless-refused o there) (sym (settles .first-is [] ∙ ap (λ (y : Settled). or-else y none) e))
+
   -- a file is refused
-  pub stands-refused : {r : Refusal} → x ≡ Refused r → Stands (shown L g1 g2 number) g1 g2 (place.Refused r)
+  stands-refused : {r : Refusal} → x ≡ Refused r → Stands (shown L g1 g2 number) g1 g2 (place.Refused r)
   stands-refused e = (refuses-is (show-first L g1 g2) (show-last L g1 g2 number) said settles shown-is e, tt)
 
   -- both are accepted, and held by these views
@@ -72,7 +87,7 @@ module _ (L : Limits) (g1 g2 : List ℕ) (number : ℕ) {x : Settled} (settles :
     stands-nowhere h k =
         (onward ∙ whole-refuses 7 (leb (show-size L g1 g2 number) number) [] said (le-leb (show-size L g1 g2 number) number (omega (arith, view-size a, view-size b))), tt)
 
-    pub stands-placed : Stands (shown L g1 g2 number) g1 g2 (place-of number (v .nodes) (w .nodes))
+    stands-placed : Stands (shown L g1 g2 number) g1 g2 (place-of number (v .nodes) (w .nodes))
     stands-placed = first (decLt number (v .nodes)) (decLt (number - v .nodes) (w .nodes))
       where
         first : Dec (number < v .nodes) → Dec (number - v .nodes < w .nodes) → Stands (shown L g1 g2 number) g1 g2 (place-of number (v .nodes) (w .nodes))
@@ -80,23 +95,41 @@ module _ (L : Limits) (g1 g2 : List ℕ) (number : ℕ) {x : Settled} (settles :
         first (no h) (yes k) = rw (le-ltb number (v .nodes) (omega arith), lt-ltb (number - v .nodes) (w .nodes) k) (stands-second (omega arith) k)
         first (no h) (no k) = rw (le-ltb number (v .nodes) (omega arith), le-ltb (number - v .nodes) (w .nodes) (omega arith)) (stands-nowhere (omega arith) (omega arith))
 
+-- ---- the place found is that of the outcome
+
+views-of : (L : Limits) (g : List ℕ) → refusal L graph g ≡ none → Views (record { nodes = nodes-of g; edges = count g - nodes-of g }) g
+views-of L g e = record { graph-file = record { limits = L; accepted = e }; nodes-are = refl; edges-are = refl }
+
+pub stands-found : (L : Limits) (g1 g2 : List ℕ) (number : ℕ) → Stands (shown L g1 g2 number) g1 g2 (found-place L g1 g2 number)
+stands-found L g1 g2 number = go _ (next-settles (file-settles L 1 graph g1) (file-settles L 2 graph g2) refl)
+  where
+    go : (x : Settled) → Settles (show-first L g1 g2) x → Stands (shown L g1 g2 number) g1 g2 (found-place L g1 g2 number)
+    go (Refused r) s = subst (Stands (shown L g1 g2 number) g1 g2) (refused-place L g1 g2 number s refl) (stands-refused L g1 g2 number s refl)
+    go Passed s =
+        let a = file-known (λ cs. file-checks L 2 graph g2 cs) L 1 graph g1 s in
+        let b = file-known (λ cs. cs) L 2 graph g2 (a .1) in
+        subst (Stands (shown L g1 g2 number) g1 g2) (passed-place L g1 g2 number s refl (views-of L g1 (a .0)) (views-of L g2 (b .0)))
+        (stands-placed L g1 g2 number s refl (views-of L g1 (a .0)) (views-of L g2 (b .0)))
+
 -- ---- from a place to the part and the answer
 
-module _ (o : Outcome) (g1 g2 : List ℕ) where
-  pub stands-answer : (p : Place) → Stands o g1 g2 p → shown-answer (shown-at p) ≡ answer o
-  stands-answer p s = same p ∙ sym (ap answer (s .0))
+module _ (L : Limits) (g1 g2 : List ℕ) (number : ℕ) (p : Place) (found : p ≡ found-place L g1 g2 number) where
+  stands : Stands (shown L g1 g2 number) g1 g2 p
+  stands = subst (Stands (shown L g1 g2 number) g1 g2) (sym found) (stands-found L g1 g2 number)
+
+  pub found-answer : shown-answer (shown-at p) ≡ answer (shown L g1 g2 number)
+  found-answer = same p ∙ sym (ap answer (stands .0))
     where
       same : (p : Place) → shown-answer (shown-at p) ≡ answer (outcome-at g1 g2 p)
       same (place.First i) = refl
       same (place.Second i) = refl
       same (place.Refused r) = refl
 
-  module _ (p : Place) (stands : Stands o g1 g2 p) where
-    pub found-first : (i : ℕ) → p ≡ place.First i → (6 * i + 6 ≤ length g1) × (part g1 i 1 ≡ written-of o)
-    found-first i e = let s = subst (Stands o g1 g2) e stands in (s .1, sym (ap written-of (s .0)))
+  pub found-first : (i : ℕ) → p ≡ place.First i → (6 * i + 6 ≤ length g1) × (part g1 i 1 ≡ written-of (shown L g1 g2 number))
+  found-first i e = let s = subst (Stands (shown L g1 g2 number) g1 g2) e stands in (s .1, sym (ap written-of (s .0)))
 
-    pub found-second : (i : ℕ) → p ≡ place.Second i → (6 * i + 6 ≤ length g2) × (part g2 i 1 ≡ written-of o)
-    found-second i e = let s = subst (Stands o g1 g2) e stands in (s .1, sym (ap written-of (s .0)))
+  pub found-second : (i : ℕ) → p ≡ place.Second i → (6 * i + 6 ≤ length g2) × (part g2 i 1 ≡ written-of (shown L g1 g2 number))
+  found-second i e = let s = subst (Stands (shown L g1 g2 number) g1 g2) e stands in (s .1, sym (ap written-of (s .0)))
 
-    pub found-nowhere : (r : Refusal) → p ≡ place.Refused r → [] ≡ written-of o
-    found-nowhere r e = sym (ap written-of (subst (Stands o g1 g2) e stands .0))
+  pub found-nowhere : (r : Refusal) → p ≡ place.Refused r → [] ≡ written-of (shown L g1 g2 number)
+  found-nowhere r e = sym (ap written-of (subst (Stands (shown L g1 g2 number) g1 g2) e stands .0))

@@ -1,7 +1,6 @@
 -- A file is refused, or both are accepted, and the counts of their views give the place.
-use mathlib.Core.Path.{sym, subst}
-use Rattle.runs.specs.Showing.{shown, Stands}
-use Rattle.runs.specs.Showing.Work.{stands-refused, stands-placed}
+use mathlib.Core.Path.{_∙_}
+use Rattle.runs.specs.Showing.Work.{refused-place, passed-place}
 use borrow.Author.Needs.{needs}
 use Rattle.runs.proofs.showing.find_place.Statement.{statement}
 use Rattle.runs.proofs.showing.find_place.Tie as tie
@@ -21,15 +20,14 @@ place-of-requires c κs = search needs
 returns : tie.Need-returns
 returns c =
     let a = c .before .before .before .before .before .before .args in
-    stands-refused (a .limits) (a .graph1 .now) (a .graph2 .now) (a .number) (c .before .before .before .check-show .ensures .0) (c .before .settled .given .1)
+    refused-place (a .limits) (a .graph1 .now) (a .graph2 .now) (a .number) (c .before .before .before .check-show .ensures .0) (c .before .settled .given .1)
 
 returns-2 : tie.Need-returns-2
 returns-2 c =
     let a = c .before .before .before .before .before .before .before .before .args in
     let s = c .before .before .before .before .before .check-show .ensures in
     let e = c .before .before .before .enum-told .given .1 in
-    subst (Stands (shown (a .limits) (a .graph1 .now) (a .graph2 .now) (a .number)) (a .graph1 .now) (a .graph2 .now)) (sym (c .place-of .ensures))
-    (stands-placed (a .limits) (a .graph1 .now) (a .graph2 .now) (a .number) (s .0) e (s .1 e .0) (s .1 e .1))
+    c .place-of .ensures ∙ passed-place (a .limits) (a .graph1 .now) (a .graph2 .now) (a .number) (s .0) e (s .1 e .0) (s .1 e .1)
 
 pub find-place-spec : {M : Type 1} → statement M
 find-place-spec =

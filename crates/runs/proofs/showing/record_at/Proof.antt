@@ -1,5 +1,5 @@
 -- Six bytes from the record on.
-use mathlib.Core.Path.{_≡_, ap}
+use mathlib.Core.Path.{_≡_, refl, ap}
 use Prim.Native.Nat.{ℕ, _+_, _*_, _-_}
 use native.Mathlib.Omega.{arith}
 use lib.ListN.{take, drop}
@@ -29,7 +29,7 @@ returns : tie.Need-returns
 returns c =
     let a = c .before .args in
     let e : 6 * a .i + 6 - 6 * a .i ≡ 6 = omega arith in
-    ap (λ (n : ℕ). take n (drop (6 * a .i) (a .graph .now))) e
+    (ap (λ (n : ℕ). take n (drop (6 * a .i) (a .graph .now))) e, refl)
 
 pub record-at-spec : {M : Type 1} → statement M
 record-at-spec =

@@ -1,6 +1,6 @@
 -- The place found is that of the record shown, or there is none.
-use mathlib.Core.Path.{_∙_}
-use Rattle.runs.specs.Showing.{shown}
+use mathlib.Core.Path.{sym, ap, _∙_}
+use Rattle.runs.specs.Showing.{part-ptr}
 use Rattle.runs.specs.Showing.Work.{found-first, found-second, found-nowhere}
 use borrow.Author.Needs.{needs}
 use Rattle.runs.proofs.showing.show_within.Statement.{statement}
@@ -17,7 +17,7 @@ record-at-requires c κs =
     let a = c .before .before .before .before .before .before .args in
     let f = c .before .before .before .find-place in
     let x = c .before .i .given in
-    (found-first (shown (a .limits) (a .graph1 .now) (a .graph2 .now) (a .number)) (a .graph1 .now) (a .graph2 .now) (f .result) (f .ensures) (x .0 .0) (x .1)) .0
+    (found-first (a .limits) (a .graph1 .now) (a .graph2 .now) (a .number) (f .result) (f .ensures) (x .0 .0) (x .1)) .0
 
 enum-known-i-2 : tie.Need-enum-known-i-2
 enum-known-i-2 c = search needs
@@ -27,7 +27,7 @@ record-at-requires-2 c κs =
     let a = c .before .before .before .before .before .before .args in
     let f = c .before .before .before .find-place in
     let x = c .before .i2 .given in
-    (found-second (shown (a .limits) (a .graph1 .now) (a .graph2 .now) (a .number)) (a .graph1 .now) (a .graph2 .now) (f .result) (f .ensures) (x .0 .0) (x .1)) .0
+    (found-second (a .limits) (a .graph1 .now) (a .graph2 .now) (a .number) (f .result) (f .ensures) (x .0 .0) (x .1)) .0
 
 enum-told : tie.Need-enum-told
 enum-told c = search needs
@@ -40,21 +40,24 @@ returns c =
     let a = c .before .before .before .before .before .before .before .args in
     let f = c .before .before .before .before .find-place in
     let x = c .before .before .i .given in
-    c .record-at .ensures ∙ (found-first (shown (a .limits) (a .graph1 .now) (a .graph2 .now) (a .number)) (a .graph1 .now) (a .graph2 .now) (f .result) (f .ensures) (x .0 .0) (x .1)) .1
+    let shows = found-first (a .limits) (a .graph1 .now) (a .graph2 .now) (a .number) (f .result) (f .ensures) (x .0 .0) (x .1) in
+    (c .record-at .ensures .0 ∙ shows .1, c .record-at .ensures .1 ∙ ap (part-ptr (a .graph1 .ptr) (a .graph2 .ptr)) (sym (x .1) ∙ f .ensures))
 
 returns-2 : tie.Need-returns-2
 returns-2 c =
     let a = c .before .before .before .before .before .before .before .args in
     let f = c .before .before .before .before .find-place in
     let x = c .before .before .i2 .given in
-    c .record-at2 .ensures ∙ (found-second (shown (a .limits) (a .graph1 .now) (a .graph2 .now) (a .number)) (a .graph1 .now) (a .graph2 .now) (f .result) (f .ensures) (x .0 .0) (x .1)) .1
+    let shows = found-second (a .limits) (a .graph1 .now) (a .graph2 .now) (a .number) (f .result) (f .ensures) (x .0 .0) (x .1) in
+    (c .record-at2 .ensures .0 ∙ shows .1, c .record-at2 .ensures .1 ∙ ap (part-ptr (a .graph1 .ptr) (a .graph2 .ptr)) (sym (x .1) ∙ f .ensures))
 
 returns-3 : tie.Need-returns-3
 returns-3 c =
     let a = c .before .before .before .before .before .before .args in
     let f = c .before .before .before .find-place in
     let x = c .before .enum-told .given in
-    found-nowhere (shown (a .limits) (a .graph1 .now) (a .graph2 .now) (a .number)) (a .graph1 .now) (a .graph2 .now) (f .result) (f .ensures) (x .0 .0) (x .1)
+    let shows = found-nowhere (a .limits) (a .graph1 .now) (a .graph2 .now) (a .number) (f .result) (f .ensures) (x .0 .0) (x .1) in
+    (shows, ap (part-ptr (a .graph1 .ptr) (a .graph2 .ptr)) (sym (x .1) ∙ f .ensures))
 
 pub show-within-spec : {M : Type 1} → statement M
 show-within-spec =
