@@ -16,6 +16,7 @@ use files::record::Limits;
 use judging::shape::Shape;
 use judging::sizes::Sizes;
 use maximal::places::Places;
+use printing::stdout::BUFFERED;
 use runs::answers::Shown;
 use runs::regions::Regions;
 
@@ -43,11 +44,11 @@ fn watch_buffer() -> [u8; Regions::ROOM]
     [0; Regions::ROOM]
 }
 
-pub fn judge(at: usize) {
+pub fn judge(stdout: &mut [u8; BUFFERED], at: usize) {
     let mut graph = io::large_buffer();
-    let g = load(2, &mut graph);
+    let g = load(stdout, 2, &mut graph);
     let mut property = io::large_buffer();
-    let p = load(3, &mut property);
+    let p = load(stdout, 3, &mut property);
     if g.ok & p.ok {
         let mut out = io::large_buffer();
         let mut work = judge_buffer();
@@ -59,7 +60,7 @@ pub fn judge(at: usize) {
             &mut out,
             &mut work,
         );
-        say_judged(answer, &out, at);
+        say_judged(stdout, answer, &out, at);
     }
 }
 
@@ -71,11 +72,11 @@ fn nodes_in(graph: &[u8]) -> usize {
     }
 }
 
-pub fn compare(at: usize) {
+pub fn compare(stdout: &mut [u8; BUFFERED], at: usize) {
     let mut first = io::large_buffer();
-    let f = load(2, &mut first);
+    let f = load(stdout, 2, &mut first);
     let mut second = io::large_buffer();
-    let s = load(3, &mut second);
+    let s = load(stdout, 3, &mut second);
     if f.ok & s.ok {
         let mut out = io::large_buffer();
         let mut work = compare_buffer();
@@ -88,15 +89,15 @@ pub fn compare(at: usize) {
             &mut work,
         );
         let nodes = nodes_in(&first[..first_end]);
-        say_compared(answer, &out, nodes, at);
+        say_compared(stdout, answer, &out, nodes, at);
     }
 }
 
-pub fn model(at: usize) {
+pub fn model(stdout: &mut [u8; BUFFERED], at: usize) {
     let mut interface = io::large_buffer();
-    let i = load(2, &mut interface);
+    let i = load(stdout, 2, &mut interface);
     let mut property = io::large_buffer();
-    let p = load(3, &mut property);
+    let p = load(stdout, 3, &mut property);
     if i.ok & p.ok {
         let mut out = io::large_buffer();
         let mut work = model_buffer();
@@ -108,52 +109,65 @@ pub fn model(at: usize) {
             &mut out,
             &mut work,
         );
-        say_modelled(answer, &out, at);
+        say_modelled(stdout, answer, &out, at);
     }
 }
 
-pub fn join(at: usize) {
-    let mut interface1 = io::large_buffer();
-    let i = load(2, &mut interface1);
-    let mut graph1 = io::large_buffer();
-    let g = load(3, &mut graph1);
+// The join with the second side's files, of the first side's, which are loaded. The files of a call are loaded two at a time, so that no proof carries more buffers than that.
+fn join_with(stdout: &mut [u8; BUFFERED], interface1: &[u8], graph1: &[u8], at: usize) {
     let mut interface2 = io::large_buffer();
-    let j = load(4, &mut interface2);
+    let i = load(stdout, 4, &mut interface2);
     let mut graph2 = io::large_buffer();
-    let h = load(5, &mut graph2);
-    if i.ok & g.ok & j.ok & h.ok {
+    let g = load(stdout, 5, &mut graph2);
+    if i.ok & g.ok {
         let mut out = io::large_buffer();
-        let interface1_end = i.length;
-        let graph1_end = g.length;
-        let interface2_end = j.length;
-        let graph2_end = h.length;
+        let interface2_end = i.length;
+        let graph2_end = g.length;
         let answer = runs::join(
-            &interface1[..interface1_end],
-            &graph1[..graph1_end],
+            interface1,
+            graph1,
             &interface2[..interface2_end],
             &graph2[..graph2_end],
             &mut out,
         );
-        say_joined(answer, &out, at);
+        say_joined(stdout, answer, &out, at);
     }
 }
 
-pub fn show(at: usize) {
+pub fn join(stdout: &mut [u8; BUFFERED], at: usize) {
+    let mut interface1 = io::large_buffer();
+    let i = load(stdout, 2, &mut interface1);
     let mut graph1 = io::large_buffer();
-    let g = load(2, &mut graph1);
+    let g = load(stdout, 3, &mut graph1);
+    if i.ok & g.ok {
+        let interface1_end = i.length;
+        let graph1_end = g.length;
+        join_with(
+            stdout,
+            &interface1[..interface1_end],
+            &graph1[..graph1_end],
+            at,
+        );
+    }
+}
+
+pub fn show(stdout: &mut [u8; BUFFERED], at: usize) {
+    let mut graph1 = io::large_buffer();
+    let g = load(stdout, 2, &mut graph1);
     let mut graph2 = io::large_buffer();
-    let h = load(3, &mut graph2);
-    let node = number(4);
+    let h = load(stdout, 3, &mut graph2);
+    let node = number(stdout, 4);
     if g.ok & h.ok & node.ok {
         let graph1_end = g.length;
         let graph2_end = h.length;
         let value = node.value;
         match runs::show_refusal(&graph1[..graph1_end], &graph2[..graph2_end], value) {
             Shown::Part => say_shown(
+                stdout,
                 runs::show(&graph1[..graph1_end], &graph2[..graph2_end], value),
                 at,
             ),
-            Shown::Refused(r) => say_refused(r),
+            Shown::Refused(r) => say_refused(stdout, r),
         }
     }
 }
@@ -163,14 +177,14 @@ fn method_of(value: usize) -> u8 {
     if value < 256 { value as u8 } else { 255 }
 }
 
-pub fn watch(at: usize) {
+pub fn watch(stdout: &mut [u8; BUFFERED], at: usize) {
     let mut interface = io::large_buffer();
-    let i = load(2, &mut interface);
+    let i = load(stdout, 2, &mut interface);
     let mut graph = io::large_buffer();
-    let g = load(3, &mut graph);
+    let g = load(stdout, 3, &mut graph);
     let mut rules = io::large_buffer();
-    let r = load(4, &mut rules);
-    let start = number(5);
+    let r = load(stdout, 4, &mut rules);
+    let start = number(stdout, 5);
     if i.ok & g.ok & r.ok & start.ok {
         let mut out = io::large_buffer();
         let mut work = watch_buffer();
@@ -185,49 +199,76 @@ pub fn watch(at: usize) {
             &mut out,
             &mut work,
         );
-        say_watched(answer, b"clean from the start method\n", &out, at);
+        say_watched(stdout, answer, b"clean from the start method\n", &out, at);
     }
 }
 
-// The composed verdict on the known side's files, which are loaded.
-fn compose_with(known: &[u8], graph: &[u8], at: usize) {
-    let mut other = io::large_buffer();
-    let o = load(4, &mut other);
-    let mut property = io::large_buffer();
-    let p = load(5, &mut property);
+// The composed verdict by the rules, of both sides' files, which are loaded.
+fn compose_by(
+    stdout: &mut [u8; BUFFERED],
+    known: &[u8],
+    graph: &[u8],
+    other: &[u8],
+    property: &[u8],
+    at: usize,
+) {
     let mut rules = io::large_buffer();
-    let r = load(6, &mut rules);
-    let start = number(7);
-    if o.ok & p.ok & r.ok & start.ok {
+    let r = load(stdout, 6, &mut rules);
+    let start = number(stdout, 7);
+    if r.ok & start.ok {
         let mut out = io::large_buffer();
         let mut store = watch_buffer();
         let mut work = model_buffer();
-        let other_end = o.length;
-        let property_end = p.length;
         let rules_end = r.length;
         let answer = runs::compose(
             known,
             graph,
-            &other[..other_end],
-            &property[..property_end],
+            other,
+            property,
             &rules[..rules_end],
             method_of(start.value),
             &mut out,
             &mut store,
             &mut work,
         );
-        say_watched(answer, b"clean with every module that conforms\n", &out, at);
+        say_watched(
+            stdout,
+            answer,
+            b"clean with every module that conforms\n",
+            &out,
+            at,
+        );
     }
 }
 
-pub fn compose(at: usize) {
+// The composed verdict with the other side's files, of the known side's, which are loaded.
+fn compose_with(stdout: &mut [u8; BUFFERED], known: &[u8], graph: &[u8], at: usize) {
+    let mut other = io::large_buffer();
+    let o = load(stdout, 4, &mut other);
+    let mut property = io::large_buffer();
+    let p = load(stdout, 5, &mut property);
+    if o.ok & p.ok {
+        let other_end = o.length;
+        let property_end = p.length;
+        compose_by(
+            stdout,
+            known,
+            graph,
+            &other[..other_end],
+            &property[..property_end],
+            at,
+        );
+    }
+}
+
+pub fn compose(stdout: &mut [u8; BUFFERED], at: usize) {
     let mut known = io::large_buffer();
-    let k = load(2, &mut known);
+    let k = load(stdout, 2, &mut known);
     let mut graph = io::large_buffer();
-    let g = load(3, &mut graph);
+    let g = load(stdout, 3, &mut graph);
     if k.ok & g.ok {
         let known_end = k.length;
         let graph_end = g.length;
-        compose_with(&known[..known_end], &graph[..graph_end], at);
+        compose_with(stdout, &known[..known_end], &graph[..graph_end], at);
     }
 }

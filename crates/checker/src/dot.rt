@@ -11,9 +11,10 @@ use files::record::Record;
 use printing::at_most;
 use printing::say;
 use printing::say_decimal;
+use printing::stdout::BUFFERED;
 
-fn say_field(b: u8) {
-    say_decimal(b as u64);
+fn say_field(stdout: &mut [u8; BUFFERED], b: u8) {
+    say_decimal(stdout, b as u64);
 }
 
 // Record i of the trail starts or ends at the node.
@@ -59,128 +60,128 @@ fn is_run(trail: &[u8], from: u8, label: u8, to: u8) -> bool {
     false
 }
 
-fn say_if(test: bool, words: &[u8]) {
+fn say_if(stdout: &mut [u8; BUFFERED], test: bool, words: &[u8]) {
     if test {
-        say(words);
+        say(stdout, words);
     }
 }
 
 // Node i, which is record i of the graph.
-fn say_node(graph: &[u8], trail: &[u8], i: usize)
+fn say_node(stdout: &mut [u8; BUFFERED], graph: &[u8], trail: &[u8], i: usize)
     requires { ⌜ 6 * i + 6 ≤ length (now graph) ⌝ }
 {
     let p = Record::LEN * i;
-    say(b"  ");
-    say_decimal(i as u64);
-    say(b" [label=\"");
-    say_decimal(i as u64);
-    say(b": method ");
-    say_field(graph[p + 1]);
-    say(b"\"");
-    say_if(graph[p + 2] == 1, b", peripheries=2");
-    say_if(graph[p + 3] == 1, b", style=bold");
-    say_if(is_met(trail, (i % 256) as u8), b", color=red");
-    say(b"];\n");
+    say(stdout, b"  ");
+    say_decimal(stdout, i as u64);
+    say(stdout, b" [label=\"");
+    say_decimal(stdout, i as u64);
+    say(stdout, b": method ");
+    say_field(stdout, graph[p + 1]);
+    say(stdout, b"\"");
+    say_if(stdout, graph[p + 2] == 1, b", peripheries=2");
+    say_if(stdout, graph[p + 3] == 1, b", style=bold");
+    say_if(stdout, is_met(trail, (i % 256) as u8), b", color=red");
+    say(stdout, b"];\n");
 }
 
-fn say_ends(from: u8, to: u8) {
-    say(b"  ");
-    say_field(from);
-    say(b" -> ");
-    say_field(to);
+fn say_ends(stdout: &mut [u8; BUFFERED], from: u8, to: u8) {
+    say(stdout, b"  ");
+    say_field(stdout, from);
+    say(stdout, b" -> ");
+    say_field(stdout, to);
 }
 
 // An edge, which is record i of the graph.
-fn say_edge(graph: &[u8], trail: &[u8], i: usize)
+fn say_edge(stdout: &mut [u8; BUFFERED], graph: &[u8], trail: &[u8], i: usize)
     requires { ⌜ 6 * i + 6 ≤ length (now graph) ⌝ }
 {
     let p = Record::LEN * i;
     let from = graph[p + 1];
     let label = graph[p + 2];
     let to = graph[p + 3];
-    say_ends(from, to);
-    say(b" [label=\"");
+    say_ends(stdout, from, to);
+    say(stdout, b" [label=\"");
     if label == 0 {
-        say(b"step");
+        say(stdout, b"step");
     } else {
-        say(b"call ");
-        say_field(label);
+        say(stdout, b"call ");
+        say_field(stdout, label);
     }
-    say(b"\"");
-    say_if(is_run(trail, from, label, to), b", color=red");
-    say(b"];\n");
+    say(stdout, b"\"");
+    say_if(stdout, is_run(trail, from, label, to), b", color=red");
+    say(stdout, b"];\n");
 }
 
 // A call that record i of the trail enters.
-fn say_entered(trail: &[u8], i: usize)
+fn say_entered(stdout: &mut [u8; BUFFERED], trail: &[u8], i: usize)
     requires { ⌜ 6 * i + 6 ≤ length (now trail) ⌝ }
 {
     let p = Record::LEN * i;
     if trail[p + 2] == 2 {
-        say_ends(trail[p], trail[p + 4]);
-        say(b" [label=\"enters ");
-        say_field(trail[p + 3]);
-        say(b"\", style=dashed, color=red];\n");
+        say_ends(stdout, trail[p], trail[p + 4]);
+        say(stdout, b" [label=\"enters ");
+        say_field(stdout, trail[p + 3]);
+        say(stdout, b"\", style=dashed, color=red];\n");
     }
 }
 
-fn say_nodes(graph: &[u8], trail: &[u8], nodes: usize) {
+fn say_nodes(stdout: &mut [u8; BUFFERED], graph: &[u8], trail: &[u8], nodes: usize) {
     let end = at_most(nodes, graph.len() / Record::LEN);
     let mut i = 0;
     while i < end {
-        say_node(graph, trail, i);
+        say_node(stdout, graph, trail, i);
         i += 1;
     }
 }
 
-fn say_edges(graph: &[u8], trail: &[u8], nodes: usize) {
+fn say_edges(stdout: &mut [u8; BUFFERED], graph: &[u8], trail: &[u8], nodes: usize) {
     let end = graph.len() / Record::LEN;
     let mut i = nodes;
     while i < end {
-        say_edge(graph, trail, i);
+        say_edge(stdout, graph, trail, i);
         i += 1;
     }
 }
 
-fn say_calls(trail: &[u8]) {
+fn say_calls(stdout: &mut [u8; BUFFERED], trail: &[u8]) {
     let end = trail.len() / Record::LEN;
     let mut i = 0;
     while i < end {
-        say_entered(trail, i);
+        say_entered(stdout, trail, i);
         i += 1;
     }
 }
 
-fn draw(graph: &[u8], trail: &[u8]) {
+fn draw(stdout: &mut [u8; BUFFERED], graph: &[u8], trail: &[u8]) {
     match check_graph(graph, 1, Limits::desk()) {
-        Checked::Refused(r) => say_refused(r),
+        Checked::Refused(r) => say_refused(stdout, r),
         Checked::Accepted { nodes, .. } => {
-            say(b"digraph flow {\n");
-            say_nodes(graph, trail, nodes);
-            say_edges(graph, trail, nodes);
-            say_calls(trail);
-            say(b"}\n");
+            say(stdout, b"digraph flow {\n");
+            say_nodes(stdout, graph, trail, nodes);
+            say_edges(stdout, graph, trail, nodes);
+            say_calls(stdout, trail);
+            say(stdout, b"}\n");
         }
     }
 }
 
-pub fn dot() {
+pub fn dot(stdout: &mut [u8; BUFFERED]) {
     let mut graph = io::large_buffer();
-    let g = load(2, &mut graph);
+    let g = load(stdout, 2, &mut graph);
     if g.ok {
         let end = g.length;
-        draw(&graph[..end], b"");
+        draw(stdout, &graph[..end], b"");
     }
 }
 
-pub fn dot_with_trail() {
+pub fn dot_with_trail(stdout: &mut [u8; BUFFERED]) {
     let mut graph = io::large_buffer();
-    let g = load(2, &mut graph);
+    let g = load(stdout, 2, &mut graph);
     let mut trail = io::large_buffer();
-    let t = load(3, &mut trail);
+    let t = load(stdout, 3, &mut trail);
     if g.ok & t.ok {
         let graph_end = g.length;
         let trail_end = t.length;
-        draw(&graph[..graph_end], &trail[..trail_end]);
+        draw(stdout, &graph[..graph_end], &trail[..trail_end]);
     }
 }

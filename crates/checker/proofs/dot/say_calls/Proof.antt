@@ -6,10 +6,10 @@ use Rattle.checker.proofs.dot.say_calls.Statement.{statement}
 use Rattle.checker.proofs.dot.say_calls.Tie as tie
 
 abbrev Inv-loop : tie.InvT-loop
-Inv-loop trail end i₀ i = end ≤ length trail / 6
+Inv-loop stdout₀ trail end i₀ stdout i = end ≤ length trail / 6
 
 abbrev μ-loop : tie.MeasureT-loop
-μ-loop trail end i₀ i = end - i
+μ-loop stdout₀ trail end i₀ stdout i = end - i
 
 loop-holds : tie.Need-loop-holds Inv-loop μ-loop
 loop-holds c = omega arith

@@ -6,10 +6,10 @@ use Rattle.checker.proofs.dot.say_edges.Statement.{statement}
 use Rattle.checker.proofs.dot.say_edges.Tie as tie
 
 abbrev Inv-loop : tie.InvT-loop
-Inv-loop graph trail nodes end i₀ i = end ≤ length graph / 6
+Inv-loop stdout₀ graph trail nodes end i₀ stdout i = end ≤ length graph / 6
 
 abbrev μ-loop : tie.MeasureT-loop
-μ-loop graph trail nodes end i₀ i = end - i
+μ-loop stdout₀ graph trail nodes end i₀ stdout i = end - i
 
 loop-holds : tie.Need-loop-holds Inv-loop μ-loop
 loop-holds c = omega arith

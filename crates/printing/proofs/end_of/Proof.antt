@@ -4,8 +4,8 @@ use native.Mathlib.Omega.{arith}
 use mathlib.Core.Path.{sym}
 use lib.Seq.{length-take-le}
 use borrow.Author.Needs.{needs}
-use Rattle.checker.proofs.results.end_of.Statement.{statement}
-use Rattle.checker.proofs.results.end_of.Tie as tie
+use Rattle.printing.proofs.end_of.Statement.{statement}
+use Rattle.printing.proofs.end_of.Tie as tie
 
 at-most-requires : tie.Need-at-most-requires
 at-most-requires c κs = search needs
