@@ -45,6 +45,10 @@ pub fn say_help(stdout: &mut [u8; BUFFERED]) {
     );
     say(
         stdout,
+        b"checker dot-sheet GRAPH SHEET                               the same with a fault sheet's false rows and their causes in red\n",
+    );
+    say(
+        stdout,
         b"checker help                                                this text\n",
     );
     say(stdout, b"\n");

@@ -9,11 +9,14 @@ use printing::stdout::flush;
 use printing::stdout::stdout;
 
 mod arguments;
+mod arrows;
 mod commands;
 mod dot;
 mod help;
+mod lit;
 mod load;
 mod pack;
+mod ranges;
 mod refusals;
 mod results;
 mod text;
@@ -104,9 +107,15 @@ fn run_on_listings(stdout: &mut [u8; BUFFERED], given: usize, at: usize) -> bool
     }
     if is_word(1, b"dot") {
         if given == 2 {
-            dot::dot_with_trail(stdout);
+            dot::dot_with(stdout, false);
         } else if takes(stdout, given, 1) {
             dot::dot(stdout);
+        }
+        return true;
+    }
+    if is_word(1, b"dot-sheet") {
+        if takes(stdout, given, 2) {
+            dot::dot_with(stdout, true);
         }
         return true;
     }

@@ -2,20 +2,20 @@ use native.Mathlib.Omega.{arith}
 use Prim.Native.Nat.{_≤_, _-_, _/_}
 use lib.ListN.{length}
 use borrow.Author.Needs.{needs}
-use Rattle.checker.proofs.dot.say_edges.Statement.{statement}
-use Rattle.checker.proofs.dot.say_edges.Tie as tie
+use Rattle.checker.proofs.arrows.labels_between.Statement.{statement}
+use Rattle.checker.proofs.arrows.labels_between.Tie as tie
 
 abbrev Inv-loop : tie.InvT-loop
-Inv-loop stdout₀ graph trail nodes end i₀ stdout i = end ≤ length graph / 6
+Inv-loop edges from to labels₀ end i₀ labels i = end ≤ length edges / 6
 
 abbrev μ-loop : tie.MeasureT-loop
-μ-loop stdout₀ graph trail nodes end i₀ stdout i = end - i
+μ-loop edges from to labels₀ end i₀ labels i = end - i
 
 loop-holds : tie.Need-loop-holds Inv-loop μ-loop
 loop-holds c = omega arith
 
-say-edge-requires : tie.Need-say-edge-requires Inv-loop μ-loop
-say-edge-requires c κs = omega arith
+add-label-requires : tie.Need-add-label-requires Inv-loop μ-loop
+add-label-requires c κs = omega arith
 
 add-i : tie.Need-add-i Inv-loop μ-loop
 add-i c = omega arith
@@ -29,7 +29,7 @@ loop-again c = omega arith
 returns : tie.Need-returns Inv-loop μ-loop
 returns c = search needs
 
-pub say-edges-spec : {M : Type 1} → statement M
-say-edges-spec =
+pub labels-between-spec : {M : Type 1} → statement M
+labels-between-spec =
     tie.close
-    (tie.spec Inv-loop μ-loop loop-holds say-edge-requires add-i loop-less loop-again returns)
+    (tie.spec Inv-loop μ-loop loop-holds add-label-requires add-i loop-less loop-again returns)

@@ -1,27 +1,26 @@
 use native.Mathlib.Omega.{arith}
-use Prim.Native.Nat.{_≤_, _-_, _/_}
-use lib.ListN.{length}
+use Prim.Native.Nat.{_≤_, _-_}
 use borrow.Author.Needs.{needs}
-use Rattle.checker.proofs.dot.is_run.Statement.{statement}
-use Rattle.checker.proofs.dot.is_run.Tie as tie
+use Rattle.checker.proofs.arrows.joined_before.Statement.{statement}
+use Rattle.checker.proofs.arrows.joined_before.Tie as tie
 
 abbrev Inv-loop : tie.InvT-loop
-Inv-loop trail from label to end i₀ i = end ≤ length trail / 6
+Inv-loop edges i from to j₀ j = j ≤ i
 
 abbrev μ-loop : tie.MeasureT-loop
-μ-loop trail from label to end i₀ i = end - i
+μ-loop edges i from to j₀ j = i - j
 
 loop-holds : tie.Need-loop-holds Inv-loop μ-loop
 loop-holds c = omega arith
 
-runs-edge-requires : tie.Need-runs-edge-requires Inv-loop μ-loop
-runs-edge-requires c κs = omega arith
+joins-requires : tie.Need-joins-requires Inv-loop μ-loop
+joins-requires c κs = omega arith
 
 returns : tie.Need-returns Inv-loop μ-loop
 returns c = search needs
 
-add-i : tie.Need-add-i Inv-loop μ-loop
-add-i c = omega arith
+add-j : tie.Need-add-j Inv-loop μ-loop
+add-j c = omega arith
 
 loop-less : tie.Need-loop-less Inv-loop μ-loop
 loop-less c = omega arith
@@ -32,16 +31,16 @@ loop-again c = omega arith
 returns-2 : tie.Need-returns-2 Inv-loop μ-loop
 returns-2 c = search needs
 
-pub is-run-spec : {M : Type 1} → statement M
-is-run-spec =
+pub joined-before-spec : {M : Type 1} → statement M
+joined-before-spec =
     tie.close
     (tie.spec
     Inv-loop
     μ-loop
     loop-holds
-    runs-edge-requires
+    joins-requires
     returns
-    add-i
+    add-j
     loop-less
     loop-again
     returns-2)
