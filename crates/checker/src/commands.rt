@@ -60,7 +60,7 @@ pub fn judge(stdout: &mut [u8; BUFFERED], at: usize) {
             &mut out,
             &mut work,
         );
-        say_judged(stdout, answer, &out, at);
+        say_judged(stdout, answer, &out, &property[..property_end], at);
     }
 }
 
@@ -191,15 +191,23 @@ pub fn watch(stdout: &mut [u8; BUFFERED], at: usize) {
         let interface_end = i.length;
         let graph_end = g.length;
         let rules_end = r.length;
+        let method = method_of(start.value);
         let answer = runs::watch(
             &interface[..interface_end],
             &graph[..graph_end],
             &rules[..rules_end],
-            method_of(start.value),
+            method,
             &mut out,
             &mut work,
         );
-        say_watched(stdout, answer, b"clean from the start method\n", &out, at);
+        say_watched(
+            stdout,
+            answer,
+            b"clean from the start method\n",
+            &out,
+            method,
+            at,
+        );
     }
 }
 
@@ -220,13 +228,14 @@ fn compose_by(
         let mut store = watch_buffer();
         let mut work = model_buffer();
         let rules_end = r.length;
+        let method = method_of(start.value);
         let answer = runs::compose(
             known,
             graph,
             other,
             property,
             &rules[..rules_end],
-            method_of(start.value),
+            method,
             &mut out,
             &mut store,
             &mut work,
@@ -236,6 +245,7 @@ fn compose_by(
             answer,
             b"clean with every module that conforms\n",
             &out,
+            method,
             at,
         );
     }

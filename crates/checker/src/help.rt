@@ -58,6 +58,6 @@ pub fn say_help(stdout: &mut [u8; BUFFERED]) {
     );
     say(
         stdout,
-        b"graph, record or trail follow as decimals, a record a line; with -o FILE as the last two arguments their bytes go to FILE instead.\n",
+        b"graph, record or trail follow as decimals, a record a line, in a sheet, relation or trail with a note behind a #; with -o FILE as the last two\narguments their bytes go to FILE instead.\n",
     );
 }

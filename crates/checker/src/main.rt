@@ -15,6 +15,7 @@ mod dot;
 mod help;
 mod lit;
 mod load;
+mod notes;
 mod pack;
 mod ranges;
 mod refusals;

@@ -64,14 +64,29 @@ fn say_member(
     true
 }
 
-// The set from `base` on, with `first` before its first range and `comma` before every other. Answers whether it has any number.
-pub fn say_ranges(
-    stdout: &mut [u8; BUFFERED],
-    sets: &[u8],
-    base: usize,
-    first: &[u8],
-    comma: &[u8],
-) -> bool
+// One more than n, which counts numbers below h, where the set from `base` on has h.
+fn counted(sets: &[u8], base: usize, h: usize, n: usize) -> usize
+    requires { ⌜ (base + 32 ≤ length (now sets)) × (h < 256) × (n ≤ h) ⌝ }
+    ensures { λ r. ⌜ r ≤ h + 1 ⌝ }
+{
+    if has_bit(sets, base, h) { n + 1 } else { n }
+}
+
+// How many numbers the set from `base` on has.
+pub fn members(sets: &[u8], base: usize) -> usize
+    requires { ⌜ base + 32 ≤ length (now sets) ⌝ }
+{
+    let mut n = 0;
+    let mut h = 0;
+    while h < 256 {
+        n = counted(sets, base, h, n);
+        h += 1;
+    }
+    n
+}
+
+// The set from `base` on, with `first` before its first range and `comma` before every other.
+pub fn say_ranges(stdout: &mut [u8; BUFFERED], sets: &[u8], base: usize, first: &[u8], comma: &[u8])
     requires { ⌜ base + 32 ≤ length (now sets) ⌝ }
 {
     let mut any = false;
@@ -80,5 +95,4 @@ pub fn say_ranges(
         any = say_member(stdout, sets, base, h, first, comma, any);
         h += 1;
     }
-    any
 }

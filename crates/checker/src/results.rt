@@ -1,5 +1,9 @@
-// Verdicts in one line of plain words, the first of them fit for scripts; then what the call wrote, as decimals, or to the file that argument `at` names where `at` is not 0.
+// Verdicts in one line of plain words, the first of them fit for scripts; then what the call wrote, as decimals with notes, or to the file that argument `at` names where `at` is not 0.
+ghost use Rattle.io.specs.Counts.{Counts};
 use crate::load::save;
+use crate::notes::say_relation;
+use crate::notes::say_sheet;
+use crate::notes::say_trail;
 use crate::refusals::say_refused;
 use files::encode::LINE;
 use files::record::Record;
@@ -10,7 +14,6 @@ use printing::at_most;
 use printing::end_of;
 use printing::say;
 use printing::say_bytes;
-use printing::say_lines;
 use printing::say_number;
 use printing::say_records;
 use printing::stdout::BUFFERED;
@@ -20,24 +23,45 @@ use runs::answers::Verdict;
 // No result has more records than this: a fault sheet has at most 8,192.
 const MOST: usize = 10000;
 
-fn give_records(stdout: &mut [u8; BUFFERED], out: &[u8], records: usize, at: usize) {
-    if at == 0 {
-        say_records(stdout, out, records);
-    } else {
-        let end = end_of(out, Record::LEN * at_most(records, MOST));
-        save(stdout, at, &out[..end]);
-    }
+// Where so many records end.
+fn records_end(out: &[u8], records: usize) -> usize
+    ensures { λ r. ⌜ Counts r (now (out .entry)) ⌝ }
+{
+    end_of(out, Record::LEN * at_most(records, MOST))
 }
 
 fn give_graph(stdout: &mut [u8; BUFFERED], out: &[u8], nodes: usize, edges: usize, at: usize) {
     let records = at_most(nodes, MOST) + at_most(edges, MOST);
-    give_records(stdout, out, records, at);
+    if at == 0 {
+        say_records(stdout, out, records);
+    } else {
+        let end = records_end(out, records);
+        save(stdout, at, &out[..end]);
+    }
 }
 
 fn give_relation(stdout: &mut [u8; BUFFERED], out: &[u8], nodes: usize, at: usize) {
     let end = end_of(out, LINE * at_most(nodes, MOST));
     if at == 0 {
-        say_lines(stdout, &out[..end]);
+        say_relation(stdout, &out[..end]);
+    } else {
+        save(stdout, at, &out[..end]);
+    }
+}
+
+fn give_sheet(stdout: &mut [u8; BUFFERED], out: &[u8], records: usize, property: &[u8], at: usize) {
+    let end = records_end(out, records);
+    if at == 0 {
+        say_sheet(stdout, &out[..end], property);
+    } else {
+        save(stdout, at, &out[..end]);
+    }
+}
+
+fn give_trail(stdout: &mut [u8; BUFFERED], out: &[u8], records: usize, start: u8, at: usize) {
+    let end = records_end(out, records);
+    if at == 0 {
+        say_trail(stdout, &out[..end], start);
     } else {
         save(stdout, at, &out[..end]);
     }
@@ -51,17 +75,24 @@ fn say_counts(stdout: &mut [u8; BUFFERED], nodes: usize, edges: usize) {
     say(stdout, b" edges");
 }
 
-pub fn say_judged(stdout: &mut [u8; BUFFERED], answer: Judged, out: &[u8], at: usize) {
+// The property's rows are what the sheet's notes speak of.
+pub fn say_judged(
+    stdout: &mut [u8; BUFFERED],
+    answer: Judged,
+    out: &[u8],
+    property: &[u8],
+    at: usize,
+) {
     match answer {
         Judged::Holds => {
             say(stdout, b"holds at every entry\n");
-            give_records(stdout, out, 0, at);
+            give_sheet(stdout, out, 0, property, at);
         }
         Judged::Fails(records) => {
             say(stdout, b"fails with a fault sheet of");
             say_number(stdout, records as u64);
             say(stdout, b" records\n");
-            give_records(stdout, out, records, at);
+            give_sheet(stdout, out, records, property, at);
         }
         Judged::Refused(r) => say_refused(stdout, r),
     }
@@ -134,18 +165,19 @@ pub fn say_watched(
     answer: Verdict,
     clean: &[u8],
     out: &[u8],
+    start: u8,
     at: usize,
 ) {
     match answer {
         Verdict::Clean => {
             say(stdout, clean);
-            give_records(stdout, out, 0, at);
+            give_trail(stdout, out, 0, start, at);
         }
         Verdict::Bad(records) => {
             say(stdout, b"bad by a trail of");
             say_number(stdout, records as u64);
             say(stdout, b" records\n");
-            give_records(stdout, out, records, at);
+            give_trail(stdout, out, records, start, at);
         }
         Verdict::Refused(r) => say_refused(stdout, r),
     }

@@ -60,16 +60,14 @@ fn say_operands(stdout: &mut [u8; BUFFERED], op: u8, a: u8, b: u8) {
     say_field(stdout, b);
 }
 
-// Words about one method or one row.
-fn say_about(stdout: &mut [u8; BUFFERED], words: &[u8], number: u8) {
+// Words about one number.
+pub fn say_about(stdout: &mut [u8; BUFFERED], words: &[u8], number: u8) {
     say(stdout, words);
     say_field(stdout, number);
 }
 
-fn say_row(stdout: &mut [u8; BUFFERED], i: usize, op: u8, a: u8, b: u8) {
-    say(stdout, b"row");
-    say_number(stdout, i as u64);
-    say(stdout, b": ");
+// What a row asks for.
+pub fn say_formula(stdout: &mut [u8; BUFFERED], op: u8, a: u8, b: u8) {
     match op {
         1 => say(stdout, b"true"),
         2 => say(stdout, b"false"),
@@ -83,6 +81,13 @@ fn say_row(stdout: &mut [u8; BUFFERED], i: usize, op: u8, a: u8, b: u8) {
         10 => say_about(stdout, b"after every edge, row", a),
         _ => say(stdout, b"no operator of this number"),
     }
+}
+
+fn say_row(stdout: &mut [u8; BUFFERED], i: usize, op: u8, a: u8, b: u8) {
+    say(stdout, b"row");
+    say_number(stdout, i as u64);
+    say(stdout, b": ");
+    say_formula(stdout, op, a, b);
 }
 
 fn say_rule(stdout: &mut [u8; BUFFERED], state: u8, event: u8, m1: u8, m2: u8, next: u8) {
@@ -144,7 +149,7 @@ fn say_meaning(stdout: &mut [u8; BUFFERED], i: usize, r: &[u8])
 }
 
 // Bytes as decimals, with a space after each.
-fn say_decimals(stdout: &mut [u8; BUFFERED], bytes: &[u8]) {
+pub fn say_decimals(stdout: &mut [u8; BUFFERED], bytes: &[u8]) {
     let mut k = 0;
     while k < bytes.len() {
         say_byte(stdout, bytes[k]);
@@ -157,12 +162,20 @@ fn say_byte(stdout: &mut [u8; BUFFERED], b: u8) {
     say(stdout, b" ");
 }
 
-fn say_line(stdout: &mut [u8; BUFFERED], file: &[u8], i: usize)
+// Record i up to its note.
+pub fn say_record(stdout: &mut [u8; BUFFERED], file: &[u8], i: usize)
     requires { ⌜ 6 * i + 6 ≤ length (now file) ⌝ }
 {
     let p = Record::LEN * i;
     say_decimals(stdout, &file[p..p + Record::LEN]);
     say(stdout, b" # ");
+}
+
+fn say_line(stdout: &mut [u8; BUFFERED], file: &[u8], i: usize)
+    requires { ⌜ 6 * i + 6 ≤ length (now file) ⌝ }
+{
+    let p = Record::LEN * i;
+    say_record(stdout, file, i);
     say_meaning(stdout, i, &file[p..p + Record::LEN]);
     say(stdout, b"\n");
 }
