@@ -3,6 +3,7 @@ ghost use mathlib.Core.Path.{_≡_};
 ghost use lib.ListN.{length};
 use crate::arguments::number;
 use crate::load::load;
+use crate::load::load_two;
 use crate::refusals::say_refused;
 use crate::results::say_compared;
 use crate::results::say_joined;
@@ -46,14 +47,13 @@ fn watch_buffer() -> [u8; Regions::ROOM]
 
 pub fn judge(stdout: &mut [u8; BUFFERED], at: usize) {
     let mut graph = io::large_buffer();
-    let g = load(stdout, 2, &mut graph);
     let mut property = io::large_buffer();
-    let p = load(stdout, 3, &mut property);
-    if g.ok & p.ok {
+    let files = load_two(stdout, 2, &mut graph, &mut property);
+    if files.ok {
         let mut out = io::large_buffer();
         let mut work = judge_buffer();
-        let graph_end = g.length;
-        let property_end = p.length;
+        let graph_end = files.first;
+        let property_end = files.second;
         let answer = judging::judge(
             &graph[..graph_end],
             &property[..property_end],
@@ -74,14 +74,13 @@ fn nodes_in(graph: &[u8]) -> usize {
 
 pub fn compare(stdout: &mut [u8; BUFFERED], at: usize) {
     let mut first = io::large_buffer();
-    let f = load(stdout, 2, &mut first);
     let mut second = io::large_buffer();
-    let s = load(stdout, 3, &mut second);
-    if f.ok & s.ok {
+    let files = load_two(stdout, 2, &mut first, &mut second);
+    if files.ok {
         let mut out = io::large_buffer();
         let mut work = compare_buffer();
-        let first_end = f.length;
-        let second_end = s.length;
+        let first_end = files.first;
+        let second_end = files.second;
         let answer = judging::compare(
             &first[..first_end],
             &second[..second_end],
@@ -95,14 +94,13 @@ pub fn compare(stdout: &mut [u8; BUFFERED], at: usize) {
 
 pub fn model(stdout: &mut [u8; BUFFERED], at: usize) {
     let mut interface = io::large_buffer();
-    let i = load(stdout, 2, &mut interface);
     let mut property = io::large_buffer();
-    let p = load(stdout, 3, &mut property);
-    if i.ok & p.ok {
+    let files = load_two(stdout, 2, &mut interface, &mut property);
+    if files.ok {
         let mut out = io::large_buffer();
         let mut work = model_buffer();
-        let interface_end = i.length;
-        let property_end = p.length;
+        let interface_end = files.first;
+        let property_end = files.second;
         let answer = maximal::model(
             &interface[..interface_end],
             &property[..property_end],
@@ -113,16 +111,15 @@ pub fn model(stdout: &mut [u8; BUFFERED], at: usize) {
     }
 }
 
-// The join with the second side's files, of the first side's, which are loaded. The files of a call are loaded two at a time, so that no proof carries more buffers than that.
+// The join with the second side's files, of the first side's, which are loaded. A function with four buffers of its own takes several times as long to prove.
 fn join_with(stdout: &mut [u8; BUFFERED], interface1: &[u8], graph1: &[u8], at: usize) {
     let mut interface2 = io::large_buffer();
-    let i = load(stdout, 4, &mut interface2);
     let mut graph2 = io::large_buffer();
-    let g = load(stdout, 5, &mut graph2);
-    if i.ok & g.ok {
+    let files = load_two(stdout, 4, &mut interface2, &mut graph2);
+    if files.ok {
         let mut out = io::large_buffer();
-        let interface2_end = i.length;
-        let graph2_end = g.length;
+        let interface2_end = files.first;
+        let graph2_end = files.second;
         let answer = runs::join(
             interface1,
             graph1,
@@ -136,12 +133,11 @@ fn join_with(stdout: &mut [u8; BUFFERED], interface1: &[u8], graph1: &[u8], at: 
 
 pub fn join(stdout: &mut [u8; BUFFERED], at: usize) {
     let mut interface1 = io::large_buffer();
-    let i = load(stdout, 2, &mut interface1);
     let mut graph1 = io::large_buffer();
-    let g = load(stdout, 3, &mut graph1);
-    if i.ok & g.ok {
-        let interface1_end = i.length;
-        let graph1_end = g.length;
+    let files = load_two(stdout, 2, &mut interface1, &mut graph1);
+    if files.ok {
+        let interface1_end = files.first;
+        let graph1_end = files.second;
         join_with(
             stdout,
             &interface1[..interface1_end],
@@ -153,13 +149,12 @@ pub fn join(stdout: &mut [u8; BUFFERED], at: usize) {
 
 pub fn show(stdout: &mut [u8; BUFFERED], at: usize) {
     let mut graph1 = io::large_buffer();
-    let g = load(stdout, 2, &mut graph1);
     let mut graph2 = io::large_buffer();
-    let h = load(stdout, 3, &mut graph2);
+    let files = load_two(stdout, 2, &mut graph1, &mut graph2);
     let node = number(stdout, 4);
-    if g.ok & h.ok & node.ok {
-        let graph1_end = g.length;
-        let graph2_end = h.length;
+    if files.ok & node.ok {
+        let graph1_end = files.first;
+        let graph2_end = files.second;
         let value = node.value;
         match runs::show_refusal(&graph1[..graph1_end], &graph2[..graph2_end], value) {
             Shown::Part => say_shown(
@@ -179,17 +174,16 @@ fn method_of(value: usize) -> u8 {
 
 pub fn watch(stdout: &mut [u8; BUFFERED], at: usize) {
     let mut interface = io::large_buffer();
-    let i = load(stdout, 2, &mut interface);
     let mut graph = io::large_buffer();
-    let g = load(stdout, 3, &mut graph);
+    let files = load_two(stdout, 2, &mut interface, &mut graph);
     let mut rules = io::large_buffer();
     let r = load(stdout, 4, &mut rules);
     let start = number(stdout, 5);
-    if i.ok & g.ok & r.ok & start.ok {
+    if files.ok & r.ok & start.ok {
         let mut out = io::large_buffer();
         let mut work = watch_buffer();
-        let interface_end = i.length;
-        let graph_end = g.length;
+        let interface_end = files.first;
+        let graph_end = files.second;
         let rules_end = r.length;
         let method = method_of(start.value);
         let answer = runs::watch(
@@ -254,12 +248,11 @@ fn compose_by(
 // The composed verdict with the other side's files, of the known side's, which are loaded.
 fn compose_with(stdout: &mut [u8; BUFFERED], known: &[u8], graph: &[u8], at: usize) {
     let mut other = io::large_buffer();
-    let o = load(stdout, 4, &mut other);
     let mut property = io::large_buffer();
-    let p = load(stdout, 5, &mut property);
-    if o.ok & p.ok {
-        let other_end = o.length;
-        let property_end = p.length;
+    let files = load_two(stdout, 4, &mut other, &mut property);
+    if files.ok {
+        let other_end = files.first;
+        let property_end = files.second;
         compose_by(
             stdout,
             known,
@@ -273,12 +266,11 @@ fn compose_with(stdout: &mut [u8; BUFFERED], known: &[u8], graph: &[u8], at: usi
 
 pub fn compose(stdout: &mut [u8; BUFFERED], at: usize) {
     let mut known = io::large_buffer();
-    let k = load(stdout, 2, &mut known);
     let mut graph = io::large_buffer();
-    let g = load(stdout, 3, &mut graph);
-    if k.ok & g.ok {
-        let known_end = k.length;
-        let graph_end = g.length;
+    let files = load_two(stdout, 2, &mut known, &mut graph);
+    if files.ok {
+        let known_end = files.first;
+        let graph_end = files.second;
         compose_with(stdout, &known[..known_end], &graph[..graph_end], at);
     }
 }

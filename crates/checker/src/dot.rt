@@ -9,6 +9,7 @@ use crate::lit::say_red;
 use crate::lit::say_rows;
 use crate::lit::say_start;
 use crate::load::load;
+use crate::load::load_two;
 use crate::refusals::say_refused;
 use files::check::Checked;
 use files::check::check_graph;
@@ -145,12 +146,11 @@ pub fn dot(stdout: &mut [u8; BUFFERED]) {
 // The graph with a trail or, where `sheet` says so, a fault sheet. No byte of a file tells the two apart.
 pub fn dot_with(stdout: &mut [u8; BUFFERED], sheet: bool) {
     let mut graph = io::large_buffer();
-    let g = load(stdout, 2, &mut graph);
     let mut lit = io::large_buffer();
-    let l = load(stdout, 3, &mut lit);
-    if g.ok & l.ok {
-        let graph_end = g.length;
-        let lit_end = l.length;
+    let files = load_two(stdout, 2, &mut graph, &mut lit);
+    if files.ok {
+        let graph_end = files.first;
+        let lit_end = files.second;
         if sheet {
             draw(stdout, &graph[..graph_end], b"", &lit[..lit_end]);
         } else {

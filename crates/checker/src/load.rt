@@ -1,4 +1,5 @@
 // Files by name: read whole or not at all, and written.
+ghost use Prim.Native.Nat.{_<_};
 ghost use Rattle.io.specs.Counts.{Counts};
 use crate::arguments::say_argument;
 use printing::say;
@@ -8,6 +9,13 @@ use printing::stdout::BUFFERED;
 pub struct Loaded {
     pub ok: bool,
     pub length: usize,
+}
+
+// The same of two files.
+pub struct LoadedTwo {
+    pub ok: bool,
+    pub first: usize,
+    pub second: usize,
 }
 
 fn complain(stdout: &mut [u8; BUFFERED], words: &[u8], i: usize) {
@@ -38,6 +46,25 @@ pub fn load(stdout: &mut [u8; BUFFERED], i: usize, buf: &mut [u8]) -> Loaded
     Loaded {
         ok: more == 0,
         length: length,
+    }
+}
+
+// Reads the files that argument i and the next one name.
+pub fn load_two(
+    stdout: &mut [u8; BUFFERED],
+    i: usize,
+    first: &mut [u8],
+    second: &mut [u8],
+) -> LoadedTwo
+    requires { ⌜ i < 100 ⌝ }
+    ensures { λ r. ⌜ (Counts (r .first) (now (first .exit))) × (Counts (r .second) (now (second .exit))) ⌝ }
+{
+    let f = load(stdout, i, first);
+    let s = load(stdout, i + 1, second);
+    LoadedTwo {
+        ok: f.ok & s.ok,
+        first: f.length,
+        second: s.length,
     }
 }
 
