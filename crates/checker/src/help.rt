@@ -2,7 +2,8 @@
 use printing::say;
 use printing::stdout::BUFFERED;
 
-pub fn say_help(stdout: &mut [u8; BUFFERED]) {
+// The seven calls.
+fn say_calls(stdout: &mut [u8; BUFFERED]) {
     say(
         stdout,
         b"checker judge GRAPH PROPERTY                                does the graph satisfy the property?\n",
@@ -31,6 +32,10 @@ pub fn say_help(stdout: &mut [u8; BUFFERED]) {
         stdout,
         b"checker compose INTERFACE GRAPH OTHER PROPERTY RULES START  the same with every module of the other interface that satisfies the property\n",
     );
+}
+
+// Listings and pictures.
+fn say_views(stdout: &mut [u8; BUFFERED]) {
     say(
         stdout,
         b"checker text FILE                                           a file as a readable listing\n",
@@ -51,6 +56,11 @@ pub fn say_help(stdout: &mut [u8; BUFFERED]) {
         stdout,
         b"checker help                                                this text\n",
     );
+}
+
+pub fn say_help(stdout: &mut [u8; BUFFERED]) {
+    say_calls(stdout);
+    say_views(stdout);
     say(stdout, b"\n");
     say(
         stdout,
