@@ -16,18 +16,18 @@ use Rattle.runs.proofs.summaries.run_group.Statement.{statement}
 use Rattle.runs.proofs.summaries.run_group.Tie as tie
 
 abbrev Inv-loop : tie.InvT-loop
-Inv-loop graph rules s work₀ tail first g m set y row j₀ end₀ work j end =
+Inv-loop graph rules s table work₀ tail first g m set y row j₀ end₀ work j end =
     (first ≤ j) × (length work ≡ length work₀) × (Grew (decode-graph graph) (watch (decode-rules rules)) tail end work₀ work)
-    × ((i : ℕ) → i < j → first ≤ i → i < s .edges → (p : ℕ) → p < 8 → RanIn (decode-graph graph) (watch (decode-rules rules)) set y work₀ work (getD ((decode-graph graph) .edges) i no-edge) p)
+    × ((i : ℕ) → i < j → first ≤ i → i < s .edges → (p : ℕ) → p < 8 → RanIn (decode-graph graph) (watch (decode-rules rules)) set y table work₀ work (getD ((decode-graph graph) .edges) i no-edge) p)
 
 abbrev μ-loop : tie.MeasureT-loop
-μ-loop graph rules s work₀ tail first g m set y row j₀ end₀ work j end = s .edges - j
+μ-loop graph rules s table work₀ tail first g m set y row j₀ end₀ work j end = s .edges - j
 
 loop-holds : tie.Need-loop-holds Inv-loop μ-loop
 loop-holds c =
     let k = c .before .before .before in
     let a = k .args in
-    (omega arith, refl, grew-none (decode-graph (a .graph .now)) (watch (decode-rules (a .rules .now))) (a .tail) (a .work .now) (k .pre .1 .1 .1 .0), λ i h f. absurd (omega (arith, h, f)))
+    (omega arith, refl, grew-none (decode-graph (a .graph .now)) (watch (decode-rules (a .rules .now))) (a .tail) (a .work .now) (k .pre .1 .1 .1 .1 .0), λ i h f. absurd (omega (arith, h, f)))
 
 edge-at-requires : tie.Need-edge-at-requires Inv-loop μ-loop
 edge-at-requires c κs = let k = c .before .before .before .before .before .before in (k .pre .0 .held .views .graph-file, k .pre .0 .held .views .nodes-are, omega (arith, c .if1 .taken, k .pre .0 .held .views .edges-are, k .pre .0 .held .views .nodes-are))
@@ -63,7 +63,7 @@ add-row-requires c κs =
     let l = c .before .before .before .before .before .before .before .before .before .before .loop in
     let u = held-edge (c .before .before .before .before .before .before .before .edge-at .result) _ (getD ((decode-graph (a .graph .now)) .edges) (l .j) no-edge) (c .before .before .before .before .before .e .given .1) (c .before .before .before .before .before .before .before .edge-at .ensures) in
     let d = group-in (a .s) (a .graph .now) (a .rules .now) (k .pre .0) (l .j) (c .before .before .before .before .before .before .before .before .if1 .taken) _ u (a .g) (a .m) (c .before .if2 .left) in
-    let n = may-get (a .s) (a .graph .now) (a .rules .now) (k .pre .0) (a .tail) (a .work .now) (k .pre .1 .1 .1 .0) (a .g) (a .m) (a .set) (a .y) (k .pre .1 .0) (k .pre .1 .1 .0) (a .row .now) (k .pre .1 .1 .1 .1 .0) (k .pre .1 .1 .1 .1 .1) (l .j) (c .before .before .before .before .before .before .before .before .if1 .taken) (d .0) (d .1) (omega arith) (omega arith) _ (to-is (a .s) (a .graph .now) (a .rules .now) (k .pre .0) (l .j) (c .before .before .before .before .before .before .before .before .if1 .taken) _ u) in
+    let n = may-get (a .s) (a .graph .now) (a .rules .now) (k .pre .0) (a .tail) (a .work .now) (k .pre .1 .1 .1 .1 .0) (a .table .now) (k .pre .1 .1 .1 .0) (a .g) (a .m) (a .set) (a .y) (k .pre .1 .0) (k .pre .1 .1 .0) (a .row .now) (k .pre .1 .1 .1 .1 .1 .0) (k .pre .1 .1 .1 .1 .1 .1) (l .j) (c .before .before .before .before .before .before .before .before .if1 .taken) (d .0) (d .1) (omega arith) (omega arith) _ (to-is (a .s) (a .graph .now) (a .rules .now) (k .pre .0) (l .j) (c .before .before .before .before .before .before .before .before .if1 .taken) _ u) in
     (k .pre .0, (n .0, (l .inv .2 .holding, n .1)))
 
 add-j : tie.Need-add-j Inv-loop μ-loop
@@ -85,9 +85,9 @@ loop-again c =
       omega (arith, l .inv .0),
       x .kept .1 .1 .1 .0 ∙ l .inv .1,
       grew,
-      below-more (λ (i : ℕ). a .first ≤ i → i < a .s .edges → (p : ℕ) → p < 8 → RanIn (decode-graph (a .graph .now)) (watch (decode-rules (a .rules .now))) (a .set) (a .y) (a .work .now) (x .last .1 .1 .1 .0) (getD ((decode-graph (a .graph .now)) .edges) i no-edge) p) (l .j)
-          (λ i h f e p hp. ran-in-kept (a .s) (a .graph .now) (a .rules .now) (k .pre .0) (l .end) (x .result) (l .work) (x .last .1 .1 .1 .0) (x .ensures .0) i e (a .set) (a .y) p (a .work .now) hp (l .inv .3 i h f e p hp))
-          (λ f e. row-runs (a .s) (a .graph .now) (a .rules .now) (k .pre .0) (a .tail) (a .work .now) (k .pre .1 .1 .1 .0) (a .g) (a .m) (a .set) (a .y) (k .pre .1 .0) (k .pre .1 .1 .0) (a .row .now) (k .pre .1 .1 .1 .1 .0) (k .pre .1 .1 .1 .1 .1) (l .j) hj (d .0) (d .1) _ (to-is (a .s) (a .graph .now) (a .rules .now) (k .pre .0) (l .j) hj _ u) (x .result) (x .last .1 .1 .1 .0) grew (x .ensures .1)),
+      below-more (λ (i : ℕ). a .first ≤ i → i < a .s .edges → (p : ℕ) → p < 8 → RanIn (decode-graph (a .graph .now)) (watch (decode-rules (a .rules .now))) (a .set) (a .y) (a .table .now) (a .work .now) (x .last .1 .1 .1 .0) (getD ((decode-graph (a .graph .now)) .edges) i no-edge) p) (l .j)
+          (λ i h f e p hp. ran-in-kept (a .s) (a .graph .now) (a .rules .now) (k .pre .0) (l .end) (x .result) (l .work) (x .last .1 .1 .1 .0) (x .ensures .0) (a .table .now) i e (a .set) (a .y) p (a .work .now) hp (l .inv .3 i h f e p hp))
+          (λ f e. row-runs (a .s) (a .graph .now) (a .rules .now) (k .pre .0) (a .tail) (a .work .now) (k .pre .1 .1 .1 .1 .0) (a .table .now) (k .pre .1 .1 .1 .0) (a .g) (a .m) (a .set) (a .y) (k .pre .1 .0) (k .pre .1 .1 .0) (a .row .now) (k .pre .1 .1 .1 .1 .1 .0) (k .pre .1 .1 .1 .1 .1 .1) (l .j) hj (d .0) (d .1) _ (to-is (a .s) (a .graph .now) (a .rules .now) (k .pre .0) (l .j) hj _ u) (x .result) (x .last .1 .1 .1 .0) grew (x .ensures .1)),
     )
 
 same-length-3 : tie.Need-same-length-3 Inv-loop μ-loop

@@ -46,7 +46,7 @@ returns-3 c =
     let a = k .args in
     let u = held-edge (c .before .before .before .before .before .before .before .before .edge-at .result) _ (getD ((decode-graph (a .graph .now)) .edges) (a .first) no-edge) (c .before .before .before .before .before .before .e .given .1) (c .before .before .before .before .before .before .before .before .edge-at .ensures) in
     let v = held-node (c .before .before .before .before .node-at .result) _ (node (decode-graph (a .graph .now)) (c .before .before .before .before .before .before .e .given .0 .0 .from)) (c .before .before .v .given .1) (c .before .before .before .before .node-at .ensures) in
-    (grew-none (decode-graph (a .graph .now)) (watch (decode-rules (a .rules .now))) (a .tail) (a .work .now) (k .pre .1 .1 .1 .0), group-returns (a .s) (a .graph .now) (a .rules .now) (k .pre .0) (a .first) (k .pre .1 .0) _ u _ v (a .callers .now) (a .ends .now) (a .work .now) (a .work .now) (c .if1 .taken))
+    (grew-none (decode-graph (a .graph .now)) (watch (decode-rules (a .rules .now))) (a .tail) (a .work .now) (k .pre .1 .1 .1 .1 .0), group-returns (a .s) (a .graph .now) (a .rules .now) (k .pre .0) (a .first) (k .pre .1 .0) _ u _ v (a .callers .now) (a .ends .now) (a .table .now) (a .work .now) (a .work .now) (c .if1 .taken))
 
 sub-set : tie.Need-sub-set
 sub-set c =
@@ -93,14 +93,14 @@ reached-any-requires c κs =
     let k = c .before .before .before .before .before .before .before .before .before .before .before .before .before .before .before .before .before in
     let a = k .args in
     let u = held-edge (c .before .before .before .before .before .before .before .before .before .before .before .before .before .edge-at .result) _ (getD ((decode-graph (a .graph .now)) .edges) (a .first) no-edge) (c .before .before .before .before .before .before .before .before .before .before .before .e .given .1) (c .before .before .before .before .before .before .before .before .before .before .before .before .before .edge-at .ensures) in
-    (from-fits (a .s) (a .graph .now) (a .rules .now) (k .pre .0) (a .first) (k .pre .1 .0) _ u, k .pre .1 .1 .1 .0 .room)
+    (from-fits (a .s) (a .graph .now) (a .rules .now) (k .pre .0) (a .first) (k .pre .1 .0) _ u, k .pre .1 .1 .1 .1 .0 .room)
 
 row-of-requires : tie.Need-row-of-requires
 row-of-requires c κs =
     let k = c .before .before .before .before .before .before .before .before .before .before .before .before .before .before .before .before .before .before .before .before in
     let a = k .args in
     let u = held-edge (c .before .before .before .before .before .before .before .before .before .before .before .before .before .before .before .before .edge-at .result) _ (getD ((decode-graph (a .graph .now)) .edges) (a .first) no-edge) (c .before .before .before .before .before .before .before .before .before .before .before .before .before .before .e .given .1) (c .before .before .before .before .before .before .before .before .before .before .before .before .before .before .before .before .edge-at .ensures) in
-    (from-fits (a .s) (a .graph .now) (a .rules .now) (k .pre .0) (a .first) (k .pre .1 .0) _ u, k .pre .1 .1 .1 .0 .room)
+    (from-fits (a .s) (a .graph .now) (a .rules .now) (k .pre .0) (a .first) (k .pre .1 .0) _ u, k .pre .1 .1 .1 .1 .0 .room)
 
 run-group-requires : tie.Need-run-group-requires
 run-group-requires c κs =
@@ -108,13 +108,13 @@ run-group-requires c κs =
     let a = k .args in
     let u = held-edge (c .before .before .before .before .before .before .before .before .before .before .before .before .before .before .before .before .before .before .before .edge-at .result) _ (getD ((decode-graph (a .graph .now)) .edges) (a .first) no-edge) (c .before .before .before .before .before .before .before .before .before .before .before .before .before .before .before .before .before .e .given .1) (c .before .before .before .before .before .before .before .before .before .before .before .before .before .before .before .before .before .before .before .edge-at .ensures) in
     let v = held-node (c .before .before .before .before .before .before .before .before .before .before .before .before .before .before .before .node-at .result) _ (node (decode-graph (a .graph .now)) (c .before .before .before .before .before .before .before .before .before .before .before .before .before .before .before .before .before .e .given .0 .0 .from)) (c .before .before .before .before .before .before .before .before .before .before .before .before .before .v .given .1) (c .before .before .before .before .before .before .before .before .before .before .before .before .before .before .before .node-at .ensures) in
-    let lk = k .pre .1 .1 .1 .1 in (
+    let lk = k .pre .1 .1 .1 .1 .1 in (
       k .pre .0,
       (
         omega (arith, k .pre .1 .1 .0, label-is (a .s) (a .graph .now) (a .rules .now) (k .pre .0) (a .first) (k .pre .1 .0) _ u),
         (
           goes-on (a .s) (a .graph .now) (a .rules .now) (k .pre .0) (a .first) (k .pre .1 .0) _ u _ v (c .before .before .before .before .before .before .before .before .before .before .before .if1 .left),
-          (k .pre .1 .1 .1 .0, (c .before .before .row-of .ensures, (lk .0, lk .1, source-links (a .s) (a .graph .now) (a .rules .now) (k .pre .0) (a .first) (k .pre .1 .0) _ u _ v (lk .0) (a .callers .now) (a .ends .now) (a .work .now) (lk .2)))),
+          (k .pre .1 .1 .1 .0, (k .pre .1 .1 .1 .1 .0, (c .before .before .row-of .ensures, (lk .0, lk .1, source-links (a .s) (a .graph .now) (a .rules .now) (k .pre .0) (a .first) (k .pre .1 .0) _ u _ v (lk .0) (a .callers .now) (a .ends .now) (a .table .now) (lk .2))))),
         ),
       ),
     )
@@ -129,7 +129,7 @@ returns-4 c =
     let u = held-edge (c .before .before .before .before .before .before .before .before .before .before .before .before .before .before .before .before .before .before .before .before .before .before .edge-at .result) _ (getD ((decode-graph (a .graph .now)) .edges) (a .first) no-edge) (c .before .before .before .before .before .before .before .before .before .before .before .before .before .before .before .before .before .before .before .before .e .given .1) (c .before .before .before .before .before .before .before .before .before .before .before .before .before .before .before .before .before .before .before .before .before .before .edge-at .ensures) in
     let v = held-node (c .before .before .before .before .before .before .before .before .before .before .before .before .before .before .before .before .before .before .node-at .result) _ (node (decode-graph (a .graph .now)) (c .before .before .before .before .before .before .before .before .before .before .before .before .before .before .before .before .before .before .before .before .e .given .0 .0 .from)) (c .before .before .before .before .before .before .before .before .before .before .before .before .before .before .before .before .v .given .1) (c .before .before .before .before .before .before .before .before .before .before .before .before .before .before .before .before .before .before .node-at .ensures) in
     let x = c .before .before .run-group in
-    (x .ensures .0, group-ran (a .s) (a .graph .now) (a .rules .now) (k .pre .0) (a .first) (k .pre .1 .0) _ u _ v (a .callers .now) (a .ends .now) (a .work .now) (x .last .1 .1 .1 .0) (x .ensures .1))
+    (x .ensures .0, group-ran (a .s) (a .graph .now) (a .rules .now) (k .pre .0) (a .first) (k .pre .1 .0) _ u _ v (a .callers .now) (a .ends .now) (a .table .now) (a .work .now) (x .last .1 .1 .1 .1 .0) (x .ensures .1))
 
 same-length-2 : tie.Need-same-length-2
 same-length-2 c = search needs
@@ -141,7 +141,7 @@ returns-5 c =
     let u = held-edge (c .before .before .before .before .before .before .before .before .before .before .before .before .before .before .before .edge-at .result) _ (getD ((decode-graph (a .graph .now)) .edges) (a .first) no-edge) (c .before .before .before .before .before .before .before .before .before .before .before .before .before .e .given .1) (c .before .before .before .before .before .before .before .before .before .before .before .before .before .before .before .edge-at .ensures) in
     let v = held-node (c .before .before .before .before .before .before .before .before .before .before .before .node-at .result) _ (node (decode-graph (a .graph .now)) (c .before .before .before .before .before .before .before .before .before .before .before .before .before .e .given .0 .0 .from)) (c .before .before .before .before .before .before .before .before .before .v .given .1) (c .before .before .before .before .before .before .before .before .before .before .before .node-at .ensures) in
     let x = c .before .reached-any in
-    (grew-none (decode-graph (a .graph .now)) (watch (decode-rules (a .rules .now))) (a .tail) (a .work .now) (k .pre .1 .1 .1 .0), group-unreached (a .s) (a .graph .now) (a .rules .now) (k .pre .0) (a .first) (k .pre .1 .0) _ u _ v (a .callers .now) (a .ends .now) (a .work .now) (a .work .now) (x .result) (x .ensures) (c .if2 .left))
+    (grew-none (decode-graph (a .graph .now)) (watch (decode-rules (a .rules .now))) (a .tail) (a .work .now) (k .pre .1 .1 .1 .1 .0), group-unreached (a .s) (a .graph .now) (a .rules .now) (k .pre .0) (a .first) (k .pre .1 .0) _ u _ v (a .callers .now) (a .ends .now) (a .table .now) (a .work .now) (a .work .now) (x .result) (x .ensures) (c .if2 .left))
 
 pub run-source-spec : {M : Type 1} → statement M
 run-source-spec =
