@@ -163,7 +163,8 @@ module _ (G : Graph) (mon : Monitor) where
   pub Summed : List (List ℕ) → List ℕ → ℕ → ℕ → Type 0
   Summed t w g p = (waits w g p ≡ 1) ⊎ ((q : ℕ) → q < 8 → T (member (reach w g p) q) → T (member (sums t (meth G g) p) q))
 
-  -- Between two steps: what waits is in the queue from `head` on, and all else is done, but for the edges and the return nodes that `EdgeDue` and `NodeDue` name.
+  -- Between two steps: what the table t holds happens, what waits is in the queue from `head` on, and all else is done by that table, but for the edges and the return
+  -- nodes that `EdgeDue` and `NodeDue` name.
   pub record SpreadBut (EdgeDue : Edge → ℕ → Type 0) (NodeDue : ℕ → ℕ → Type 0) (t : List (List ℕ)) (head tail : ℕ) (w : List ℕ) : Type 0 where
     pub holding : Holding tail w
     pub shaped : Shaped t

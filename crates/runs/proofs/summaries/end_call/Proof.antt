@@ -1,3 +1,4 @@
+-- The sets by caller are those of the entry state p and of its summary, which is `new`.
 use mathlib.Core.Path.{ap, _∙_}
 use Prim.Native.Nat.{ℕ, suc, _^_}
 use native.Mathlib.Omega.{arith}

@@ -1,3 +1,4 @@
+-- No return node, or no new state, or the two sets joined: the clauses of `joined`.
 use Prim.Native.Nat.{_%_}
 use Rattle.files.specs.Cells.{cell}
 use Rattle.runs.specs.Worklist.{sums}

@@ -1,3 +1,4 @@
+-- Where the summary grew the calls that enter the method so are run. Else a return node adds nothing, and the edges of any other are run.
 use mathlib.Core.Path.{sym, ap, subst, _∙_}
 use mathlib.Core.Bool.{Bool, not}
 use mathlib.Core.List.{List}

@@ -1,3 +1,5 @@
+-- What waits is in the queue from `head` on, and all else is done by the table as it is. A turn takes one point, and hands on the table with its grown summary or the same
+-- one. The queue has no more places than there are states in all.
 use mathlib.Core.Path.{_≡_, refl, ap, _∙_}
 use mathlib.Core.Logic.{⊎-elim, inl, inr}
 use Prim.Native.Nat.{_-_, _/_, _≤_}
@@ -101,12 +103,7 @@ run-point-requires c κs =
     )
 
 add-head : tie.Need-add-head Inv-loop μ-loop
-add-head c =
-    let k = c .before .before .before .before .before .before .before .before .before .before .before .before .before .before .before .before .before .before .before .before .before .before in
-    let a = k .args in
-    let l = c .before .before .before .before .before .before .before .before .before .before .before .before .before .before .before .before .before .before .loop in
-    let some = c .before .before .before .before .before .before .before .before .before .before .before .before .before .before .before .before .before .loop-test .taken in
-    omega (arith, some, queue-fits (a .s) (a .graph .now) (a .rules .now) (k .pre .0) (l .end) (l .work) (l .inv .2 .holding))
+add-head c = omega (arith, c .before .before .before .before .before .before .before .before .before .before .before .before .before .before .before .before .before .loop-test .taken)
 
 loop-less : tie.Need-loop-less Inv-loop μ-loop
 loop-less c =
