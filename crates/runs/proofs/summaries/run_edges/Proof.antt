@@ -5,13 +5,11 @@ use Prim.Native.Nat.{ℕ, _+_, _-_, _≤_, _<_}
 use native.Mathlib.Nat.{le-of-lt, lt-trans}
 use native.Mathlib.Omega.{arith}
 use lib.Dec.{eqb}
-use lib.ListN.{length, getD}
+use lib.ListN.{length}
 use Rattle.files.specs.Access.{first-edge}
 use Rattle.files.specs.Decode.{decode-graph, decode-rules}
-use Rattle.files.specs.Graph.{no-edge}
 use Rattle.files.specs.Rules.{watch}
-use Rattle.judging.proofs.HeldLaws.{held-edge}
-use Rattle.judging.proofs.LevelLaws.{below-more, edge-read}
+use Rattle.judging.proofs.LevelLaws.{below-more}
 use Rattle.runs.specs.Worklist.{passed, sums, Grew}
 use Rattle.runs.specs.Worklist.Growth.{grew-none, grew-on}
 use Rattle.runs.proofs.SummaryLaws.{Ran, ran, ran-kept, first-held, edge-in-file, leaves-node, ran-edges, method-small, label-in, to-in, may-add}
@@ -68,25 +66,13 @@ edge-at-requires c κs =
     let hj = edge-in-file (a .s) (a .graph .now) (a .rules .now) (k .pre .0) (a .g + 1) (l .j) (omega (arith, c .loop-test .taken, f)) in
     (k .pre .0 .held .views .graph-file, k .pre .0 .held .views .nodes-are, omega (arith, hj, k .pre .0 .held .views .edges-are, k .pre .0 .held .views .nodes-are))
 
-enum-known-e : tie.Need-enum-known-e Inv-loop μ-loop
-enum-known-e c = search needs
-
-enum-told : tie.Need-enum-told Inv-loop μ-loop
-enum-told c = search needs
-
-same-length : tie.Need-same-length Inv-loop μ-loop
-same-length c = c .before .before .before .before .loop .inv .0
-
-returns : tie.Need-returns Inv-loop μ-loop
-returns c = absurd (edge-read (c .before .before .edge-at .result) _ _ (c .before .before .edge-at .ensures) (c .enum-told .given .1))
-
 after-edge-requires : tie.Need-after-edge-requires Inv-loop μ-loop
 after-edge-requires c κs =
-    let k = c .before .before .before .before .before .before .before .before .before .before .before .before .before .before .before .before in
+    let k = c .before .before .before .before .before .before .before .before .before .before .before .before .before in
     let a = k .args in
-    let l = c .before .before .before .before .before .before .loop in
-    let f = first-held (a .s) (a .graph .now) (a .rules .now) (k .pre .0) (a .tail) (a .work .now) (k .pre .1 .1 .1 .1 .1 .1) (a .g + 1) _ (omega (arith, k .pre .1 .0)) (c .before .before .before .before .before .before .before .get162 .ensures) in
-    let hj = edge-in-file (a .s) (a .graph .now) (a .rules .now) (k .pre .0) (a .g + 1) (l .j) (omega (arith, c .before .before .before .before .before .loop-test .taken, f)) in
+    let l = c .before .before .before .loop in
+    let f = first-held (a .s) (a .graph .now) (a .rules .now) (k .pre .0) (a .tail) (a .work .now) (k .pre .1 .1 .1 .1 .1 .1) (a .g + 1) _ (omega (arith, k .pre .1 .0)) (c .before .before .before .before .get162 .ensures) in
+    let hj = edge-in-file (a .s) (a .graph .now) (a .rules .now) (k .pre .0) (a .g + 1) (l .j) (omega (arith, c .before .before .loop-test .taken, f)) in
     let m = method-small (a .s) (a .graph .now) (a .rules .now) (k .pre .0) (a .g) (a .caller) (k .pre .1 .0) (k .pre .1 .1 .1 .0) in (
       k .pre .0,
       (
@@ -98,7 +84,7 @@ after-edge-requires c κs =
             (
               m .1,
               (
-                label-in (a .s) (a .graph .now) (a .rules .now) (k .pre .0) (l .j) hj _ (held-edge (c .before .before .before .before .edge-at .result) _ (getD ((decode-graph (a .graph .now)) .edges) (l .j) no-edge) (c .before .before .e .given .1) (c .before .before .before .before .edge-at .ensures)),
+                label-in (a .s) (a .graph .now) (a .rules .now) (k .pre .0) (l .j) hj _ (c .before .edge-at .ensures),
                 l .inv .3,
               ),
             ),
@@ -109,31 +95,31 @@ after-edge-requires c κs =
 
 add-requires : tie.Need-add-requires Inv-loop μ-loop
 add-requires c κs =
+    let k = c .before .before .before .before .before .before .before .before .before .before .before .before .before .before .before in
+    let a = k .args in
+    let l = c .before .before .before .before .before .loop in
+    let f = first-held (a .s) (a .graph .now) (a .rules .now) (k .pre .0) (a .tail) (a .work .now) (k .pre .1 .1 .1 .1 .1 .1) (a .g + 1) _ (omega (arith, k .pre .1 .0)) (c .before .before .before .before .before .before .get162 .ensures) in
+    let hj = edge-in-file (a .s) (a .graph .now) (a .rules .now) (k .pre .0) (a .g + 1) (l .j) (omega (arith, c .before .before .before .before .loop-test .taken, f)) in
+    may-add (a .s) (a .graph .now) (a .rules .now) (k .pre .0) (l .end) (l .work) (l .inv .1 .holding) _ (a .p) (c .before .after-edge .result) (to-in (a .s) (a .graph .now) (a .rules .now) (k .pre .0) (l .j) hj _ (c .before .before .before .edge-at .ensures)) (k .pre .1 .1 .0) (omega arith)
+
+add-j : tie.Need-add-j Inv-loop μ-loop
+add-j c = omega (arith, c .before .before .before .before .before .before .before .loop-test .taken)
+
+loop-less : tie.Need-loop-less Inv-loop μ-loop
+loop-less c = omega (arith, c .before .before .before .before .before .before .before .loop-test .taken)
+
+loop-again : tie.Need-loop-again Inv-loop μ-loop
+loop-again c =
     let k = c .before .before .before .before .before .before .before .before .before .before .before .before .before .before .before .before .before .before in
     let a = k .args in
     let l = c .before .before .before .before .before .before .before .before .loop in
     let f = first-held (a .s) (a .graph .now) (a .rules .now) (k .pre .0) (a .tail) (a .work .now) (k .pre .1 .1 .1 .1 .1 .1) (a .g + 1) _ (omega (arith, k .pre .1 .0)) (c .before .before .before .before .before .before .before .before .before .get162 .ensures) in
     let hj = edge-in-file (a .s) (a .graph .now) (a .rules .now) (k .pre .0) (a .g + 1) (l .j) (omega (arith, c .before .before .before .before .before .before .before .loop-test .taken, f)) in
-    may-add (a .s) (a .graph .now) (a .rules .now) (k .pre .0) (l .end) (l .work) (l .inv .1 .holding) _ (a .p) (c .before .after-edge .result) (to-in (a .s) (a .graph .now) (a .rules .now) (k .pre .0) (l .j) hj _ (held-edge (c .before .before .before .before .before .before .edge-at .result) _ (getD ((decode-graph (a .graph .now)) .edges) (l .j) no-edge) (c .before .before .before .before .e .given .1) (c .before .before .before .before .before .before .edge-at .ensures))) (k .pre .1 .1 .0) (omega arith)
-
-add-j : tie.Need-add-j Inv-loop μ-loop
-add-j c = omega (arith, c .before .before .before .before .before .before .before .before .before .before .loop-test .taken)
-
-loop-less : tie.Need-loop-less Inv-loop μ-loop
-loop-less c = omega (arith, c .before .before .before .before .before .before .before .before .before .before .loop-test .taken)
-
-loop-again : tie.Need-loop-again Inv-loop μ-loop
-loop-again c =
-    let k = c .before .before .before .before .before .before .before .before .before .before .before .before .before .before .before .before .before .before .before .before .before in
-    let a = k .args in
-    let l = c .before .before .before .before .before .before .before .before .before .before .before .loop in
-    let f = first-held (a .s) (a .graph .now) (a .rules .now) (k .pre .0) (a .tail) (a .work .now) (k .pre .1 .1 .1 .1 .1 .1) (a .g + 1) _ (omega (arith, k .pre .1 .0)) (c .before .before .before .before .before .before .before .before .before .before .before .before .get162 .ensures) in
-    let hj = edge-in-file (a .s) (a .graph .now) (a .rules .now) (k .pre .0) (a .g + 1) (l .j) (omega (arith, c .before .before .before .before .before .before .before .before .before .before .loop-test .taken, f)) in
     let z = c .before .before .add in
     let y = c .before .before .before .before .after-edge in
-    let n = ran (a .s) (a .graph .now) (a .rules .now) (k .pre .0) (l .j) hj _ (held-edge (c .before .before .before .before .before .before .before .before .before .edge-at .result) _ (getD ((decode-graph (a .graph .now)) .edges) (l .j) no-edge) (c .before .before .before .before .before .before .before .e .given .1) (c .before .before .before .before .before .before .before .before .before .edge-at .ensures)) (a .g) (leaves-node (a .s) (a .graph .now) (a .rules .now) (k .pre .0) (a .g) (l .j) (l .inv .2) (omega (arith, c .before .before .before .before .before .before .before .before .before .before .loop-test .taken, f))) (k .pre .1 .1 .1 .1 .0) (a .tail) (l .end) (a .work .now) (l .work)
+    let n = ran (a .s) (a .graph .now) (a .rules .now) (k .pre .0) (l .j) hj _ (c .before .before .before .before .before .before .edge-at .ensures) (a .g) (leaves-node (a .s) (a .graph .now) (a .rules .now) (k .pre .0) (a .g) (l .j) (l .inv .2) (omega (arith, c .before .before .before .before .before .before .before .loop-test .taken, f))) (k .pre .1 .1 .1 .1 .0) (a .tail) (l .end) (a .work .now) (l .work)
     (k .pre .1 .1 .1 .1 .1 .1) (a .table .now) (k .pre .1 .1 .1 .1 .1 .0) (l .inv .1) (a .p) (y .result) (k .pre .1 .1 .0) (omega arith)
-    (y .ensures ∙ ap₂ (λ (m x : ℕ). cond (eqb (c .before .before .before .before .before .before .before .e .given .0 .0 .label) 0) x (passed (watch (decode-rules (a .rules .now))) (sums (a .table .now)) m (c .before .before .before .before .before .before .before .e .given .0 .0 .label) x)) (k .pre .1 .1 .1 .0) (c .before .before .before .before .before .before .before .before .before .before .before .before .before .before .before .before .get8 .ensures)) (z .result) (z .last .0) (z .ensures) in (
+    (y .ensures ∙ ap₂ (λ (m x : ℕ). cond (eqb (c .before .before .before .before .before .before .edge-at .result .label) 0) x (passed (watch (decode-rules (a .rules .now))) (sums (a .table .now)) m (c .before .before .before .before .before .before .edge-at .result .label) x)) (k .pre .1 .1 .1 .0) (c .before .before .before .before .before .before .before .before .before .before .before .before .before .get8 .ensures)) (z .result) (z .last .0) (z .ensures) in (
       z .kept .0 ∙ l .inv .0,
       grew-on (decode-graph (a .graph .now)) (watch (decode-rules (a .rules .now))) (a .tail) (l .end) (z .result) (a .work .now) (l .work) (z .last .0) (l .inv .1) (n .0),
       omega (arith, l .inv .2),
@@ -142,11 +128,11 @@ loop-again c =
           (λ i h e. ran-kept (a .s) (a .graph .now) (a .rules .now) (k .pre .0) (l .end) (z .result) (l .work) (z .last .0) (n .0) (a .table .now) i (lt-trans h hj) (a .p) (k .pre .1 .1 .0) (l .inv .4 i h e)) (λ e. n .1),
     )
 
-same-length-2 : tie.Need-same-length-2 Inv-loop μ-loop
-same-length-2 c = c .before .loop .inv .0
+same-length : tie.Need-same-length Inv-loop μ-loop
+same-length c = c .before .loop .inv .0
 
-returns-2 : tie.Need-returns-2 Inv-loop μ-loop
-returns-2 c =
+returns : tie.Need-returns Inv-loop μ-loop
+returns c =
     let k = c .before .before .before .before .before .before .before .before .before .before .before in
     let a = k .args in
     let l = c .before .loop in
@@ -169,14 +155,10 @@ run-edges-spec =
     cast-last
     loop-holds
     edge-at-requires
-    enum-known-e
-    enum-told
-    same-length
-    returns
     after-edge-requires
     add-requires
     add-j
     loop-less
     loop-again
-    same-length-2
-    returns-2)
+    same-length
+    returns)

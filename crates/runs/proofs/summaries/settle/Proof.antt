@@ -9,9 +9,8 @@ use Rattle.files.specs.Decode.{decode-graph, decode-rules}
 use Rattle.files.specs.Graph.{node}
 use Rattle.files.specs.Rules.{watch}
 use Rattle.files.specs.declared.graph.GraphNode.{GraphNode}
-use Rattle.judging.proofs.HeldLaws.{held-node}
 use Rattle.runs.specs.Worklist.{queue, Past, Spread}
-use Rattle.runs.proofs.SummaryLaws.{node-of, node-read, node-readable, method-small, queue-fits, node-there, at-fits, taken-holds, next-ready, point-ran, settled}
+use Rattle.runs.proofs.SummaryLaws.{node-of, node-readable, method-small, queue-fits, node-there, at-fits, taken-holds, next-ready, point-ran, settled}
 use borrow.Author.Needs.{needs}
 use Rattle.runs.proofs.summaries.settle.Statement.{statement}
 use Rattle.runs.proofs.summaries.settle.Tie as tie
@@ -45,26 +44,14 @@ node-at-requires c κs =
     let x = c .before .before .take in
     (k .pre .0 .held .views .graph-file, node-readable (a .s) (a .graph .now) (a .rules .now) (k .pre .0) (x .result / 8) (node-there (a .s) (a .graph .now) (a .rules .now) (k .pre .0) (l .table) (l .head) (l .end) (l .work) (l .inv .2) some (x .result) (x .ensures .0)))
 
-enum-known-v : tie.Need-enum-known-v Inv-loop μ-loop
-enum-known-v c = search needs
-
-enum-told : tie.Need-enum-told Inv-loop μ-loop
-enum-told c = search needs
-
-same-length : tie.Need-same-length Inv-loop μ-loop
-same-length c = c .before .before .before .before .before .take .kept .0 ∙ c .before .before .before .before .before .before .before .before .loop .inv .0
-
-returns : tie.Need-returns Inv-loop μ-loop
-returns c = absurd (node-read (c .before .before .node-at .result) _ _ (c .before .before .node-at .ensures) (c .enum-told .given .1))
-
 new-summary-requires : tie.Need-new-summary-requires Inv-loop μ-loop
 new-summary-requires c κs =
-    let k = c .before .before .before .before .before .before .before .before .before .before .before .before .before .before .before in
+    let k = c .before .before .before .before .before .before .before .before .before .before .before .before in
     let a = k .args in
-    let l = c .before .before .before .before .before .before .before .before .before .before .before .loop in
-    let some = c .before .before .before .before .before .before .before .before .before .before .loop-test .taken in
-    let x = c .before .before .before .before .before .before .before .before .take in
-    let v = held-node (c .before .before .before .before .before .node-at .result) _ (node (decode-graph (a .graph .now)) (x .result / 8)) (c .before .before .before .v .given .1) (c .before .before .before .before .before .node-at .ensures) in
+    let l = c .before .before .before .before .before .before .before .before .loop in
+    let some = c .before .before .before .before .before .before .before .loop-test .taken in
+    let x = c .before .before .before .before .before .take in
+    let v = c .before .before .node-at .ensures in
     let n = node-there (a .s) (a .graph .now) (a .rules .now) (k .pre .0) (l .table) (l .head) (l .end) (l .work) (l .inv .2) some (x .result) (x .ensures .0) in
     let m = method-small (a .s) (a .graph .now) (a .rules .now) (k .pre .0) (x .result / 8) _ (node-of (a .s) (a .graph .now) (a .rules .now) (k .pre .0) (x .result / 8) n) (ap (λ (u : GraphNode). u .method) v) in
     (m .0, (m .1, (at-fits (a .s) (a .graph .now) (a .rules .now) (k .pre .0) (l .table) (l .head) (l .end) (l .work) (l .inv .2) some (x .result) (x .ensures .0), taken-holds (a .s) (a .graph .now) (a .rules .now) (k .pre .0) (l .table) (l .head) (l .end) (l .work) (l .inv .2) some (x .result) (x .ensures .0) (x .last .0) (x .ensures .1) .room)))
@@ -74,24 +61,24 @@ cast-grown c = search needs
 
 grown-requires : tie.Need-grown-requires Inv-loop μ-loop
 grown-requires c κs =
-    let k = c .before .before .before .before .before .before .before .before .before .before .before .before .before .before .before .before .before .before in
+    let k = c .before .before .before .before .before .before .before .before .before .before .before .before .before .before .before in
     let a = k .args in
-    let l = c .before .before .before .before .before .before .before .before .before .before .before .before .before .before .loop in
-    let some = c .before .before .before .before .before .before .before .before .before .before .before .before .before .loop-test .taken in
-    let x = c .before .before .before .before .before .before .before .before .before .before .before .take in
-    let v = held-node (c .before .before .before .before .before .before .before .before .node-at .result) _ (node (decode-graph (a .graph .now)) (x .result / 8)) (c .before .before .before .before .before .before .v .given .1) (c .before .before .before .before .before .before .before .before .node-at .ensures) in
+    let l = c .before .before .before .before .before .before .before .before .before .before .before .loop in
+    let some = c .before .before .before .before .before .before .before .before .before .before .loop-test .taken in
+    let x = c .before .before .before .before .before .before .before .before .take in
+    let v = c .before .before .before .before .before .node-at .ensures in
     let n = node-there (a .s) (a .graph .now) (a .rules .now) (k .pre .0) (l .table) (l .head) (l .end) (l .work) (l .inv .2) some (x .result) (x .ensures .0) in
     let m = method-small (a .s) (a .graph .now) (a .rules .now) (k .pre .0) (x .result / 8) _ (node-of (a .s) (a .graph .now) (a .rules .now) (k .pre .0) (x .result / 8) n) (ap (λ (u : GraphNode). u .method) v) in
     (m .0, (m .1, omega arith))
 
 run-point-requires : tie.Need-run-point-requires Inv-loop μ-loop
 run-point-requires c κs =
-    let k = c .before .before .before .before .before .before .before .before .before .before .before .before .before .before .before .before .before .before .before in
+    let k = c .before .before .before .before .before .before .before .before .before .before .before .before .before .before .before .before in
     let a = k .args in
-    let l = c .before .before .before .before .before .before .before .before .before .before .before .before .before .before .before .loop in
-    let some = c .before .before .before .before .before .before .before .before .before .before .before .before .before .before .loop-test .taken in
-    let x = c .before .before .before .before .before .before .before .before .before .before .before .before .take in
-    let v = held-node (c .before .before .before .before .before .before .before .before .before .node-at .result) _ (node (decode-graph (a .graph .now)) (x .result / 8)) (c .before .before .before .before .before .before .before .v .given .1) (c .before .before .before .before .before .before .before .before .before .node-at .ensures) in
+    let l = c .before .before .before .before .before .before .before .before .before .before .before .before .loop in
+    let some = c .before .before .before .before .before .before .before .before .before .before .before .loop-test .taken in
+    let x = c .before .before .before .before .before .before .before .before .before .take in
+    let v = c .before .before .before .before .before .before .node-at .ensures in
     let y = c .before .before .before .new-summary in
     let z = next-ready (a .s) (a .graph .now) (a .rules .now) (k .pre .0) (l .table) (l .head) (l .end) (l .work) (l .inv .2) some (x .result) (x .ensures .0) (x .last .0) (x .ensures .1) _ v (y .result) (y .ensures) (c .before .before .if1 .table)
     (⊎-elim (λ u. inl (u .0 .taken, u .3 ∙ u .2 .ensures)) (λ u. inr (omega (arith, u .0 .left), u .1)) (c .before .before .if1 .came)) in (
@@ -103,24 +90,24 @@ run-point-requires c κs =
     )
 
 add-head : tie.Need-add-head Inv-loop μ-loop
-add-head c = omega (arith, c .before .before .before .before .before .before .before .before .before .before .before .before .before .before .before .before .before .loop-test .taken)
+add-head c = omega (arith, c .before .before .before .before .before .before .before .before .before .before .before .before .before .before .loop-test .taken)
 
 loop-less : tie.Need-loop-less Inv-loop μ-loop
 loop-less c =
-    let k = c .before .before .before .before .before .before .before .before .before .before .before .before .before .before .before .before .before .before .before .before .before .before in
+    let k = c .before .before .before .before .before .before .before .before .before .before .before .before .before .before .before .before .before .before .before in
     let a = k .args in
-    let l = c .before .before .before .before .before .before .before .before .before .before .before .before .before .before .before .before .before .before .loop in
-    let some = c .before .before .before .before .before .before .before .before .before .before .before .before .before .before .before .before .before .loop-test .taken in
+    let l = c .before .before .before .before .before .before .before .before .before .before .before .before .before .before .before .loop in
+    let some = c .before .before .before .before .before .before .before .before .before .before .before .before .before .before .loop-test .taken in
     omega (arith, some, queue-fits (a .s) (a .graph .now) (a .rules .now) (k .pre .0) (l .end) (l .work) (l .inv .2 .holding))
 
 loop-again : tie.Need-loop-again Inv-loop μ-loop
 loop-again c =
-    let k = c .before .before .before .before .before .before .before .before .before .before .before .before .before .before .before .before .before .before .before .before .before .before in
+    let k = c .before .before .before .before .before .before .before .before .before .before .before .before .before .before .before .before .before .before .before in
     let a = k .args in
-    let l = c .before .before .before .before .before .before .before .before .before .before .before .before .before .before .before .before .before .before .loop in
-    let some = c .before .before .before .before .before .before .before .before .before .before .before .before .before .before .before .before .before .loop-test .taken in
-    let x = c .before .before .before .before .before .before .before .before .before .before .before .before .before .before .before .take in
-    let v = held-node (c .before .before .before .before .before .before .before .before .before .before .before .before .node-at .result) _ (node (decode-graph (a .graph .now)) (x .result / 8)) (c .before .before .before .before .before .before .before .before .before .before .v .given .1) (c .before .before .before .before .before .before .before .before .before .before .before .before .node-at .ensures) in
+    let l = c .before .before .before .before .before .before .before .before .before .before .before .before .before .before .before .loop in
+    let some = c .before .before .before .before .before .before .before .before .before .before .before .before .before .before .loop-test .taken in
+    let x = c .before .before .before .before .before .before .before .before .before .before .before .before .take in
+    let v = c .before .before .before .before .before .before .before .before .before .node-at .ensures in
     let y = c .before .before .before .before .before .before .new-summary in
     let r = c .before .before .run-point in
     let z = point-ran (a .s) (a .graph .now) (a .rules .now) (k .pre .0) (l .table) (l .head) (l .end) (l .work) (l .inv .2) some (x .result) (x .ensures .0) (x .last .0) (x .ensures .1) _ v (y .result) (y .ensures) (c .before .before .before .before .before .if1 .table)
@@ -132,11 +119,11 @@ loop-again c =
       λ q h. z .1 q h ∙ l .inv .3 q h,
     )
 
-same-length-2 : tie.Need-same-length-2 Inv-loop μ-loop
-same-length-2 c = c .before .loop .inv .0
+same-length : tie.Need-same-length Inv-loop μ-loop
+same-length c = c .before .loop .inv .0
 
-returns-2 : tie.Need-returns-2 Inv-loop μ-loop
-returns-2 c =
+returns : tie.Need-returns Inv-loop μ-loop
+returns c =
     let k = c .before .before .before .before .before in
     let a = k .args in
     let l = c .before .loop in
@@ -153,10 +140,6 @@ settle-spec =
     loop-holds
     take-requires
     node-at-requires
-    enum-known-v
-    enum-told
-    same-length
-    returns
     new-summary-requires
     cast-grown
     grown-requires
@@ -164,5 +147,5 @@ settle-spec =
     add-head
     loop-less
     loop-again
-    same-length-2
-    returns-2)
+    same-length
+    returns)
