@@ -93,8 +93,7 @@ fn say_kind(stdout: &mut [u8; BUFFERED], kind: u8, label: u8) {
     say_decimal(stdout, label as u64);
 }
 
-// The arrow of record i of the trail, where it is no start. A call entered leads where no edge of the graph does, so it is dashed. A loop stands to the left, the graph's own to
-// the right.
+// The arrow of record i of the trail, where it is no start. A call entered leads where no edge of the graph does, so it is dashed.
 fn say_step(stdout: &mut [u8; BUFFERED], trail: &[u8], i: usize)
     requires { ⌜ 6 * i + 6 ≤ length (now trail) ⌝ }
 {
@@ -106,11 +105,6 @@ fn say_step(stdout: &mut [u8; BUFFERED], trail: &[u8], i: usize)
         say_kind(stdout, kind, trail[p + 3]);
         say(stdout, b" \"");
         say_if(stdout, kind == 2, b", style=dashed");
-        say_if(
-            stdout,
-            trail[p] == trail[p + 4],
-            b", tailport=w, headport=w",
-        );
         say(stdout, b"];\n");
     }
 }
