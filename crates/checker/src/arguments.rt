@@ -3,6 +3,7 @@ ghost use Prim.Native.Nat.{_≤_};
 use files::cells::wide;
 use printing::at_most;
 use printing::say;
+use printing::stdout::BUFFERED;
 
 // A number past every one that a call takes: larger ones count as this.
 const MOST: usize = 1000000;
@@ -33,10 +34,10 @@ pub fn is_word(i: usize, word: &[u8]) -> bool {
     same(&name[..n], word)
 }
 
-pub fn say_argument(i: usize) {
+pub fn say_argument(stdout: &mut [u8; BUFFERED], i: usize) {
     let mut name = io::buffer();
     let n = os::arg(i, &mut name);
-    say(&name[..n]);
+    say(stdout, &name[..n]);
 }
 
 pub fn is_digit(b: u8) -> bool {
@@ -71,14 +72,14 @@ fn decimal_of(text: &[u8]) -> Decimal {
 }
 
 // Argument i as a number; where it is none, a line says so.
-pub fn number(i: usize) -> Decimal {
+pub fn number(stdout: &mut [u8; BUFFERED], i: usize) -> Decimal {
     let mut name = io::buffer();
     let n = os::arg(i, &mut name);
     let d = decimal_of(&name[..n]);
     if !d.ok {
-        say(b"error not a number: ");
-        say(&name[..n]);
-        say(b"\n");
+        say(stdout, b"error not a number: ");
+        say(stdout, &name[..n]);
+        say(stdout, b"\n");
     }
     d
 }

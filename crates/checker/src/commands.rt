@@ -3,6 +3,7 @@ ghost use mathlib.Core.Path.{_≡_};
 ghost use lib.ListN.{length};
 use crate::arguments::number;
 use crate::load::load;
+use crate::load::load_two;
 use crate::refusals::say_refused;
 use crate::results::say_compared;
 use crate::results::say_joined;
@@ -16,6 +17,7 @@ use files::record::Limits;
 use judging::shape::Shape;
 use judging::sizes::Sizes;
 use maximal::places::Places;
+use printing::stdout::BUFFERED;
 use runs::answers::Shown;
 use runs::regions::Regions;
 
@@ -43,23 +45,22 @@ fn watch_buffer() -> [u8; Regions::ROOM]
     [0; Regions::ROOM]
 }
 
-pub fn judge(at: usize) {
+pub fn judge(stdout: &mut [u8; BUFFERED], at: usize) {
     let mut graph = io::large_buffer();
-    let g = load(2, &mut graph);
     let mut property = io::large_buffer();
-    let p = load(3, &mut property);
-    if g.ok & p.ok {
+    let files = load_two(stdout, 2, &mut graph, &mut property);
+    if files.ok {
         let mut out = io::large_buffer();
         let mut work = judge_buffer();
-        let graph_end = g.length;
-        let property_end = p.length;
+        let graph_end = files.first;
+        let property_end = files.second;
         let answer = judging::judge(
             &graph[..graph_end],
             &property[..property_end],
             &mut out,
             &mut work,
         );
-        say_judged(answer, &out, at);
+        say_judged(stdout, answer, &out, &property[..property_end], at);
     }
 }
 
@@ -71,16 +72,15 @@ fn nodes_in(graph: &[u8]) -> usize {
     }
 }
 
-pub fn compare(at: usize) {
+pub fn compare(stdout: &mut [u8; BUFFERED], at: usize) {
     let mut first = io::large_buffer();
-    let f = load(2, &mut first);
     let mut second = io::large_buffer();
-    let s = load(3, &mut second);
-    if f.ok & s.ok {
+    let files = load_two(stdout, 2, &mut first, &mut second);
+    if files.ok {
         let mut out = io::large_buffer();
         let mut work = compare_buffer();
-        let first_end = f.length;
-        let second_end = s.length;
+        let first_end = files.first;
+        let second_end = files.second;
         let answer = judging::compare(
             &first[..first_end],
             &second[..second_end],
@@ -88,72 +88,81 @@ pub fn compare(at: usize) {
             &mut work,
         );
         let nodes = nodes_in(&first[..first_end]);
-        say_compared(answer, &out, nodes, at);
+        say_compared(stdout, answer, &out, nodes, at);
     }
 }
 
-pub fn model(at: usize) {
+pub fn model(stdout: &mut [u8; BUFFERED], at: usize) {
     let mut interface = io::large_buffer();
-    let i = load(2, &mut interface);
     let mut property = io::large_buffer();
-    let p = load(3, &mut property);
-    if i.ok & p.ok {
+    let files = load_two(stdout, 2, &mut interface, &mut property);
+    if files.ok {
         let mut out = io::large_buffer();
         let mut work = model_buffer();
-        let interface_end = i.length;
-        let property_end = p.length;
+        let interface_end = files.first;
+        let property_end = files.second;
         let answer = maximal::model(
             &interface[..interface_end],
             &property[..property_end],
             &mut out,
             &mut work,
         );
-        say_modelled(answer, &out, at);
+        say_modelled(stdout, answer, &out, at);
     }
 }
 
-pub fn join(at: usize) {
-    let mut interface1 = io::large_buffer();
-    let i = load(2, &mut interface1);
-    let mut graph1 = io::large_buffer();
-    let g = load(3, &mut graph1);
+// The join with the second side's files, of the first side's, which are loaded. A function with four buffers of its own takes several times as long to prove.
+fn join_with(stdout: &mut [u8; BUFFERED], interface1: &[u8], graph1: &[u8], at: usize) {
     let mut interface2 = io::large_buffer();
-    let j = load(4, &mut interface2);
     let mut graph2 = io::large_buffer();
-    let h = load(5, &mut graph2);
-    if i.ok & g.ok & j.ok & h.ok {
+    let files = load_two(stdout, 4, &mut interface2, &mut graph2);
+    if files.ok {
         let mut out = io::large_buffer();
-        let interface1_end = i.length;
-        let graph1_end = g.length;
-        let interface2_end = j.length;
-        let graph2_end = h.length;
+        let interface2_end = files.first;
+        let graph2_end = files.second;
         let answer = runs::join(
-            &interface1[..interface1_end],
-            &graph1[..graph1_end],
+            interface1,
+            graph1,
             &interface2[..interface2_end],
             &graph2[..graph2_end],
             &mut out,
         );
-        say_joined(answer, &out, at);
+        say_joined(stdout, answer, &out, at);
     }
 }
 
-pub fn show(at: usize) {
+pub fn join(stdout: &mut [u8; BUFFERED], at: usize) {
+    let mut interface1 = io::large_buffer();
     let mut graph1 = io::large_buffer();
-    let g = load(2, &mut graph1);
+    let files = load_two(stdout, 2, &mut interface1, &mut graph1);
+    if files.ok {
+        let interface1_end = files.first;
+        let graph1_end = files.second;
+        join_with(
+            stdout,
+            &interface1[..interface1_end],
+            &graph1[..graph1_end],
+            at,
+        );
+    }
+}
+
+pub fn show(stdout: &mut [u8; BUFFERED], at: usize) {
+    let mut graph1 = io::large_buffer();
     let mut graph2 = io::large_buffer();
-    let h = load(3, &mut graph2);
-    let node = number(4);
-    if g.ok & h.ok & node.ok {
-        let graph1_end = g.length;
-        let graph2_end = h.length;
+    let files = load_two(stdout, 2, &mut graph1, &mut graph2);
+    let node = number(stdout, 4);
+    if files.ok & node.ok {
+        let graph1_end = files.first;
+        let graph2_end = files.second;
         let value = node.value;
         match runs::show_refusal(&graph1[..graph1_end], &graph2[..graph2_end], value) {
             Shown::Part => say_shown(
+                stdout,
                 runs::show(&graph1[..graph1_end], &graph2[..graph2_end], value),
                 at,
             ),
-            Shown::Refused(r) => say_refused(r),
+            Shown::Refused(r) => say_refused(stdout, r),
         }
     }
 }
@@ -163,71 +172,105 @@ fn method_of(value: usize) -> u8 {
     if value < 256 { value as u8 } else { 255 }
 }
 
-pub fn watch(at: usize) {
+pub fn watch(stdout: &mut [u8; BUFFERED], at: usize) {
     let mut interface = io::large_buffer();
-    let i = load(2, &mut interface);
     let mut graph = io::large_buffer();
-    let g = load(3, &mut graph);
+    let files = load_two(stdout, 2, &mut interface, &mut graph);
     let mut rules = io::large_buffer();
-    let r = load(4, &mut rules);
-    let start = number(5);
-    if i.ok & g.ok & r.ok & start.ok {
+    let r = load(stdout, 4, &mut rules);
+    let start = number(stdout, 5);
+    if files.ok & r.ok & start.ok {
         let mut out = io::large_buffer();
         let mut work = watch_buffer();
-        let interface_end = i.length;
-        let graph_end = g.length;
+        let interface_end = files.first;
+        let graph_end = files.second;
         let rules_end = r.length;
+        let method = method_of(start.value);
         let answer = runs::watch(
             &interface[..interface_end],
             &graph[..graph_end],
             &rules[..rules_end],
-            method_of(start.value),
+            method,
             &mut out,
             &mut work,
         );
-        say_watched(answer, b"clean from the start method\n", &out, at);
+        say_watched(
+            stdout,
+            answer,
+            b"clean from the start method\n",
+            &out,
+            method,
+            at,
+        );
     }
 }
 
-// The composed verdict on the known side's files, which are loaded.
-fn compose_with(known: &[u8], graph: &[u8], at: usize) {
-    let mut other = io::large_buffer();
-    let o = load(4, &mut other);
-    let mut property = io::large_buffer();
-    let p = load(5, &mut property);
+// The composed verdict by the rules, of both sides' files, which are loaded.
+fn compose_by(
+    stdout: &mut [u8; BUFFERED],
+    known: &[u8],
+    graph: &[u8],
+    other: &[u8],
+    property: &[u8],
+    at: usize,
+) {
     let mut rules = io::large_buffer();
-    let r = load(6, &mut rules);
-    let start = number(7);
-    if o.ok & p.ok & r.ok & start.ok {
+    let r = load(stdout, 6, &mut rules);
+    let start = number(stdout, 7);
+    if r.ok & start.ok {
         let mut out = io::large_buffer();
         let mut store = watch_buffer();
         let mut work = model_buffer();
-        let other_end = o.length;
-        let property_end = p.length;
         let rules_end = r.length;
+        let method = method_of(start.value);
         let answer = runs::compose(
             known,
             graph,
-            &other[..other_end],
-            &property[..property_end],
+            other,
+            property,
             &rules[..rules_end],
-            method_of(start.value),
+            method,
             &mut out,
             &mut store,
             &mut work,
         );
-        say_watched(answer, b"clean with every module that conforms\n", &out, at);
+        say_watched(
+            stdout,
+            answer,
+            b"clean with every module that conforms\n",
+            &out,
+            method,
+            at,
+        );
     }
 }
 
-pub fn compose(at: usize) {
+// The composed verdict with the other side's files, of the known side's, which are loaded.
+fn compose_with(stdout: &mut [u8; BUFFERED], known: &[u8], graph: &[u8], at: usize) {
+    let mut other = io::large_buffer();
+    let mut property = io::large_buffer();
+    let files = load_two(stdout, 4, &mut other, &mut property);
+    if files.ok {
+        let other_end = files.first;
+        let property_end = files.second;
+        compose_by(
+            stdout,
+            known,
+            graph,
+            &other[..other_end],
+            &property[..property_end],
+            at,
+        );
+    }
+}
+
+pub fn compose(stdout: &mut [u8; BUFFERED], at: usize) {
     let mut known = io::large_buffer();
-    let k = load(2, &mut known);
     let mut graph = io::large_buffer();
-    let g = load(3, &mut graph);
-    if k.ok & g.ok {
-        let known_end = k.length;
-        let graph_end = g.length;
-        compose_with(&known[..known_end], &graph[..graph_end], at);
+    let files = load_two(stdout, 2, &mut known, &mut graph);
+    if files.ok {
+        let known_end = files.first;
+        let graph_end = files.second;
+        compose_with(stdout, &known[..known_end], &graph[..graph_end], at);
     }
 }

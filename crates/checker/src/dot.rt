@@ -1,186 +1,160 @@
-// `checker dot`: a graph in the language of Graphviz, with the nodes and edges of a trail in red. A double line is a return node, a bold one an entry; a call that the trail enters
-// is a dashed edge to the callee's entry.
+// `checker dot` and `checker dot-sheet`: a graph in the language of Graphviz, a box for each method, its nodes in it by number. An entry is grey, a return node has a double line.
 ghost use Prim.Native.Nat.{_+_, _*_, _≤_};
 ghost use lib.ListN.{length};
+use crate::arrows::say_arrows;
+use crate::lit::is_in;
+use crate::lit::is_lit;
+use crate::lit::say_if;
+use crate::lit::say_red;
+use crate::lit::say_rows;
+use crate::lit::say_start;
 use crate::load::load;
+use crate::load::load_two;
 use crate::refusals::say_refused;
 use files::check::Checked;
 use files::check::check_graph;
 use files::record::Limits;
 use files::record::Record;
 use printing::at_most;
+use printing::end_of;
 use printing::say;
 use printing::say_decimal;
+use printing::stdout::BUFFERED;
 
-fn say_field(b: u8) {
-    say_decimal(b as u64);
+// No graph has more nodes.
+const MOST: usize = 256;
+
+// Node i by its number, then the lines that a trail or a sheet adds.
+fn say_node(
+    stdout: &mut [u8; BUFFERED],
+    trail: &[u8],
+    sheet: &[u8],
+    i: usize,
+    returns: u8,
+    entry: u8,
+) {
+    let node = (i % 256) as u8;
+    say(stdout, b"    ");
+    say_decimal(stdout, i as u64);
+    say(stdout, b" [label=\"");
+    say_decimal(stdout, i as u64);
+    say_start(stdout, trail, node);
+    say_rows(stdout, sheet, node);
+    say(stdout, b"\"");
+    say_if(stdout, returns == 1, b", peripheries=2");
+    say_if(stdout, entry == 1, b", style=filled");
+    let lit = is_lit(trail, sheet, node);
+    say_if(stdout, lit, b", color=red, fontcolor=red");
+    say(stdout, b"];\n");
 }
 
-// Record i of the trail starts or ends at the node.
-fn meets(trail: &[u8], i: usize, node: u8) -> bool
-    requires { ⌜ 6 * i + 6 ≤ length (now trail) ⌝ }
+// Record i of the nodes, where it is of the method.
+fn say_node_of(
+    stdout: &mut [u8; BUFFERED],
+    nodes: &[u8],
+    trail: &[u8],
+    sheet: &[u8],
+    i: usize,
+    method: u8,
+)
+    requires { ⌜ 6 * i + 6 ≤ length (now nodes) ⌝ }
 {
     let p = Record::LEN * i;
-    (trail[p] == node) | (trail[p + 4] == node)
+    if nodes[p + 1] == method {
+        say_node(stdout, trail, sheet, i, nodes[p + 2], nodes[p + 3]);
+    }
 }
 
-// Record i of the trail runs the edge, as an internal step or as a call passed over.
-fn runs_edge(trail: &[u8], i: usize, from: u8, label: u8, to: u8) -> bool
-    requires { ⌜ 6 * i + 6 ≤ length (now trail) ⌝ }
-{
-    let p = Record::LEN * i;
-    (trail[p] == from)
-        & (trail[p + 3] == label)
-        & (trail[p + 4] == to)
-        & ((trail[p + 2] == 1) | (trail[p + 2] == 3))
-}
-
-fn is_met(trail: &[u8], node: u8) -> bool {
-    let end = trail.len() / Record::LEN;
+fn say_nodes(stdout: &mut [u8; BUFFERED], nodes: &[u8], trail: &[u8], sheet: &[u8], method: u8) {
+    let end = nodes.len() / Record::LEN;
     let mut i = 0;
     while i < end {
-        if meets(trail, i, node) {
-            return true;
-        }
-        i += 1;
-    }
-    false
-}
-
-fn is_run(trail: &[u8], from: u8, label: u8, to: u8) -> bool {
-    let end = trail.len() / Record::LEN;
-    let mut i = 0;
-    while i < end {
-        if runs_edge(trail, i, from, label, to) {
-            return true;
-        }
-        i += 1;
-    }
-    false
-}
-
-fn say_if(test: bool, words: &[u8]) {
-    if test {
-        say(words);
-    }
-}
-
-// Node i, which is record i of the graph.
-fn say_node(graph: &[u8], trail: &[u8], i: usize)
-    requires { ⌜ 6 * i + 6 ≤ length (now graph) ⌝ }
-{
-    let p = Record::LEN * i;
-    say(b"  ");
-    say_decimal(i as u64);
-    say(b" [label=\"");
-    say_decimal(i as u64);
-    say(b": method ");
-    say_field(graph[p + 1]);
-    say(b"\"");
-    say_if(graph[p + 2] == 1, b", peripheries=2");
-    say_if(graph[p + 3] == 1, b", style=bold");
-    say_if(is_met(trail, (i % 256) as u8), b", color=red");
-    say(b"];\n");
-}
-
-fn say_ends(from: u8, to: u8) {
-    say(b"  ");
-    say_field(from);
-    say(b" -> ");
-    say_field(to);
-}
-
-// An edge, which is record i of the graph.
-fn say_edge(graph: &[u8], trail: &[u8], i: usize)
-    requires { ⌜ 6 * i + 6 ≤ length (now graph) ⌝ }
-{
-    let p = Record::LEN * i;
-    let from = graph[p + 1];
-    let label = graph[p + 2];
-    let to = graph[p + 3];
-    say_ends(from, to);
-    say(b" [label=\"");
-    if label == 0 {
-        say(b"step");
-    } else {
-        say(b"call ");
-        say_field(label);
-    }
-    say(b"\"");
-    say_if(is_run(trail, from, label, to), b", color=red");
-    say(b"];\n");
-}
-
-// A call that record i of the trail enters.
-fn say_entered(trail: &[u8], i: usize)
-    requires { ⌜ 6 * i + 6 ≤ length (now trail) ⌝ }
-{
-    let p = Record::LEN * i;
-    if trail[p + 2] == 2 {
-        say_ends(trail[p], trail[p + 4]);
-        say(b" [label=\"enters ");
-        say_field(trail[p + 3]);
-        say(b"\", style=dashed, color=red];\n");
-    }
-}
-
-fn say_nodes(graph: &[u8], trail: &[u8], nodes: usize) {
-    let end = at_most(nodes, graph.len() / Record::LEN);
-    let mut i = 0;
-    while i < end {
-        say_node(graph, trail, i);
+        say_node_of(stdout, nodes, trail, sheet, i, method);
         i += 1;
     }
 }
 
-fn say_edges(graph: &[u8], trail: &[u8], nodes: usize) {
-    let end = graph.len() / Record::LEN;
-    let mut i = nodes;
-    while i < end {
-        say_edge(graph, trail, i);
-        i += 1;
+// The box of a method, where it has nodes.
+fn say_method(stdout: &mut [u8; BUFFERED], nodes: &[u8], trail: &[u8], sheet: &[u8], method: u8) {
+    if is_in(nodes, 1, method) {
+        say(stdout, b"  subgraph cluster_");
+        say_decimal(stdout, method as u64);
+        say(stdout, b" {\n    label=\"method ");
+        say_decimal(stdout, method as u64);
+        say(stdout, b"\";\n");
+        say_nodes(stdout, nodes, trail, sheet, method);
+        say(stdout, b"  }\n");
     }
 }
 
-fn say_calls(trail: &[u8]) {
-    let end = trail.len() / Record::LEN;
-    let mut i = 0;
-    while i < end {
-        say_entered(trail, i);
-        i += 1;
+fn say_methods(stdout: &mut [u8; BUFFERED], nodes: &[u8], trail: &[u8], sheet: &[u8]) {
+    let mut method = 1;
+    while method < 9 {
+        say_method(stdout, nodes, trail, sheet, method);
+        method += 1;
     }
 }
 
-fn draw(graph: &[u8], trail: &[u8]) {
+// Sizes by which a joined graph of 24 nodes fits a screen.
+fn say_head(stdout: &mut [u8; BUFFERED]) {
+    say(stdout, b"digraph flow {\n  nodesep=0.3;\n  ranksep=0.4;\n");
+    say(
+        stdout,
+        b"  node [fontsize=11, width=0.3, height=0.3, margin=0.04, fillcolor=lightgrey];\n",
+    );
+    say(stdout, b"  edge [fontsize=10];\n");
+}
+
+// The legend stands last: what is set for the whole picture holds for the boxes that follow it.
+fn say_legend(stdout: &mut [u8; BUFFERED], trail: &[u8], sheet: &[u8]) {
+    say(
+        stdout,
+        b"  fontsize=10;\n  label=\"grey: entry, double line: return\\n0: internal step, 1-8: call of that method",
+    );
+    say_if(stdout, trail.len() > 0, b"\\nred: the trail, step by step");
+    say_if(
+        stdout,
+        sheet.len() > 0,
+        b"\\nred: rows that are false, and why",
+    );
+    say(stdout, b"\";\n}\n");
+}
+
+fn draw(stdout: &mut [u8; BUFFERED], graph: &[u8], trail: &[u8], sheet: &[u8]) {
     match check_graph(graph, 1, Limits::desk()) {
-        Checked::Refused(r) => say_refused(r),
+        Checked::Refused(r) => say_refused(stdout, r),
         Checked::Accepted { nodes, .. } => {
-            say(b"digraph flow {\n");
-            say_nodes(graph, trail, nodes);
-            say_edges(graph, trail, nodes);
-            say_calls(trail);
-            say(b"}\n");
+            let end = end_of(graph, Record::LEN * at_most(nodes, MOST));
+            say_head(stdout);
+            say_methods(stdout, &graph[..end], trail, sheet);
+            say_arrows(stdout, &graph[end..]);
+            say_red(stdout, trail, sheet);
+            say_legend(stdout, trail, sheet);
         }
     }
 }
 
-pub fn dot() {
+pub fn dot(stdout: &mut [u8; BUFFERED]) {
     let mut graph = io::large_buffer();
-    let g = load(2, &mut graph);
+    let g = load(stdout, 2, &mut graph);
     if g.ok {
         let end = g.length;
-        draw(&graph[..end], b"");
+        draw(stdout, &graph[..end], b"", b"");
     }
 }
 
-pub fn dot_with_trail() {
+// The graph with a trail or, where `sheet` says so, a fault sheet. No byte of a file tells the two apart.
+pub fn dot_with(stdout: &mut [u8; BUFFERED], sheet: bool) {
     let mut graph = io::large_buffer();
-    let g = load(2, &mut graph);
-    let mut trail = io::large_buffer();
-    let t = load(3, &mut trail);
-    if g.ok & t.ok {
-        let graph_end = g.length;
-        let trail_end = t.length;
-        draw(&graph[..graph_end], &trail[..trail_end]);
+    let mut lit = io::large_buffer();
+    let files = load_two(stdout, 2, &mut graph, &mut lit);
+    if files.ok {
+        let graph_end = files.first;
+        let lit_end = files.second;
+        if sheet {
+            draw(stdout, &graph[..graph_end], b"", &lit[..lit_end]);
+        } else {
+            draw(stdout, &graph[..graph_end], &lit[..lit_end], b"");
+        }
     }
 }

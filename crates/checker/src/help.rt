@@ -1,41 +1,73 @@
 // What the program takes and prints.
 use printing::say;
+use printing::stdout::BUFFERED;
 
-pub fn say_help() {
+// The seven calls.
+fn say_calls(stdout: &mut [u8; BUFFERED]) {
     say(
+        stdout,
         b"checker judge GRAPH PROPERTY                                does the graph satisfy the property?\n",
     );
     say(
+        stdout,
         b"checker compare FIRST SECOND                                does the second graph simulate the first?\n",
     );
     say(
+        stdout,
         b"checker model INTERFACE PROPERTY                            the most general module that the property allows\n",
     );
-    say(b"checker join INTERFACE1 GRAPH1 INTERFACE2 GRAPH2            two sides as one graph\n");
     say(
+        stdout,
+        b"checker join INTERFACE1 GRAPH1 INTERFACE2 GRAPH2            two sides as one graph\n",
+    );
+    say(
+        stdout,
         b"checker show GRAPH1 GRAPH2 NUMBER                           the record of a joined node\n",
     );
     say(
+        stdout,
         b"checker watch INTERFACE GRAPH RULES START                   does any run from method START turn the monitor bad?\n",
     );
     say(
+        stdout,
         b"checker compose INTERFACE GRAPH OTHER PROPERTY RULES START  the same with every module of the other interface that satisfies the property\n",
     );
+}
+
+// Listings and pictures.
+fn say_views(stdout: &mut [u8; BUFFERED]) {
     say(
+        stdout,
         b"checker text FILE                                           a file as a readable listing\n",
     );
     say(
+        stdout,
         b"checker pack LISTING                                        a readable listing, decimals and # comments, as bytes\n",
     );
     say(
+        stdout,
         b"checker dot GRAPH [TRAIL]                                   a graph in Graphviz' language, with the trail in red\n",
     );
-    say(b"checker help                                                this text\n");
-    say(b"\n");
     say(
+        stdout,
+        b"checker dot-sheet GRAPH SHEET                               the same with a fault sheet's false rows and their causes in red\n",
+    );
+    say(
+        stdout,
+        b"checker help                                                this text\n",
+    );
+}
+
+pub fn say_help(stdout: &mut [u8; BUFFERED]) {
+    say_calls(stdout);
+    say_views(stdout);
+    say(stdout, b"\n");
+    say(
+        stdout,
         b"Files are named in this order. The first line is the verdict; its first word is holds, fails, yes, no, written, shown, clean, bad, refused or error. Sheet, relation,\n",
     );
     say(
-        b"graph, record or trail follow as decimals, a record a line; with -o FILE as the last two arguments their bytes go to FILE instead.\n",
+        stdout,
+        b"graph, record or trail follow as decimals, a record a line, in a sheet, relation or trail with a note behind a #; with -o FILE as the last two\narguments their bytes go to FILE instead.\n",
     );
 }

@@ -4,78 +4,85 @@ use arguments::say_argument;
 use help::say_help;
 use printing::say;
 use printing::say_number;
+use printing::stdout::BUFFERED;
+use printing::stdout::flush;
+use printing::stdout::stdout;
 
 mod arguments;
+mod arrows;
 mod commands;
 mod dot;
 mod help;
+mod lit;
 mod load;
+mod notes;
 mod pack;
+mod ranges;
 mod refusals;
 mod results;
 mod text;
 
 // The command has as many arguments as it takes, or a line says how many.
-fn takes(given: usize, wanted: usize) -> bool {
+fn takes(stdout: &mut [u8; BUFFERED], given: usize, wanted: usize) -> bool {
     if given != wanted {
-        say(b"error ");
-        say_argument(1);
-        say(b" takes");
-        say_number(wanted as u64);
+        say(stdout, b"error ");
+        say_argument(stdout, 1);
+        say(stdout, b" takes");
+        say_number(stdout, wanted as u64);
         if wanted == 1 {
-            say(b" argument");
+            say(stdout, b" argument");
         } else {
-            say(b" arguments");
+            say(stdout, b" arguments");
         }
-        say(b"; checker help tells which\n");
+        say(stdout, b"; checker help tells which\n");
     }
     given == wanted
 }
 
-fn run_on_two(given: usize, at: usize) -> bool {
+fn run_on_two(stdout: &mut [u8; BUFFERED], given: usize, at: usize) -> bool {
     if is_word(1, b"judge") {
-        if takes(given, 2) {
-            commands::judge(at);
+        if takes(stdout, given, 2) {
+            commands::judge(stdout, at);
         }
         return true;
     }
     if is_word(1, b"compare") {
-        if takes(given, 2) {
-            commands::compare(at);
+        if takes(stdout, given, 2) {
+            commands::compare(stdout, at);
         }
         return true;
     }
     if is_word(1, b"model") {
-        if takes(given, 2) {
-            commands::model(at);
+        if takes(stdout, given, 2) {
+            commands::model(stdout, at);
         }
         return true;
     }
     false
 }
 
-fn run_on_sides(given: usize, at: usize) -> bool {
+fn run_on_sides(stdout: &mut [u8; BUFFERED], given: usize, at: usize) -> bool {
     if is_word(1, b"join") {
-        if takes(given, 4) {
-            commands::join(at);
+        if takes(stdout, given, 4) {
+            commands::join(stdout, at);
         }
         return true;
     }
     if is_word(1, b"show") {
-        if takes(given, 3) {
-            commands::show(at);
+        if takes(stdout, given, 3) {
+            commands::show(stdout, at);
         }
         return true;
     }
     if is_word(1, b"watch") {
-        if takes(given, 4) {
-            commands::watch(at);
+        if takes(stdout, given, 4) {
+            commands::watch(stdout, at);
         }
         return true;
     }
     if is_word(1, b"compose") {
-        if takes(given, 6) {
-            commands::compose(at);
+        if takes(stdout, given, 6) {
+            commands::compose(stdout, at);
         }
         return true;
     }
@@ -86,24 +93,30 @@ fn less(count: usize, words: usize) -> usize {
     if count < words { 0 } else { count - words }
 }
 
-fn run_on_listings(given: usize, at: usize) -> bool {
+fn run_on_listings(stdout: &mut [u8; BUFFERED], given: usize, at: usize) -> bool {
     if is_word(1, b"text") {
-        if takes(given, 1) {
-            text::text();
+        if takes(stdout, given, 1) {
+            text::text(stdout);
         }
         return true;
     }
     if is_word(1, b"pack") {
-        if takes(given, 1) {
-            pack::pack(at);
+        if takes(stdout, given, 1) {
+            pack::pack(stdout, at);
         }
         return true;
     }
     if is_word(1, b"dot") {
         if given == 2 {
-            dot::dot_with_trail();
-        } else if takes(given, 1) {
-            dot::dot();
+            dot::dot_with(stdout, false);
+        } else if takes(stdout, given, 1) {
+            dot::dot(stdout);
+        }
+        return true;
+    }
+    if is_word(1, b"dot-sheet") {
+        if takes(stdout, given, 2) {
+            dot::dot_with(stdout, true);
         }
         return true;
     }
@@ -122,10 +135,11 @@ fn output_at(count: usize) -> usize {
     }
 }
 
-fn main() {
+// What the arguments ask for.
+fn run(stdout: &mut [u8; BUFFERED]) {
     let count = os::arg_count();
     if (count < 2) | is_word(1, b"help") {
-        say_help();
+        say_help(stdout);
         return;
     }
     let at = output_at(count);
@@ -134,16 +148,22 @@ fn main() {
     } else {
         less(count, 4)
     };
-    if run_on_two(given, at) {
+    if run_on_two(stdout, given, at) {
         return;
     }
-    if run_on_sides(given, at) {
+    if run_on_sides(stdout, given, at) {
         return;
     }
-    if run_on_listings(given, at) {
+    if run_on_listings(stdout, given, at) {
         return;
     }
-    say(b"error no such command: ");
-    say_argument(1);
-    say(b"; checker help lists them\n");
+    say(stdout, b"error no such command: ");
+    say_argument(stdout, 1);
+    say(stdout, b"; checker help lists them\n");
+}
+
+fn main() {
+    let mut stdout = stdout();
+    run(&mut stdout);
+    flush(&mut stdout);
 }

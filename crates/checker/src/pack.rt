@@ -4,11 +4,11 @@ use crate::arguments::is_digit;
 use crate::arguments::longer;
 use crate::load::load;
 use crate::load::save;
-use crate::results::end_of;
-use libc::STDOUT_FILENO;
 use printing::at_most;
+use printing::end_of;
 use printing::say;
 use printing::say_number;
+use printing::stdout::BUFFERED;
 
 // Lines are counted up to this.
 const MOST: usize = 100000;
@@ -105,28 +105,28 @@ fn pack_all(listing: &[u8], out: &mut [u8]) -> Packing {
     ended(p, out)
 }
 
-fn give(out: &[u8], p: Packing, at: usize) {
+fn give(stdout: &mut [u8; BUFFERED], out: &[u8], p: Packing, at: usize) {
     if !p.ok {
-        say(b"error no decimal from 0 to 255 on line");
-        say_number(p.line as u64);
-        say(b"\n");
+        say(stdout, b"error no decimal from 0 to 255 on line");
+        say_number(stdout, p.line as u64);
+        say(stdout, b"\n");
         return;
     }
     let end = end_of(out, p.bytes);
     if at == 0 {
-        io::write_all(STDOUT_FILENO, &out[..end]);
+        say(stdout, &out[..end]);
     } else {
-        save(at, &out[..end]);
+        save(stdout, at, &out[..end]);
     }
 }
 
-pub fn pack(at: usize) {
+pub fn pack(stdout: &mut [u8; BUFFERED], at: usize) {
     let mut listing = io::large_buffer();
-    let f = load(2, &mut listing);
+    let f = load(stdout, 2, &mut listing);
     if f.ok {
         let end = f.length;
         let mut out = io::large_buffer();
         let p = pack_all(&listing[..end], &mut out);
-        give(&out, p, at);
+        give(stdout, &out, p, at);
     }
 }

@@ -1,6 +1,9 @@
-// Verdicts in one line of plain words, the first of them fit for scripts; then what the call wrote, as decimals, or to the file that argument `at` names where `at` is not 0.
+// Verdicts in one line of plain words, the first of them fit for scripts; then what the call wrote, as decimals with notes, or to the file that argument `at` names where `at` is not 0.
 ghost use Rattle.io.specs.Counts.{Counts};
 use crate::load::save;
+use crate::notes::say_relation;
+use crate::notes::say_sheet;
+use crate::notes::say_trail;
 use crate::refusals::say_refused;
 use files::encode::LINE;
 use files::record::Record;
@@ -8,99 +11,127 @@ use judging::answers::Compared;
 use judging::answers::Judged;
 use maximal::answers::Modelled;
 use printing::at_most;
+use printing::end_of;
 use printing::say;
 use printing::say_bytes;
-use printing::say_lines;
 use printing::say_number;
 use printing::say_records;
+use printing::stdout::BUFFERED;
 use runs::answers::Joined;
 use runs::answers::Verdict;
-
-// Where so many bytes end, or all that there are.
-pub fn end_of(out: &[u8], bytes: usize) -> usize
-    ensures { λ r. ⌜ Counts r (now (out .entry)) ⌝ }
-{
-    at_most(bytes, out.len())
-}
 
 // No result has more records than this: a fault sheet has at most 8,192.
 const MOST: usize = 10000;
 
-fn give_records(out: &[u8], records: usize, at: usize) {
+// Where so many records end.
+fn records_end(out: &[u8], records: usize) -> usize
+    ensures { λ r. ⌜ Counts r (now (out .entry)) ⌝ }
+{
+    end_of(out, Record::LEN * at_most(records, MOST))
+}
+
+fn give_graph(stdout: &mut [u8; BUFFERED], out: &[u8], nodes: usize, edges: usize, at: usize) {
+    let records = at_most(nodes, MOST) + at_most(edges, MOST);
     if at == 0 {
-        say_records(out, records);
+        say_records(stdout, out, records);
     } else {
-        let end = end_of(out, Record::LEN * at_most(records, MOST));
-        save(at, &out[..end]);
+        let end = records_end(out, records);
+        save(stdout, at, &out[..end]);
     }
 }
 
-fn give_graph(out: &[u8], nodes: usize, edges: usize, at: usize) {
-    let records = at_most(nodes, MOST) + at_most(edges, MOST);
-    give_records(out, records, at);
-}
-
-fn give_relation(out: &[u8], nodes: usize, at: usize) {
+fn give_relation(stdout: &mut [u8; BUFFERED], out: &[u8], nodes: usize, at: usize) {
     let end = end_of(out, LINE * at_most(nodes, MOST));
     if at == 0 {
-        say_lines(&out[..end]);
+        say_relation(stdout, &out[..end]);
     } else {
-        save(at, &out[..end]);
+        save(stdout, at, &out[..end]);
     }
 }
 
-fn say_counts(nodes: usize, edges: usize) {
-    say(b"written with");
-    say_number(nodes as u64);
-    say(b" nodes and");
-    say_number(edges as u64);
-    say(b" edges");
+fn give_sheet(stdout: &mut [u8; BUFFERED], out: &[u8], records: usize, property: &[u8], at: usize) {
+    let end = records_end(out, records);
+    if at == 0 {
+        say_sheet(stdout, &out[..end], property);
+    } else {
+        save(stdout, at, &out[..end]);
+    }
 }
 
-pub fn say_judged(answer: Judged, out: &[u8], at: usize) {
+fn give_trail(stdout: &mut [u8; BUFFERED], out: &[u8], records: usize, start: u8, at: usize) {
+    let end = records_end(out, records);
+    if at == 0 {
+        say_trail(stdout, &out[..end], start);
+    } else {
+        save(stdout, at, &out[..end]);
+    }
+}
+
+fn say_counts(stdout: &mut [u8; BUFFERED], nodes: usize, edges: usize) {
+    say(stdout, b"written with");
+    say_number(stdout, nodes as u64);
+    say(stdout, b" nodes and");
+    say_number(stdout, edges as u64);
+    say(stdout, b" edges");
+}
+
+// The property's rows are what the sheet's notes speak of.
+pub fn say_judged(
+    stdout: &mut [u8; BUFFERED],
+    answer: Judged,
+    out: &[u8],
+    property: &[u8],
+    at: usize,
+) {
     match answer {
         Judged::Holds => {
-            say(b"holds at every entry\n");
-            give_records(out, 0, at);
+            say(stdout, b"holds at every entry\n");
+            give_sheet(stdout, out, 0, property, at);
         }
         Judged::Fails(records) => {
-            say(b"fails with a fault sheet of");
-            say_number(records as u64);
-            say(b" records\n");
-            give_records(out, records, at);
+            say(stdout, b"fails with a fault sheet of");
+            say_number(stdout, records as u64);
+            say(stdout, b" records\n");
+            give_sheet(stdout, out, records, property, at);
         }
-        Judged::Refused(r) => say_refused(r),
+        Judged::Refused(r) => say_refused(stdout, r),
     }
 }
 
-pub fn say_compared(answer: Compared, out: &[u8], nodes: usize, at: usize) {
+pub fn say_compared(
+    stdout: &mut [u8; BUFFERED],
+    answer: Compared,
+    out: &[u8],
+    nodes: usize,
+    at: usize,
+) {
     match answer {
         Compared::Yes => {
-            say(b"yes the second simulates the first\n");
-            give_relation(out, nodes, at);
+            say(stdout, b"yes the second simulates the first\n");
+            give_relation(stdout, out, nodes, at);
         }
         Compared::No(entry) => {
-            say(b"no entry of the second covers entry");
-            say_number(entry as u64);
-            say(b" of the first\n");
-            give_relation(out, nodes, at);
+            say(stdout, b"no entry of the second covers entry");
+            say_number(stdout, entry as u64);
+            say(stdout, b" of the first\n");
+            give_relation(stdout, out, nodes, at);
         }
-        Compared::Refused(r) => say_refused(r),
+        Compared::Refused(r) => say_refused(stdout, r),
     }
 }
 
-pub fn say_modelled(answer: Modelled, out: &[u8], at: usize) {
+pub fn say_modelled(stdout: &mut [u8; BUFFERED], answer: Modelled, out: &[u8], at: usize) {
     match answer {
         Modelled::Written(nodes, edges) => {
-            say_counts(nodes, edges);
-            say(b"\n");
-            give_graph(out, nodes, edges, at);
+            say_counts(stdout, nodes, edges);
+            say(stdout, b"\n");
+            give_graph(stdout, out, nodes, edges, at);
         }
-        Modelled::Refused(r) => say_refused(r),
+        Modelled::Refused(r) => say_refused(stdout, r),
     }
 }
 
-pub fn say_joined(answer: Joined, out: &[u8], at: usize) {
+pub fn say_joined(stdout: &mut [u8; BUFFERED], answer: Joined, out: &[u8], at: usize) {
     match answer {
         Joined::Written {
             nodes,
@@ -108,39 +139,46 @@ pub fn say_joined(answer: Joined, out: &[u8], at: usize) {
             provided,
             required,
         } => {
-            say_counts(nodes, edges);
-            say(b", provided");
-            say_number(provided as u64);
-            say(b", required");
-            say_number(required as u64);
-            say(b"\n");
-            give_graph(out, nodes, edges, at);
+            say_counts(stdout, nodes, edges);
+            say(stdout, b", provided");
+            say_number(stdout, provided as u64);
+            say(stdout, b", required");
+            say_number(stdout, required as u64);
+            say(stdout, b"\n");
+            give_graph(stdout, out, nodes, edges, at);
         }
-        Joined::Refused(r) => say_refused(r),
+        Joined::Refused(r) => say_refused(stdout, r),
     }
 }
 
-pub fn say_shown(part: &[u8], at: usize) {
-    say(b"shown\n");
+pub fn say_shown(stdout: &mut [u8; BUFFERED], part: &[u8], at: usize) {
+    say(stdout, b"shown\n");
     if at == 0 {
-        say_bytes(part);
+        say_bytes(stdout, part);
     } else {
-        save(at, part);
+        save(stdout, at, part);
     }
 }
 
-pub fn say_watched(answer: Verdict, clean: &[u8], out: &[u8], at: usize) {
+pub fn say_watched(
+    stdout: &mut [u8; BUFFERED],
+    answer: Verdict,
+    clean: &[u8],
+    out: &[u8],
+    start: u8,
+    at: usize,
+) {
     match answer {
         Verdict::Clean => {
-            say(clean);
-            give_records(out, 0, at);
+            say(stdout, clean);
+            give_trail(stdout, out, 0, start, at);
         }
         Verdict::Bad(records) => {
-            say(b"bad by a trail of");
-            say_number(records as u64);
-            say(b" records\n");
-            give_records(out, records, at);
+            say(stdout, b"bad by a trail of");
+            say_number(stdout, records as u64);
+            say(stdout, b" records\n");
+            give_trail(stdout, out, records, start, at);
         }
-        Verdict::Refused(r) => say_refused(r),
+        Verdict::Refused(r) => say_refused(stdout, r),
     }
 }

@@ -6,190 +6,204 @@ use files::record::Record;
 use printing::say;
 use printing::say_decimal;
 use printing::say_number;
+use printing::stdout::BUFFERED;
 
-fn say_field(b: u8) {
-    say_number(b as u64);
+fn say_field(stdout: &mut [u8; BUFFERED], b: u8) {
+    say_number(stdout, b as u64);
 }
 
 // A flag in words, where it is set.
-fn say_flag(b: u8, words: &[u8]) {
+fn say_flag(stdout: &mut [u8; BUFFERED], b: u8, words: &[u8]) {
     if b != 0 {
-        say(words);
+        say(stdout, words);
     }
 }
 
-fn say_node(i: usize, method: u8, returns: u8, entry: u8) {
-    say(b"node");
-    say_number(i as u64);
-    say(b" in method");
-    say_field(method);
-    say_flag(returns, b", return");
-    say_flag(entry, b", entry");
+fn say_node(stdout: &mut [u8; BUFFERED], i: usize, method: u8, returns: u8, entry: u8) {
+    say(stdout, b"node");
+    say_number(stdout, i as u64);
+    say(stdout, b" in method");
+    say_field(stdout, method);
+    say_flag(stdout, returns, b", return");
+    say_flag(stdout, entry, b", entry");
 }
 
-fn say_edge(from: u8, label: u8, to: u8) {
-    say(b"from node");
-    say_field(from);
+fn say_edge(stdout: &mut [u8; BUFFERED], from: u8, label: u8, to: u8) {
+    say(stdout, b"from node");
+    say_field(stdout, from);
     if label == 0 {
-        say(b" an internal step");
+        say(stdout, b" an internal step");
     } else {
-        say(b" a call of method");
-        say_field(label);
+        say(stdout, b" a call of method");
+        say_field(stdout, label);
     }
-    say(b" to node");
-    say_field(to);
+    say(stdout, b" to node");
+    say_field(stdout, to);
 }
 
 // A row whose operator names two rows, or a label and a row.
-fn say_operands(op: u8, a: u8, b: u8) {
+fn say_operands(stdout: &mut [u8; BUFFERED], op: u8, a: u8, b: u8) {
     if op == 9 {
-        say(b"after every edge with label");
-        say_field(a);
-        say(b", row");
-        say_field(b);
+        say(stdout, b"after every edge with label");
+        say_field(stdout, a);
+        say(stdout, b", row");
+        say_field(stdout, b);
         return;
     }
-    say(b"row");
-    say_field(a);
+    say(stdout, b"row");
+    say_field(stdout, a);
     if op == 7 {
-        say(b" and row");
+        say(stdout, b" and row");
     } else {
-        say(b" or row");
+        say(stdout, b" or row");
     }
-    say_field(b);
+    say_field(stdout, b);
 }
 
-// Words about one method or one row.
-fn say_about(words: &[u8], number: u8) {
-    say(words);
-    say_field(number);
+// Words about one number.
+pub fn say_about(stdout: &mut [u8; BUFFERED], words: &[u8], number: u8) {
+    say(stdout, words);
+    say_field(stdout, number);
 }
 
-fn say_row(i: usize, op: u8, a: u8, b: u8) {
-    say(b"row");
-    say_number(i as u64);
-    say(b": ");
+// What a row asks for.
+pub fn say_formula(stdout: &mut [u8; BUFFERED], op: u8, a: u8, b: u8) {
     match op {
-        1 => say(b"true"),
-        2 => say(b"false"),
-        3 => say_about(b"in method", a),
-        4 => say_about(b"not in method", a),
-        5 => say(b"return"),
-        6 => say(b"not return"),
-        7 => say_operands(op, a, b),
-        8 => say_operands(op, a, b),
-        9 => say_operands(op, a, b),
-        10 => say_about(b"after every edge, row", a),
-        _ => say(b"no operator of this number"),
+        1 => say(stdout, b"true"),
+        2 => say(stdout, b"false"),
+        3 => say_about(stdout, b"in method", a),
+        4 => say_about(stdout, b"not in method", a),
+        5 => say(stdout, b"return"),
+        6 => say(stdout, b"not return"),
+        7 => say_operands(stdout, op, a, b),
+        8 => say_operands(stdout, op, a, b),
+        9 => say_operands(stdout, op, a, b),
+        10 => say_about(stdout, b"after every edge, row", a),
+        _ => say(stdout, b"no operator of this number"),
     }
 }
 
-fn say_rule(state: u8, event: u8, m1: u8, m2: u8, next: u8) {
-    say(b"in state");
-    say_field(state);
-    say(b" method");
-    say_field(m1);
+fn say_row(stdout: &mut [u8; BUFFERED], i: usize, op: u8, a: u8, b: u8) {
+    say(stdout, b"row");
+    say_number(stdout, i as u64);
+    say(stdout, b": ");
+    say_formula(stdout, op, a, b);
+}
+
+fn say_rule(stdout: &mut [u8; BUFFERED], state: u8, event: u8, m1: u8, m2: u8, next: u8) {
+    say(stdout, b"in state");
+    say_field(stdout, state);
+    say(stdout, b" method");
+    say_field(stdout, m1);
     if event == 1 {
-        say(b" calls");
+        say(stdout, b" calls");
     } else {
-        say(b" returns to");
+        say(stdout, b" returns to");
     }
-    say_field(m2);
-    say(b": state");
-    say_field(next);
+    say_field(stdout, m2);
+    say(stdout, b": state");
+    say_field(stdout, next);
 }
 
 // Method k + 1, where its bit of weight 2^k is set.
-fn say_member(set: u8, k: u8) {
+fn say_member(stdout: &mut [u8; BUFFERED], set: u8, k: u8) {
     if k < 8 {
         if (set >> k) % 2 == 1 {
-            say_field(k + 1);
+            say_field(stdout, k + 1);
         }
     }
 }
 
 // The methods of a set.
-fn say_methods(set: u8) {
+fn say_methods(stdout: &mut [u8; BUFFERED], set: u8) {
     let mut k = 0;
     while k < 8 {
-        say_member(set, k);
+        say_member(stdout, set, k);
         k += 1;
     }
     if set == 0 {
-        say(b" nothing");
+        say(stdout, b" nothing");
     }
 }
 
-fn say_interface(provided: u8, required: u8) {
-    say(b"provides");
-    say_methods(provided);
-    say(b", requires");
-    say_methods(required);
+fn say_interface(stdout: &mut [u8; BUFFERED], provided: u8, required: u8) {
+    say(stdout, b"provides");
+    say_methods(stdout, provided);
+    say(stdout, b", requires");
+    say_methods(stdout, required);
 }
 
 // What record i says, whose six bytes these are.
-fn say_meaning(i: usize, r: &[u8])
+fn say_meaning(stdout: &mut [u8; BUFFERED], i: usize, r: &[u8])
     requires { ⌜ 6 ≤ length (now r) ⌝ }
 {
     let kind = r[0];
     match kind {
-        1 => say_node(i, r[1], r[2], r[3]),
-        2 => say_edge(r[1], r[2], r[3]),
-        3 => say_row(i, r[1], r[2], r[3]),
-        4 => say_rule(r[1], r[2], r[3], r[4], r[5]),
-        5 => say_interface(r[1], r[2]),
-        _ => say(b"no record of this kind"),
+        1 => say_node(stdout, i, r[1], r[2], r[3]),
+        2 => say_edge(stdout, r[1], r[2], r[3]),
+        3 => say_row(stdout, i, r[1], r[2], r[3]),
+        4 => say_rule(stdout, r[1], r[2], r[3], r[4], r[5]),
+        5 => say_interface(stdout, r[1], r[2]),
+        _ => say(stdout, b"no record of this kind"),
     }
 }
 
 // Bytes as decimals, with a space after each.
-fn say_decimals(bytes: &[u8]) {
+pub fn say_decimals(stdout: &mut [u8; BUFFERED], bytes: &[u8]) {
     let mut k = 0;
     while k < bytes.len() {
-        say_byte(bytes[k]);
+        say_byte(stdout, bytes[k]);
         k += 1;
     }
 }
 
-fn say_byte(b: u8) {
-    say_decimal(b as u64);
-    say(b" ");
+fn say_byte(stdout: &mut [u8; BUFFERED], b: u8) {
+    say_decimal(stdout, b as u64);
+    say(stdout, b" ");
 }
 
-fn say_line(file: &[u8], i: usize)
+// Record i up to its note.
+pub fn say_record(stdout: &mut [u8; BUFFERED], file: &[u8], i: usize)
     requires { ⌜ 6 * i + 6 ≤ length (now file) ⌝ }
 {
     let p = Record::LEN * i;
-    say_decimals(&file[p..p + Record::LEN]);
-    say(b" # ");
-    say_meaning(i, &file[p..p + Record::LEN]);
-    say(b"\n");
+    say_decimals(stdout, &file[p..p + Record::LEN]);
+    say(stdout, b" # ");
+}
+
+fn say_line(stdout: &mut [u8; BUFFERED], file: &[u8], i: usize)
+    requires { ⌜ 6 * i + 6 ≤ length (now file) ⌝ }
+{
+    let p = Record::LEN * i;
+    say_record(stdout, file, i);
+    say_meaning(stdout, i, &file[p..p + Record::LEN]);
+    say(stdout, b"\n");
 }
 
 // The bytes after the last whole record.
-fn say_rest(file: &[u8]) {
+fn say_rest(stdout: &mut [u8; BUFFERED], file: &[u8]) {
     let whole = Record::LEN * (file.len() / Record::LEN);
     if whole < file.len() {
-        say_decimals(&file[whole..]);
-        say(b" # no whole record\n");
+        say_decimals(stdout, &file[whole..]);
+        say(stdout, b" # no whole record\n");
     }
 }
 
-fn list(file: &[u8]) {
+fn list(stdout: &mut [u8; BUFFERED], file: &[u8]) {
     let end = file.len() / Record::LEN;
     let mut i = 0;
     while i < end {
-        say_line(file, i);
+        say_line(stdout, file, i);
         i += 1;
     }
-    say_rest(file);
+    say_rest(stdout, file);
 }
 
-pub fn text() {
+pub fn text(stdout: &mut [u8; BUFFERED]) {
     let mut file = io::large_buffer();
-    let f = load(2, &mut file);
+    let f = load(stdout, 2, &mut file);
     if f.ok {
         let end = f.length;
-        list(&file[..end]);
+        list(stdout, &file[..end]);
     }
 }

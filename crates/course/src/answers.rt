@@ -9,80 +9,81 @@ use printing::say_graph;
 use printing::say_lines;
 use printing::say_number;
 use printing::say_records;
+use printing::stdout::BUFFERED;
 use runs::answers::Joined;
 use runs::answers::Verdict;
 
-pub(crate) fn say_refused(r: Refusal) {
-    say(b": refused");
-    say_number(r.number as u64);
-    say_number(r.file as u64);
-    say_number(r.record as u64);
+pub(crate) fn say_refused(stdout: &mut [u8; BUFFERED], r: Refusal) {
+    say(stdout, b": refused");
+    say_number(stdout, r.number as u64);
+    say_number(stdout, r.file as u64);
+    say_number(stdout, r.record as u64);
 }
 
-pub(crate) fn say_checked(c: Checked) {
+pub(crate) fn say_checked(stdout: &mut [u8; BUFFERED], c: Checked) {
     match c {
         Checked::Accepted { nodes, records } => {
-            say(b": accepted");
-            say_number(nodes as u64);
-            say_number(records as u64);
+            say(stdout, b": accepted");
+            say_number(stdout, nodes as u64);
+            say_number(stdout, records as u64);
         }
-        Checked::Refused(r) => say_refused(r),
+        Checked::Refused(r) => say_refused(stdout, r),
     }
-    say(b"\n");
+    say(stdout, b"\n");
 }
 
-pub(crate) fn say_judged(answer: Judged, out: &[u8]) {
+pub(crate) fn say_judged(stdout: &mut [u8; BUFFERED], answer: Judged, out: &[u8]) {
     match answer {
-        Judged::Holds => say(b": holds\n"),
+        Judged::Holds => say(stdout, b": holds\n"),
         Judged::Fails(n) => {
-            say(b": fails");
-            say_number(n as u64);
-            say(b"\n");
-            say_records(out, n);
+            say(stdout, b": fails");
+            say_number(stdout, n as u64);
+            say(stdout, b"\n");
+            say_records(stdout, out, n);
         }
         Judged::Refused(r) => {
-            say_refused(r);
-            say(b"\n");
+            say_refused(stdout, r);
+            say(stdout, b"\n");
         }
     }
 }
 
-pub(crate) fn say_compared(answer: Compared, out: &[u8]) {
+pub(crate) fn say_compared(stdout: &mut [u8; BUFFERED], answer: Compared, out: &[u8]) {
     match answer {
         Compared::Yes => {
-            say(b": yes\n");
-            say_lines(out);
+            say(stdout, b": yes\n");
+            say_lines(stdout, out);
         }
         Compared::No(g) => {
-            say(b": no");
-            say_number(g as u64);
-            say(b"\n");
-            say_lines(out);
+            say(stdout, b": no");
+            say_number(stdout, g as u64);
+            say(stdout, b"\n");
+            say_lines(stdout, out);
         }
         Compared::Refused(r) => {
-            say_refused(r);
-            say(b"\n");
+            say_refused(stdout, r);
+            say(stdout, b"\n");
         }
     }
 }
 
-pub(crate) fn say_modelled(answer: Modelled, out: &[u8]) {
+pub(crate) fn say_modelled(stdout: &mut [u8; BUFFERED], answer: Modelled, out: &[u8]) {
     match answer {
         Modelled::Written(nodes, edges) => {
-            say(b": written");
-            say_number(nodes as u64);
-            say_number(edges as u64);
-            say(b"\n");
-            say_graph(out, nodes, edges);
+            say(stdout, b": written");
+            say_number(stdout, nodes as u64);
+            say_number(stdout, edges as u64);
+            say(stdout, b"\n");
+            say_graph(stdout, out, nodes, edges);
         }
         Modelled::Refused(r) => {
-            say_refused(r);
-            say(b"\n");
+            say_refused(stdout, r);
+            say(stdout, b"\n");
         }
     }
 }
 
-pub(crate) fn say_joined(answer: Joined, out: &[u8]) {
+pub(crate) fn say_joined(stdout: &mut [u8; BUFFERED], answer: Joined, out: &[u8]) {
     match answer {
         Joined::Written {
             nodes,
@@ -90,33 +91,33 @@ pub(crate) fn say_joined(answer: Joined, out: &[u8]) {
             provided,
             required,
         } => {
-            say(b": written");
-            say_number(nodes as u64);
-            say_number(edges as u64);
-            say_number(provided as u64);
-            say_number(required as u64);
-            say(b"\n");
-            say_graph(out, nodes, edges);
+            say(stdout, b": written");
+            say_number(stdout, nodes as u64);
+            say_number(stdout, edges as u64);
+            say_number(stdout, provided as u64);
+            say_number(stdout, required as u64);
+            say(stdout, b"\n");
+            say_graph(stdout, out, nodes, edges);
         }
         Joined::Refused(r) => {
-            say_refused(r);
-            say(b"\n");
+            say_refused(stdout, r);
+            say(stdout, b"\n");
         }
     }
 }
 
-pub(crate) fn say_watched(answer: Verdict, out: &[u8]) {
+pub(crate) fn say_watched(stdout: &mut [u8; BUFFERED], answer: Verdict, out: &[u8]) {
     match answer {
-        Verdict::Clean => say(b": clean\n"),
+        Verdict::Clean => say(stdout, b": clean\n"),
         Verdict::Bad(n) => {
-            say(b": bad");
-            say_number(n as u64);
-            say(b"\n");
-            say_records(out, n);
+            say(stdout, b": bad");
+            say_number(stdout, n as u64);
+            say(stdout, b"\n");
+            say_records(stdout, out, n);
         }
         Verdict::Refused(r) => {
-            say_refused(r);
-            say(b"\n");
+            say_refused(stdout, r);
+            say(stdout, b"\n");
         }
     }
 }

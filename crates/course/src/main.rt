@@ -10,6 +10,9 @@ use crate::sides::show_node;
 use crate::watched::compose_sides;
 use crate::watched::watch_runs;
 use printing::say;
+use printing::stdout::BUFFERED;
+use printing::stdout::flush;
+use printing::stdout::stdout;
 
 mod answers;
 mod lengths;
@@ -21,7 +24,7 @@ mod watched;
 const LONGEST: usize = 60000;
 
 // The example that argument i names.
-fn one(i: usize) {
+fn one(stdout: &mut [u8; BUFFERED], i: usize) {
     let mut name = io::buffer();
     let length = os::arg(i, &mut name);
     let fd = os::open_read(&name[..length]);
@@ -32,35 +35,37 @@ fn one(i: usize) {
     let mut file = [0u8; LONGEST];
     let n = io::read_full(fd, &mut file);
     libc::close(fd);
-    say(&name[..length]);
+    say(stdout, &name[..length]);
     if (name[0] == b'j') & (name[1] == b'o') {
-        join_sides(&file[..n]);
+        join_sides(stdout, &file[..n]);
         return;
     }
     if name[0] == b's' {
-        show_node(&file[..n]);
+        show_node(stdout, &file[..n]);
         return;
     }
     if name[0] == b'w' {
-        watch_runs(&file[..n]);
+        watch_runs(stdout, &file[..n]);
         return;
     }
     if (name[0] == b'c') & (name[4] == b'o') {
-        compose_sides(&file[..n]);
+        compose_sides(stdout, &file[..n]);
         return;
     }
     if (name[0] == b'j') | (name[0] == b'c') | (name[0] == b'm') {
-        call(name[0], &file[..n]);
+        call(stdout, name[0], &file[..n]);
         return;
     }
-    say_checked(check(name[0], &file[..n]));
+    say_checked(stdout, check(name[0], &file[..n]));
 }
 
 fn main() {
     let n = os::arg_count();
+    let mut stdout = stdout();
     let mut i: usize = 1;
     while i < n {
-        one(i);
+        one(&mut stdout, i);
         i = i + 1;
     }
+    flush(&mut stdout);
 }

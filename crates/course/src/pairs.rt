@@ -10,6 +10,7 @@ use crate::lengths::work_length;
 use files::check::Checked;
 use files::record::Limits;
 use files::record::Record;
+use printing::stdout::BUFFERED;
 
 pub(crate) fn check(letter: u8, file: &[u8]) -> Checked {
     if letter == b'g' {
@@ -25,6 +26,7 @@ pub(crate) fn check(letter: u8, file: &[u8]) -> Checked {
 }
 
 fn call_on(
+    stdout: &mut [u8; BUFFERED],
     letter: u8,
     first: &[u8],
     second: &[u8],
@@ -37,21 +39,21 @@ fn call_on(
 {
     if letter == b'j' {
         let answer = judging::judge(first, second, &mut out[..room], &mut work[..lent]);
-        say_judged(answer, &out[..room]);
+        say_judged(stdout, answer, &out[..room]);
         return;
     }
     if letter == b'm' {
         let answer = maximal::model(first, second, &mut out[..room], &mut work[..lent]);
-        say_modelled(answer, &out[..room]);
+        say_modelled(stdout, answer, &out[..room]);
         return;
     }
     let answer = judging::compare(first, second, &mut out[..room], &mut work[..lent]);
-    say_compared(answer, &out[..room]);
+    say_compared(stdout, answer, &out[..room]);
 }
 
 // A call on two files. The example starts with the first file's length and the output's length, two bytes each, low byte first, then 1 for a work buffer of the
 // published length or 0 for none, then 0; the first file and the second follow.
-pub(crate) fn call(letter: u8, example: &[u8]) {
+pub(crate) fn call(stdout: &mut [u8; BUFFERED], letter: u8, example: &[u8]) {
     if example.len() < Record::LEN {
         return;
     }
@@ -64,6 +66,7 @@ pub(crate) fn call(letter: u8, example: &[u8]) {
     let mut out = [0u8; 65536];
     let mut work = work_buffer();
     call_on(
+        stdout,
         letter,
         &example[Record::LEN..split],
         &example[split..],

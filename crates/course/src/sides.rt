@@ -6,9 +6,11 @@ use crate::answers::say_refused;
 use crate::lengths::two_bytes;
 use printing::say;
 use printing::say_bytes;
+use printing::stdout::BUFFERED;
 use runs::answers::Shown;
 
 fn join_on(
+    stdout: &mut [u8; BUFFERED],
     interface1: &[u8],
     graph1: &[u8],
     interface2: &[u8],
@@ -19,11 +21,11 @@ fn join_on(
     requires { ⌜ room ≤ length (now out) ⌝ }
 {
     let answer = runs::join(interface1, graph1, interface2, graph2, &mut out[..room]);
-    say_joined(answer, &out[..room]);
+    say_joined(stdout, answer, &out[..room]);
 }
 
 // Joining. The example starts with the lengths of the first three files and of the output, two bytes each, low byte first; the four files follow.
-pub(crate) fn join_sides(example: &[u8]) {
+pub(crate) fn join_sides(stdout: &mut [u8; BUFFERED], example: &[u8]) {
     if example.len() < 8 {
         return;
     }
@@ -36,6 +38,7 @@ pub(crate) fn join_sides(example: &[u8]) {
     }
     let mut out = [0u8; 65536];
     join_on(
+        stdout,
         &example[8..first],
         &example[first..second],
         &example[second..third],
@@ -46,7 +49,7 @@ pub(crate) fn join_sides(example: &[u8]) {
 }
 
 // Showing. The example starts with the first graph's length and the number, two bytes each, low byte first; both graphs follow.
-pub(crate) fn show_node(example: &[u8]) {
+pub(crate) fn show_node(stdout: &mut [u8; BUFFERED], example: &[u8]) {
     if example.len() < 4 {
         return;
     }
@@ -57,12 +60,15 @@ pub(crate) fn show_node(example: &[u8]) {
     }
     match runs::show_refusal(&example[4..split], &example[split..], number) {
         Shown::Part => {
-            say(b": shown\n");
-            say_bytes(runs::show(&example[4..split], &example[split..], number));
+            say(stdout, b": shown\n");
+            say_bytes(
+                stdout,
+                runs::show(&example[4..split], &example[split..], number),
+            );
         }
         Shown::Refused(r) => {
-            say_refused(r);
-            say(b"\n");
+            say_refused(stdout, r);
+            say(stdout, b"\n");
         }
     }
 }

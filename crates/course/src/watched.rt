@@ -5,8 +5,10 @@ use crate::answers::say_watched;
 use crate::lengths::two_bytes;
 use crate::lengths::work_buffer;
 use crate::lengths::work_length;
+use printing::stdout::BUFFERED;
 
 fn watch_on(
+    stdout: &mut [u8; BUFFERED],
     interface: &[u8],
     graph: &[u8],
     rules: &[u8],
@@ -26,12 +28,12 @@ fn watch_on(
         &mut out[..room],
         &mut work[..lent],
     );
-    say_watched(answer, &out[..room]);
+    say_watched(stdout, answer, &out[..room]);
 }
 
 // Watching. The example starts with the lengths of the first two files and of the output, two bytes each, low byte first, then 1 for a work buffer of the published
 // length or 0 for none, and the start method; the three files follow.
-pub(crate) fn watch_runs(example: &[u8]) {
+pub(crate) fn watch_runs(stdout: &mut [u8; BUFFERED], example: &[u8]) {
     if example.len() < 8 {
         return;
     }
@@ -45,6 +47,7 @@ pub(crate) fn watch_runs(example: &[u8]) {
     let mut out = [0u8; 65536];
     let mut work = work_buffer();
     watch_on(
+        stdout,
         &example[8..first],
         &example[first..second],
         &example[second..],
@@ -57,6 +60,7 @@ pub(crate) fn watch_runs(example: &[u8]) {
 }
 
 fn compose_on(
+    stdout: &mut [u8; BUFFERED],
     known_interface: &[u8],
     known_graph: &[u8],
     other_interface: &[u8],
@@ -83,12 +87,12 @@ fn compose_on(
         &mut store[..held],
         &mut work[..lent],
     );
-    say_watched(answer, &out[..room]);
+    say_watched(stdout, answer, &out[..room]);
 }
 
 // The composed verdict. The example starts with the lengths of the first four files and of the output, two bytes each, low byte first, then 1 for a store of the
 // published length or 0 for none, the same for a work buffer, and the start method; the five files follow.
-pub(crate) fn compose_sides(example: &[u8]) {
+pub(crate) fn compose_sides(stdout: &mut [u8; BUFFERED], example: &[u8]) {
     if example.len() < 13 {
         return;
     }
@@ -106,6 +110,7 @@ pub(crate) fn compose_sides(example: &[u8]) {
     let mut store = work_buffer();
     let mut work = work_buffer();
     compose_on(
+        stdout,
         &example[13..first],
         &example[first..second],
         &example[second..third],

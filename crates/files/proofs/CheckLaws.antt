@@ -1,38 +1,29 @@
--- What the code of a check asks for: tests on a record and the one before it, what number 5 counts, a scan of several numbers, the steps, and a part of a file.
+-- What the code of a check asks for: the record before one, what number 5 counts, a pass over the records, and the steps.
 use mathlib.Core.Path.{_≡_, refl, sym, ap, ap₂, _∙_}
-use mathlib.Core.Bool.{Bool, false, true, cond, _||_}
+use mathlib.Core.Bool.{Bool, false, true}
 use mathlib.Core.Option.{none}
 use mathlib.Core.List.{List}
-use Prim.Native.Nat.{ℕ, zero, suc, _+_, _-_, _*_, _≤_, _<_, _%_}
+use Prim.Native.Nat.{ℕ, zero, suc, _+_, _-_, _≤_, _%_}
 use native.Mathlib.Nat.{add-comm}
 use native.Mathlib.Omega.{arith}
 use native.Mathlib.Numerals.{add-one}
-use lib.Dec.{ltb, eqb}
+use lib.Dec.{eqb}
 use Rattle.files.specs.Basics.Tests.{one}
 use Rattle.files.specs.Basics.Tables.{tally, tally-le}
 use Rattle.files.specs.Basics.First.{first-where, first-miss}
-use Rattle.files.specs.Record.{kind-at, count, part}
+use Rattle.files.specs.Record.{kind-at, count}
 use Rattle.files.specs.Refusal.{edge-before, Kind, graph, property, rules, interface, missing}
-use Rattle.files.specs.Checking.{parsed-at, edges-out, rules-out, disordered-at, counts, counted, nodes-in, nodes-with, bound-with, bound-of, missing-with, scanned, unless, first-offending, over, checked, from-two, from-five, from-seven}
+use Rattle.files.specs.Checking.{found-at, lower, lowest, counts, counted, nodes-in, nodes-with, bound-with, bound-of, missing-with, unless, over, checked, from-two, from-five, from-seven}
 use lib.ListN.{length}
-use borrow.Author.Tests.{lt-ltb, le-ltb}
 use Rattle.files.specs.Outcome.{refusal-at}
 use Rattle.files.specs.declared.check.Checked.the-variants.{Accepted, Refused}
-use Rattle.files.specs.declared.scan.Found.{Found}
-use Rattle.files.specs.declared.scan.Found.the-variants.{Nothing, At}
+use Rattle.files.specs.declared.offence.Found.{Found}
 use Rattle.files.specs.declared.record.Limits.{Limits}
-use Rattle.files.specs.Checking.Laws.{counted-is, scanned-none, scanned-more, from-seven-is, from-five-is, from-two-is, from-one-is, checked-steps}
+use Rattle.files.specs.Checking.Laws.{counted-is, lowest-more, from-seven-is, from-five-is, from-two-is, from-one-is, checked-steps}
 
 pub edge-before-at : (l : List ℕ) (i : ℕ) → (i ≡ 0 → ⊥) → eqb (kind-at l (i - 1)) 2 ≡ edge-before l i
 edge-before-at l zero h = absurd (h refl)
 edge-before-at l (suc i) h = let e : suc i - 1 ≡ i = omega arith in ap (λ (n : ℕ). eqb (kind-at l n) 2) e
-
-pub disordered-after : (l : List ℕ) (i : ℕ) → (i ≡ 0 → ⊥)
-    → (edges-out (parsed-at l (i - 1)) (parsed-at l i) || rules-out (parsed-at l (i - 1)) (parsed-at l i)) ≡ disordered-at l i
-disordered-after l zero h = absurd (h refl)
-disordered-after l (suc i) h =
-    let e : suc i - 1 ≡ i = omega arith in
-    ap (λ (n : ℕ). edges-out (parsed-at l n) (parsed-at l (suc i)) || rules-out (parsed-at l n) (parsed-at l (suc i))) e
 
 -- ---- counting
 
@@ -54,12 +45,6 @@ counted-le k l = rw (counted-is k l) (tally-le (counts k l) (count l))
 pub bound-is : (k : Kind) (l : List ℕ) (c : ℕ) → c ≡ counted k l → bound-with k c (count l) ≡ bound-of k l
 bound-is k l c e = ap (λ (x : ℕ). bound-with k x (count l)) e
 
-pub bound-fits : (k : Kind) (l : List ℕ) → 6 * bound-of k l ≤ length l
-bound-fits graph l = omega (arith, counted-le graph l)
-bound-fits property l = omega arith
-bound-fits rules l = omega arith
-bound-fits interface l = omega arith
-
 pub nodes-are : (k : Kind) (l : List ℕ) (c : ℕ) → c ≡ counted k l → nodes-with k c ≡ nodes-in k l
 nodes-are graph l c e = e ∙ counted-is graph l
 nodes-are property l c e = refl
@@ -72,38 +57,25 @@ missing-is property l = refl
 missing-is rules l = refl
 missing-is interface l = refl
 
--- ---- a scan from a number on, up to `past`
+-- ---- a pass over the records
 
-module _ (k : Kind) (l : List ℕ) (b first position : ℕ) where
-  more : (past n : ℕ) → n < past → past - n ≡ suc (past - (n + 1))
-  more past n h = omega arith
-
-  next : (past n : ℕ) → n < past → scanned (past - n) n k l b first position ≡ cond (ltb (first-offending n k l b) (count l)) (At (refusal-at n position (first + first-offending n k l b))) (scanned (past - (n + 1)) (suc n) k l b first position)
-  next past n h = ap (λ (m : ℕ). scanned m n k l b first position) (more past n h) ∙ scanned-more (past - (n + 1)) n k l b first position
-
-  pub scanned-found : (past n i : ℕ) → n < past → i ≡ first-offending n k l b → i < count l
-      → At (refusal-at n position (first + i)) ≡ scanned (past - n) n k l b first position
-  scanned-found past n i h e f = rw (next past n h, ← e, lt-ltb i (count l) f) refl
-
-  pub scanned-on : (past n i : ℕ) → n < past → i ≡ first-offending n k l b → count l ≤ i
-      → scanned (past - (n + 1)) (n + 1) k l b first position ≡ scanned (past - n) n k l b first position
-  scanned-on past n i h e f = rw (next past n h, ← e, le-ltb i (count l) f, add-one) refl
-
-  pub scanned-past : (past n : ℕ) → past ≤ n → Nothing ≡ scanned (past - n) n k l b first position
-  scanned-past past n h = let e : past - n ≡ 0 = omega arith in rw (e, scanned-none) refl
+-- one record more
+pub lowest-on : (many n : ℕ) (k : Kind) (l : List ℕ) (first position i : ℕ) (x y z : Found) → x ≡ lowest many n k l first position i
+    → y ≡ found-at many n k l first position i → z ≡ lower x y → z ≡ lowest many n k l first position (i + 1)
+lowest-on many n k l first position i x y z d e f =
+    f ∙ ap₂ lower d e ∙ sym (lowest-more many n k l first position i) ∙ ap (lowest many n k l first position) (sym (add-one i))
 
 -- ---- the steps
 
--- what the scan of numbers 7 and 8 found, with what number 5 counted
-pub seven-scan : (k : Kind) (l : List ℕ) (first position c b : ℕ) (f : Found) → c ≡ counted k l → b ≡ bound-with k c (count l) → f ≡ scanned 2 7 k l b first position
+-- what the pass for numbers 7 and 8 found, with what number 5 counted
+pub seven-scan : (k : Kind) (l : List ℕ) (first position c : ℕ) (f : Found) → c ≡ counted k l → f ≡ lowest 2 7 k l first position (count l)
     → unless f (Accepted (nodes-with k c) (count l)) ≡ from-seven k l first position
-seven-scan k l first position c b f e h g =
-    ap₂ (λ (x : Found) (n : ℕ). unless x (Accepted n (count l))) (g ∙ ap (λ (m : ℕ). scanned 2 7 k l m first position) (h ∙ bound-is k l c e)) (nodes-are k l c e)
-    ∙ sym (from-seven-is k l first position)
+seven-scan k l first position c f e g =
+    ap₂ (λ (x : Found) (n : ℕ). unless x (Accepted n (count l))) g (nodes-are k l c e) ∙ sym (from-seven-is k l first position)
 
 module _ (L : Limits) (k : Kind) (l : List ℕ) (first position : ℕ) where
-  -- what the scan of numbers 2 to 4 found
-  pub two-scan : (f : Found) → f ≡ scanned 3 2 k l 0 first position → unless f (from-five L k l first position) ≡ from-two L k l first position
+  -- what the pass for numbers 2 to 4 found
+  pub two-scan : (f : Found) → f ≡ lowest 3 2 k l first position (count l) → unless f (from-five L k l first position) ≡ from-two L k l first position
   two-scan f g = ap (λ (x : Found). unless x (from-five L k l first position)) g ∙ sym (from-two-is L k l first position)
 
   pub five-over : over L k l ≡ true → Refused (refusal-at 5 position 0) ≡ from-five L k l first position

@@ -1,6 +1,6 @@
 -- A record that does not read as the kind looked for: a test that asks for that kind only says of it what it says of Other. The tags are those of the enum's variants, in order.
 use mathlib.Core.Path.{_≡_, refl, sym, ap, subst, _∙_}
-use mathlib.Core.Bool.{Bool, false, cond}
+use mathlib.Core.Bool.{Bool, cond}
 use mathlib.Core.List.{List, [], _∷_}
 use Prim.Native.Nat.{ℕ, _≤_}
 use native.Mathlib.Omega.{arith}
@@ -15,7 +15,7 @@ use Rattle.files.specs.Record.{parsed, parsed-as}
 use Rattle.files.specs.Record.Laws.{kind-read, as-same}
 use Rattle.files.specs.Interface.{Interface as Sets}
 use Rattle.files.specs.Sides.{foreign-node, foreign-call}
-use Rattle.files.specs.Checking.{is-wrong, edge-out, edges-out, rule-out, rules-out, edge-past, row-past, method-of, crossing-of, is-or-of}
+use Rattle.files.specs.Checking.{unread-number}
 use Rattle.files.proofs.record.Parsed
 
 -- ---- the tags of the records that do not read as kind k
@@ -92,57 +92,14 @@ asked-as k f a h r = as-same k r f h (elsewhere k f a)
 abbrev pub but-wrong : List ℕ
 but-wrong = 0 ∷ 1 ∷ 2 ∷ 3 ∷ 4 ∷ 6 ∷ []
 
-pub not-wrong : (x : Parsed) → OneOf but-wrong (tagOf Parsed.the-type x) → false ≡ is-wrong x
-not-wrong (Node m r e) k = refl
-not-wrong (Edge f l t) k = refl
-not-wrong (Row o a b) k = refl
-not-wrong (Rule q v m n p) k = refl
-not-wrong (Interface p q) k = refl
-not-wrong Wrong k = absurd (miss but-wrong 5 tt k)
-not-wrong Other k = refl
-
-no-second-edge : (x y : Parsed) → (kind-read y ≡ 2 → ⊥) → edges-out x Other ≡ edges-out x y
-no-second-edge (Node m r e) y k = refl
-no-second-edge (Edge f l t) y k = elsewhere 2 (edge-out f l t) refl y k
-no-second-edge (Row o a b) y k = refl
-no-second-edge (Rule q v m n s) y k = refl
-no-second-edge (Interface p q) y k = refl
-no-second-edge Wrong y k = refl
-no-second-edge Other y k = refl
-
-no-second-rule : (x y : Parsed) → (kind-read y ≡ 4 → ⊥) → rules-out x Other ≡ rules-out x y
-no-second-rule (Node m r e) y k = refl
-no-second-rule (Edge f l t) y k = refl
-no-second-rule (Row o a b) y k = refl
-no-second-rule (Rule q v m n s) y k = elsewhere 4 (rule-out q v m n) refl y k
-no-second-rule (Interface p q) y k = refl
-no-second-rule Wrong y k = refl
-no-second-rule Other y k = refl
-
-pub edges-as : (r s : Record) → edges-out (parsed-as 2 r) (parsed-as 2 s) ≡ edges-out (parsed r) (parsed s)
-edges-as r s =
-    asked-as 2 (λ (x : Parsed). edges-out x (parsed-as 2 s)) refl (omega arith) r
-    ∙ as-same 2 s (edges-out (parsed r)) (omega arith) (no-second-edge (parsed r))
-
-pub rules-as : (r s : Record) → rules-out (parsed-as 4 r) (parsed-as 4 s) ≡ rules-out (parsed r) (parsed s)
-rules-as r s =
-    asked-as 4 (λ (x : Parsed). rules-out x (parsed-as 4 s)) refl (omega arith) r
-    ∙ as-same 4 s (rules-out (parsed r)) (omega arith) (no-second-rule (parsed r))
-
-pub edge-past-as : (n : ℕ) (r : Record) → edge-past n (parsed-as 2 r) ≡ edge-past n (parsed r)
-edge-past-as n = asked-as 2 (edge-past n) refl (omega arith)
-
-pub row-past-as : (n : ℕ) (r : Record) → row-past n (parsed-as 3 r) ≡ row-past n (parsed r)
-row-past-as n = asked-as 3 (row-past n) refl (omega arith)
-
-pub crossing-as : (l : List ℕ) (n : ℕ) (r : Record) → crossing-of l n (parsed-as 2 r) ≡ crossing-of l n (parsed r)
-crossing-as l n = asked-as 2 (crossing-of l n) refl (omega arith)
-
-pub method-as : (r : Record) → method-of (parsed-as 1 r) ≡ method-of (parsed r)
-method-as = asked-as 1 method-of refl (omega arith)
-
-pub or-as : (r : Record) → is-or-of (parsed-as 3 r) ≡ is-or-of (parsed r)
-or-as = asked-as 3 is-or-of refl (omega arith)
+pub not-wrong : (low : ℕ) (x : Parsed) → OneOf but-wrong (tagOf Parsed.the-type x) → low ≡ unread-number low x
+not-wrong low (Node m r e) k = refl
+not-wrong low (Edge f l t) k = refl
+not-wrong low (Row o a b) k = refl
+not-wrong low (Rule q v m n p) k = refl
+not-wrong low (Interface p q) k = refl
+not-wrong low Wrong k = absurd (miss but-wrong 5 tt k)
+not-wrong low Other k = refl
 
 pub foreign-node-as : (I : Sets) (r : Record) → foreign-node I (parsed-as 1 r) ≡ foreign-node I (parsed r)
 foreign-node-as I = asked-as 1 (foreign-node I) refl (omega arith)

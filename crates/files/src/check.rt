@@ -1,20 +1,21 @@
 // Checking a file: accepted, with the counts that upper layers need, or refused by the lowest number among 1 to 8 at its first offending record.
-// Numbers 2 to 4 are one scan, 7 and 8 another; 1, 5 and 6 are of the whole file, and the numbers follow each other.
+// Numbers 2 to 4 are one pass over the records, 7 and 8 another; 1, 5 and 6 are of the whole file, and the numbers follow each other.
 ghost use mathlib.Core.Path.{_≡_};
 ghost use Prim.Native.Nat.{_+_, _%_, _≤_, _<_};
 ghost use lib.ListN.{length};
 ghost use Rattle.files.specs.Refusal.{graph, property, rules, interface};
 ghost use Rattle.files.specs.FileKind.{kind-of};
-ghost use Rattle.files.specs.Checking.{checked, counted, nodes-with, bound-with, over-with, missing-with, from-seven, from-five, from-two};
+ghost use Rattle.files.specs.Checking.{checked, counted, nodes-with, bound-with, over-with, missing-with, from-seven, from-five, from-two, Sound};
 use crate::offence::FileKind;
+use crate::offence::Found;
 use crate::plain::leading_nodes;
 use crate::plain::plain_edges;
 use crate::record::Limits;
 use crate::record::Record;
 use crate::refusal::Refusal;
-use crate::scan::Found;
 use crate::scan::count;
-use crate::scan::scan;
+use crate::scan::look_through;
+use crate::scan::name_through;
 
 // Accepted, with the nodes among so many records; or refused.
 pub enum Checked {
@@ -73,12 +74,12 @@ fn missing(kind: FileKind, n: usize) -> bool
 
 // The steps from number 7 on.
 fn from_seven(kind: FileKind, records: &[u8], first: usize, position: u8, apart: usize) -> Checked
-    requires { ⌜ (apart ≡ counted (kind-of kind) (now records)) × (first + length (now records) < 18446744073709551616) ⌝ }
+    requires { ⌜ (Sound (kind-of kind) (now records)) × ((apart ≡ counted (kind-of kind) (now records)) × (first + length (now records) < 18446744073709551616)) ⌝ }
     ensures { λ r. ⌜ r ≡ from-seven (kind-of kind) (now (records .entry)) first position ⌝ }
 {
     let n = records.len() / Record::LEN;
     let most = bound(kind, apart, n);
-    match scan(7, 9, kind, records, most, first, position) {
+    match name_through(kind, records, most, first, position) {
         Found::At(refusal) => Checked::Refused(refusal),
         Found::Nothing => Checked::Accepted {
             nodes: nodes(kind, apart),
@@ -89,7 +90,7 @@ fn from_seven(kind: FileKind, records: &[u8], first: usize, position: u8, apart:
 
 // The steps from number 5 on.
 fn from_five(limits: Limits, kind: FileKind, records: &[u8], first: usize, position: u8) -> Checked
-    requires { ⌜ first + length (now records) < 18446744073709551616 ⌝ }
+    requires { ⌜ (Sound (kind-of kind) (now records)) × (first + length (now records) < 18446744073709551616) ⌝ }
     ensures { λ r. ⌜ r ≡ from-five limits (kind-of kind) (now (records .entry)) first position ⌝ }
 {
     let n = records.len() / Record::LEN;
@@ -108,7 +109,7 @@ fn from_two(limits: Limits, kind: FileKind, records: &[u8], first: usize, positi
     requires { ⌜ first + length (now records) < 18446744073709551616 ⌝ }
     ensures { λ r. ⌜ r ≡ from-two limits (kind-of kind) (now (records .entry)) first position ⌝ }
 {
-    match scan(2, 5, kind, records, 0, first, position) {
+    match look_through(kind, records, first, position) {
         Found::At(refusal) => Checked::Refused(refusal),
         Found::Nothing => from_five(limits, kind, records, first, position),
     }

@@ -1,6 +1,5 @@
 // Writing into a lent buffer: records of six bytes, of files, trails, sheets and what is shown; and lines of a relation.
 ghost use mathlib.Core.Path.{_≡_};
-ghost use mathlib.Core.List.{[], _∷_};
 ghost use Prim.Native.Nat.{_+_, _*_, _≤_};
 ghost use lib.ListN.{length};
 ghost use Rattle.files.specs.Record.{six};
@@ -8,35 +7,18 @@ ghost use Rattle.files.specs.Cells.{put-at, has-bit};
 ghost use Rattle.files.specs.Line.{relation-line};
 use crate::record::Record;
 
-// Stores six bytes as record i.
-pub fn put_six(out: &mut [u8], i: usize, a: u8, b: u8, c: u8, d: u8, e: u8, f: u8)
-    requires { ⌜ 6 * i + 6 ≤ length (now out) ⌝ }
-    ensures { λ _. ⌜ now (out .exit) ≡ put-at (now (out .entry)) (6 * i) (a ∷ b ∷ c ∷ d ∷ e ∷ f ∷ []) ⌝ }
-{
-    let p = Record::LEN * i;
-    out[p] = a;
-    out[p + 1] = b;
-    out[p + 2] = c;
-    out[p + 3] = d;
-    out[p + 4] = e;
-    out[p + 5] = f;
-}
-
-// Stores a record as record i.
+// Stores a record as record i. Every record that a call writes goes through here.
 pub fn put_record(out: &mut [u8], i: usize, r: Record)
     requires { ⌜ 6 * i + 6 ≤ length (now out) ⌝ }
     ensures { λ _. ⌜ now (out .exit) ≡ put-at (now (out .entry)) (6 * i) (six r) ⌝ }
 {
-    put_six(
-        out,
-        i,
-        r.kind,
-        r.first,
-        r.second,
-        r.third,
-        r.fourth,
-        r.fifth,
-    );
+    let p = Record::LEN * i;
+    out[p] = r.kind;
+    out[p + 1] = r.first;
+    out[p + 2] = r.second;
+    out[p + 3] = r.third;
+    out[p + 4] = r.fourth;
+    out[p + 5] = r.fifth;
 }
 
 // The length of a relation's line: a bit for each of 256 nodes.

@@ -8,11 +8,8 @@ ghost use Rattle.files.specs.Refusal.{nodes-of};
 ghost use Rattle.files.specs.Graph.{node, no-edge};
 ghost use Rattle.files.specs.Decode.{decode-graph};
 ghost use Rattle.files.specs.Access.{GraphFile, node-held, edge-held, first-edge};
-use crate::parse::parse_edge;
-use crate::parse::parse_node;
-use crate::record::Parsed;
+use crate::parse::read;
 use crate::record::Record;
-use crate::refusal::Refusal;
 
 pub struct GraphNode {
     pub method: u8,
@@ -26,50 +23,30 @@ pub struct GraphEdge {
     pub to: usize,
 }
 
-pub enum NodeAt {
-    Is(GraphNode),
-    Refused(Refusal),
-}
-
-pub enum EdgeAt {
-    Is(GraphEdge),
-    Refused(Refusal),
-}
-
 // Node g.
-pub fn node_at(graph: &[u8], g: usize, position: u8) -> NodeAt
+pub fn node_at(graph: &[u8], g: usize) -> GraphNode
     requires { ⌜ (GraphFile (now graph)) × (g < nodes-of (now graph)) ⌝ }
-    ensures { λ r. ⌜ r ≡ NodeAt.Is (node-held (node (decode-graph (now (graph .entry))) g)) ⌝ }
+    ensures { λ r. ⌜ r ≡ node-held (node (decode-graph (now (graph .entry))) g) ⌝ }
 {
-    let Parsed::Node {
-        method,
-        returns,
-        entry,
-    } = parse_node(graph, g)
-    else {
-        return NodeAt::Refused(Refusal::at(2, position, g));
-    };
-    NodeAt::Is(GraphNode {
-        method: method,
-        returns: returns,
-        entry: entry,
-    })
+    let r = read(graph, g);
+    GraphNode {
+        method: r.first,
+        returns: r.second == 1,
+        entry: r.third == 1,
+    }
 }
 
 // Edge j, which is the record j after the nodes.
-pub fn edge_at(graph: &[u8], nodes: usize, j: usize, position: u8) -> EdgeAt
+pub fn edge_at(graph: &[u8], nodes: usize, j: usize) -> GraphEdge
     requires { ⌜ (GraphFile (now graph)) × (nodes ≡ nodes-of (now graph)) × (j < count (now graph) - nodes) ⌝ }
-    ensures { λ r. ⌜ r ≡ EdgeAt.Is (edge-held (getD ((decode-graph (now (graph .entry))) .edges) j no-edge)) ⌝ }
+    ensures { λ r. ⌜ r ≡ edge-held (getD ((decode-graph (now (graph .entry))) .edges) j no-edge) ⌝ }
 {
-    let i = nodes + j;
-    let Parsed::Edge { from, label, to } = parse_edge(graph, i) else {
-        return EdgeAt::Refused(Refusal::at(2, position, i));
-    };
-    EdgeAt::Is(GraphEdge {
-        from: from,
-        label: label,
-        to: to,
-    })
+    let r = read(graph, nodes + j);
+    GraphEdge {
+        from: r.first as usize,
+        label: r.second,
+        to: r.third as usize,
+    }
 }
 
 // Edge j leaves node g.
@@ -77,10 +54,7 @@ fn leaves(graph: &[u8], nodes: usize, j: usize, g: usize) -> bool
     requires { ⌜ (GraphFile (now graph)) × (nodes ≡ nodes-of (now graph)) × (j < count (now graph) - nodes) ⌝ }
     ensures { λ r. ⌜ r ≡ eqb ((getD ((decode-graph (now (graph .entry))) .edges) j no-edge) .from) g ⌝ }
 {
-    let EdgeAt::Is(e) = edge_at(graph, nodes, j, 0) else {
-        return false;
-    };
-    e.from == g
+    edge_at(graph, nodes, j).from == g
 }
 
 // The first edge of the node after g, from the first edge of g: edges ascend, so those of g stand in a row.

@@ -4,8 +4,7 @@ ghost use Prim.Native.Nat.{_<_};
 ghost use Rattle.files.specs.Interface.{in-set, provides, requires-method};
 ghost use Rattle.files.specs.Decode.{decode-interface};
 ghost use Rattle.files.specs.Access.{InterfaceFile};
-use crate::parse::parse_interface;
-use crate::record::Parsed;
+use crate::parse::read;
 
 // Method m is in the set whose bit of weight 2^(m-1) stands for it.
 pub(crate) fn in_set(x: u8, m: u8) -> bool
@@ -30,15 +29,10 @@ fn method_sets(interface: &[u8]) -> MethodSets
     requires { ⌜ InterfaceFile (now interface) ⌝ }
     ensures { λ r. ⌜ (r .provided ≡ (decode-interface (now (interface .entry))) .provided) × (r .required ≡ (decode-interface (now (interface .entry))) .required) ⌝ }
 {
-    let Parsed::Interface { provided, required } = parse_interface(interface, 0) else {
-        return MethodSets {
-            provided: 0,
-            required: 0,
-        };
-    };
+    let r = read(interface, 0);
     MethodSets {
-        provided: provided,
-        required: required,
+        provided: r.first,
+        required: r.second,
     }
 }
 

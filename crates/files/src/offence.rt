@@ -1,22 +1,25 @@
-// Tests on one record of a file that is read as a graph, property, rules or interface: the numbers 2, 3, 4, 7 and 8, and the or-rows that number 5 counts.
-// States that `offends` is the definition's test of a number at a record.
+// Numbers 2 to 4 at one record of a file that is read as a graph, property, rules or interface: the parsed record is taken apart, and the refusal otherwise
+// returned with its place. States of `look` that it finds the lowest of the three that applies at the record.
 ghost use mathlib.Core.Path.{_≡_};
 ghost use mathlib.Core.List.{[], _∷_};
-ghost use Prim.Native.Nat.{_+_, _*_, _≤_};
+ghost use Prim.Native.Nat.{_+_, _*_, _≤_, _<_};
 ghost use lib.ListN.{length};
 ghost use Rattle.files.specs.Basics.Lexical.{before};
-ghost use Rattle.files.specs.Refusal.{edge-before, misplaced};
+ghost use Rattle.files.specs.Outcome.{refusal-at};
+ghost use Rattle.files.specs.Record.{kind-at};
+ghost use Rattle.files.specs.Refusal.{graph, property, rules, interface, edge-before, disordered};
 ghost use Rattle.files.specs.FileKind.{kind-of};
-ghost use Rattle.files.specs.Checking.{parsed-at, is-wrong, edges-out, rules-out, disordered-at, edge-past, row-past, past-of, method-of, crossing-of, is-or-of, offends};
+ghost use Rattle.files.specs.Checking.{unread-number, found-at};
 use crate::parse::kind_at;
-use crate::parse::parse;
 use crate::parse::parse_edge;
+use crate::parse::parse_interface;
 use crate::parse::parse_node;
 use crate::parse::parse_row;
 use crate::parse::parse_rule;
-use crate::record::Operator;
+use crate::parse::read;
 use crate::record::Parsed;
 use crate::record::Record;
+use crate::refusal::Refusal;
 
 // What a file is read as.
 pub enum FileKind {
@@ -26,8 +29,14 @@ pub enum FileKind {
     Interface,
 }
 
+// What was found: nothing, or a refusal.
+pub enum Found {
+    Nothing,
+    At(Refusal),
+}
+
 // Whether (a, b, c) comes strictly before (x, y, z).
-fn before3(a: usize, b: u8, c: usize, x: usize, y: u8, z: usize) -> bool
+fn before3(a: u8, b: u8, c: u8, x: u8, y: u8, z: u8) -> bool
     ensures { λ r. ⌜ r ≡ before (a ∷ b ∷ c ∷ []) (x ∷ y ∷ z ∷ []) ⌝ }
 {
     (a < x) | ((a == x) & ((b < y) | ((b == y) & (c < z))))
@@ -51,195 +60,143 @@ fn edge_before(records: &[u8], i: usize) -> bool
     kind_at(records, i - 1) == Record::EDGE
 }
 
-// 2: the kind is wrong for its place.
-fn misplaced(kind: FileKind, records: &[u8], i: usize) -> bool
+// 4: two edges in a row whose keys do not ascend.
+fn edge_disordered(records: &[u8], i: usize) -> bool
     requires { ⌜ 6 * i + 6 ≤ length (now records) ⌝ }
-    ensures { λ r. ⌜ r ≡ misplaced (kind-of kind) (now (records .entry)) i ⌝ }
-{
-    let k = kind_at(records, i);
-    match kind {
-        // Most records of a graph are edges, and an edge is in its place wherever it stands.
-        FileKind::Graph => {
-            if k == Record::EDGE {
-                return false;
-            }
-            !(k == Record::NODE) | edge_before(records, i)
-        }
-        FileKind::Property => !(k == Record::ROW),
-        FileKind::Rules => !(k == Record::RULE),
-        FileKind::Interface => !(k == Record::INTERFACE) | (1 <= i),
-    }
-}
-
-// 3: a field is out of range, or an unused byte is not 0.
-fn is_wrong(p: Parsed) -> bool
-    ensures { λ r. ⌜ r ≡ is-wrong p ⌝ }
-{
-    let Parsed::Wrong = p else {
-        return false;
-    };
-    true
-}
-
-// Two edges that do not ascend.
-fn edges_out(p: Parsed, q: Parsed) -> bool
-    ensures { λ r. ⌜ r ≡ edges-out p q ⌝ }
-{
-    let Parsed::Edge { from, label, to } = p else {
-        return false;
-    };
-    let Parsed::Edge {
-        from: next_from,
-        label: next_label,
-        to: next_to,
-    } = q
-    else {
-        return false;
-    };
-    !before3(from, label, to, next_from, next_label, next_to)
-}
-
-// Two rules that do not ascend.
-fn rules_out(p: Parsed, q: Parsed) -> bool
-    ensures { λ r. ⌜ r ≡ rules-out p q ⌝ }
-{
-    let Parsed::Rule {
-        state,
-        event,
-        m1,
-        m2,
-        ..
-    } = p
-    else {
-        return false;
-    };
-    let Parsed::Rule {
-        state: next_state,
-        event: next_event,
-        m1: next_m1,
-        m2: next_m2,
-        ..
-    } = q
-    else {
-        return false;
-    };
-    !before4(
-        state,
-        event,
-        m1,
-        m2,
-        next_state,
-        next_event,
-        next_m1,
-        next_m2,
-    )
-}
-
-// 4: the record before is of the same kind and not before this one.
-fn disordered(records: &[u8], i: usize) -> bool
-    requires { ⌜ 6 * i + 6 ≤ length (now records) ⌝ }
-    ensures { λ r. ⌜ r ≡ disordered-at (now (records .entry)) i ⌝ }
+    ensures { λ r. ⌜ r ≡ disordered graph (now (records .entry)) i ⌝ }
 {
     if i == 0 {
         return false;
     }
-    let edge = parse_edge(records, i - 1);
-    let next_edge = parse_edge(records, i);
-    let rule = parse_rule(records, i - 1);
-    let next_rule = parse_rule(records, i);
-    edges_out(edge, next_edge) | rules_out(rule, next_rule)
+    let r = read(records, i - 1);
+    let s = read(records, i);
+    let ascend = before3(r.first, r.second, r.third, s.first, s.second, s.third);
+    (r.kind == Record::EDGE) & ((s.kind == Record::EDGE) & !ascend)
 }
 
-// An edge that names a node that is not below n.
-fn edge_past(p: Parsed, n: usize) -> bool
-    ensures { λ r. ⌜ r ≡ edge-past n p ⌝ }
-{
-    let Parsed::Edge { from, to, .. } = p else {
-        return false;
-    };
-    (n <= from) | (n <= to)
-}
-
-// A row that names a row that is not below n.
-fn row_past(p: Parsed, n: usize) -> bool
-    ensures { λ r. ⌜ r ≡ row-past n p ⌝ }
-{
-    let Parsed::Row { operator, a, b } = p else {
-        return false;
-    };
-    let named_a = n <= (a as usize);
-    let named_b = n <= (b as usize);
-    (((operator == Operator::AND) | (operator == Operator::OR)) & (named_a | named_b))
-        | (((operator == Operator::BOX) & named_b) | ((operator == Operator::BOX_ALL) & named_a))
-}
-
-// 7: an edge names a node, or a row a row, that is not below n.
-fn past(records: &[u8], i: usize, n: usize) -> bool
+// 4: two rules in a row whose keys do not ascend.
+fn rule_disordered(records: &[u8], i: usize) -> bool
     requires { ⌜ 6 * i + 6 ≤ length (now records) ⌝ }
-    ensures { λ r. ⌜ r ≡ past-of n (parsed-at (now (records .entry)) i) ⌝ }
+    ensures { λ r. ⌜ r ≡ disordered rules (now (records .entry)) i ⌝ }
 {
-    let edge = parse_edge(records, i);
-    let row = parse_row(records, i);
-    edge_past(edge, n) | row_past(row, n)
+    if i == 0 {
+        return false;
+    }
+    let r = read(records, i - 1);
+    let s = read(records, i);
+    let ascend = before4(
+        r.first,
+        r.second,
+        r.third,
+        r.fourth,
+        s.first,
+        s.second,
+        s.third,
+        s.fourth,
+    );
+    (r.kind == Record::RULE) & ((s.kind == Record::RULE) & !ascend)
 }
 
-// The method of node g; 0 where record g does not read as a node.
-fn method_of(records: &[u8], g: usize) -> u8
-    requires { ⌜ 6 * g + 6 ≤ length (now records) ⌝ }
-    ensures { λ r. ⌜ r ≡ method-of (parsed-at (now (records .entry)) g) ⌝ }
+// The refusal of what does not read as its place asks for: by the number after `low` where it is there and wrong, by `low` where it is not there.
+pub(crate) fn unread(p: Parsed, low: u8, position: u8, record: usize) -> Refusal
+    requires { ⌜ low < 255 ⌝ }
+    ensures { λ r. ⌜ r ≡ refusal-at (unread-number low p) position «record» ⌝ }
 {
-    let Parsed::Node { method, .. } = parse_node(records, g) else {
-        return 0;
+    let Parsed::Wrong = p else {
+        return Refusal::at(low, position, record);
     };
-    method
+    Refusal::at(low + 1, position, record)
 }
 
-// 8: an edge between two nodes below n whose methods differ.
-fn crossing(records: &[u8], i: usize, n: usize) -> bool
-    requires { ⌜ (6 * i + 6 ≤ length (now records)) × (6 * n ≤ length (now records)) ⌝ }
-    ensures { λ r. ⌜ r ≡ crossing-of (now (records .entry)) n (parsed-at (now (records .entry)) i) ⌝ }
+// A record of kind 1 in a graph.
+fn look_node(records: &[u8], i: usize, first: usize, position: u8) -> Found
+    requires { ⌜ (6 * i + 6 ≤ length (now records)) × ((first + i < 18446744073709551616) × (kind-at (now records) i ≡ 1)) ⌝ }
+    ensures { λ r. ⌜ r ≡ found-at 3 2 graph (now (records .entry)) first position i ⌝ }
 {
-    let Parsed::Edge { from, to, .. } = parse_edge(records, i) else {
-        return false;
+    if edge_before(records, i) {
+        return Found::At(Refusal::at(2, position, first + i));
+    }
+    let p = parse_node(records, i);
+    let Parsed::Node { .. } = p else {
+        return Found::At(unread(p, 2, position, first + i));
     };
-    if n <= from {
-        return false;
-    }
-    if n <= to {
-        return false;
-    }
-    let there = method_of(records, to);
-    let here = method_of(records, from);
-    !(there == here)
+    Found::Nothing
 }
 
-// A row with operator 8.
-pub(crate) fn is_or(p: Parsed) -> bool
-    ensures { λ r. ⌜ r ≡ is-or-of p ⌝ }
+// A record of a graph that is no node: an edge, or misplaced.
+fn look_edge(records: &[u8], i: usize, first: usize, position: u8) -> Found
+    requires { ⌜ (6 * i + 6 ≤ length (now records)) × ((first + i < 18446744073709551616) × (kind-at (now records) i ≡ 1 → ⊥)) ⌝ }
+    ensures { λ r. ⌜ r ≡ found-at 3 2 graph (now (records .entry)) first position i ⌝ }
 {
-    let Parsed::Row { operator, .. } = p else {
-        return false;
+    let p = parse_edge(records, i);
+    let Parsed::Edge { .. } = p else {
+        return Found::At(unread(p, 2, position, first + i));
     };
-    operator == Operator::OR
+    if edge_disordered(records, i) {
+        return Found::At(Refusal::at(4, position, first + i));
+    }
+    Found::Nothing
 }
 
-// Whether number 2, 3, 4, 7 or 8 offends at record i.
-pub(crate) fn offends(number: u8, kind: FileKind, records: &[u8], bound: usize, i: usize) -> bool
-    requires { ⌜ (6 * i + 6 ≤ length (now records)) × (6 * bound ≤ length (now records)) ⌝ }
-    ensures { λ r. ⌜ r ≡ offends number (kind-of kind) (now (records .entry)) bound i ⌝ }
+fn look_graph(records: &[u8], i: usize, first: usize, position: u8) -> Found
+    requires { ⌜ (6 * i + 6 ≤ length (now records)) × (first + i < 18446744073709551616) ⌝ }
+    ensures { λ r. ⌜ r ≡ found-at 3 2 graph (now (records .entry)) first position i ⌝ }
 {
-    if number == 2 {
-        return misplaced(kind, records, i);
+    if kind_at(records, i) == Record::NODE {
+        return look_node(records, i, first, position);
     }
-    if number == 3 {
-        let p = parse(records, i);
-        return is_wrong(p);
+    look_edge(records, i, first, position)
+}
+
+fn look_row(records: &[u8], i: usize, first: usize, position: u8) -> Found
+    requires { ⌜ (6 * i + 6 ≤ length (now records)) × (first + i < 18446744073709551616) ⌝ }
+    ensures { λ r. ⌜ r ≡ found-at 3 2 property (now (records .entry)) first position i ⌝ }
+{
+    let p = parse_row(records, i);
+    let Parsed::Row { .. } = p else {
+        return Found::At(unread(p, 2, position, first + i));
+    };
+    Found::Nothing
+}
+
+fn look_rule(records: &[u8], i: usize, first: usize, position: u8) -> Found
+    requires { ⌜ (6 * i + 6 ≤ length (now records)) × (first + i < 18446744073709551616) ⌝ }
+    ensures { λ r. ⌜ r ≡ found-at 3 2 rules (now (records .entry)) first position i ⌝ }
+{
+    let p = parse_rule(records, i);
+    let Parsed::Rule { .. } = p else {
+        return Found::At(unread(p, 2, position, first + i));
+    };
+    if rule_disordered(records, i) {
+        return Found::At(Refusal::at(4, position, first + i));
     }
-    if number == 4 {
-        return disordered(records, i);
+    Found::Nothing
+}
+
+// An interface file holds one record: a second one is out of place.
+fn look_interface(records: &[u8], i: usize, first: usize, position: u8) -> Found
+    requires { ⌜ (6 * i + 6 ≤ length (now records)) × (first + i < 18446744073709551616) ⌝ }
+    ensures { λ r. ⌜ r ≡ found-at 3 2 interface (now (records .entry)) first position i ⌝ }
+{
+    if 1 <= i {
+        return Found::At(Refusal::at(2, position, first + i));
     }
-    if number == 7 {
-        return past(records, i, bound);
+    let p = parse_interface(records, i);
+    let Parsed::Interface { .. } = p else {
+        return Found::At(unread(p, 2, position, first + i));
+    };
+    Found::Nothing
+}
+
+// Numbers 2 to 4 at record i, which is record `first + i` of the file: the lowest that applies, or nothing.
+pub(crate) fn look(kind: FileKind, records: &[u8], i: usize, first: usize, position: u8) -> Found
+    requires { ⌜ (6 * i + 6 ≤ length (now records)) × (first + i < 18446744073709551616) ⌝ }
+    ensures { λ r. ⌜ r ≡ found-at 3 2 (kind-of kind) (now (records .entry)) first position i ⌝ }
+{
+    match kind {
+        FileKind::Graph => look_graph(records, i, first, position),
+        FileKind::Property => look_row(records, i, first, position),
+        FileKind::Rules => look_rule(records, i, first, position),
+        FileKind::Interface => look_interface(records, i, first, position),
     }
-    crossing(records, i, bound)
 }

@@ -150,37 +150,6 @@ fn read_interface(r: Record) -> Parsed
     }
 }
 
-// What a record reads as.
-fn reads(r: Record) -> Parsed
-    ensures { λ p. ⌜ p ≡ parsed r ⌝ }
-{
-    if r.kind == Record::NODE {
-        return read_node(r);
-    }
-    if r.kind == Record::EDGE {
-        return read_edge(r);
-    }
-    if r.kind == Record::ROW {
-        return read_row(r);
-    }
-    if r.kind == Record::RULE {
-        return read_rule(r);
-    }
-    if r.kind == Record::INTERFACE {
-        return read_interface(r);
-    }
-    Parsed::Other
-}
-
-// What record i reads as.
-pub(crate) fn parse(records: &[u8], i: usize) -> Parsed
-    requires { ⌜ 6 * i + 6 ≤ length (now records) ⌝ }
-    ensures { λ p. ⌜ p ≡ parsed (record-at (now (records .entry)) i) ⌝ }
-{
-    let r = read(records, i);
-    reads(r)
-}
-
 // ---- Record i where one kind is looked for: any other record is Other, and the tests of the other kinds are not made.
 
 pub(crate) fn parse_node(records: &[u8], i: usize) -> Parsed

@@ -5,20 +5,13 @@ ghost use Rattle.files.specs.Record.{count};
 ghost use Rattle.files.specs.Property.{row, is-box, box-row};
 ghost use Rattle.files.specs.Decode.{decode-property};
 ghost use Rattle.files.specs.Access.{PropertyFile, row-held, looks};
-use crate::parse::parse_row;
+use crate::parse::read;
 use crate::record::Operator;
-use crate::record::Parsed;
-use crate::refusal::Refusal;
 
 pub struct PropertyRow {
     pub operator: u8,
     pub a: u8,
     pub b: u8,
-}
-
-pub enum RowAt {
-    Is(PropertyRow),
-    Refused(Refusal),
 }
 
 // Whether a row looks along a label, and at which row: what it obliges the end of such an edge to.
@@ -52,16 +45,14 @@ pub fn obliged(x: PropertyRow, label: u8) -> Looks
 }
 
 // The operator of row r and its operands, 0 where it has none.
-pub fn row_at(property: &[u8], r: usize, position: u8) -> RowAt
+pub fn row_at(property: &[u8], r: usize) -> PropertyRow
     requires { ⌜ (PropertyFile (now property)) × (r < count (now property)) ⌝ }
-    ensures { λ x. ⌜ x ≡ RowAt.Is (row-held (row (decode-property (now (property .entry))) r)) ⌝ }
+    ensures { λ x. ⌜ x ≡ row-held (row (decode-property (now (property .entry))) r) ⌝ }
 {
-    let Parsed::Row { operator, a, b } = parse_row(property, r) else {
-        return RowAt::Refused(Refusal::at(2, position, r));
-    };
-    RowAt::Is(PropertyRow {
-        operator: operator,
-        a: a,
-        b: b,
-    })
+    let x = read(property, r);
+    PropertyRow {
+        operator: x.first,
+        a: x.second,
+        b: x.third,
+    }
 }

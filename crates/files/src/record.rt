@@ -1,5 +1,6 @@
 // The record of six bytes, whatever its kind: its constants, its constructors, and what it reads as.
 ghost use mathlib.Core.Path.{_≡_};
+ghost use mathlib.Core.List.{[], _∷_};
 ghost use Rattle.files.specs.Record.{six, node-record, edge-record, row-record, rule-record, interface-record};
 ghost use Rattle.files.specs.Limits.{desk};
 
@@ -89,6 +90,34 @@ impl Record {
             third: 0,
             fourth: 0,
             fifth: 0,
+        }
+    }
+
+    // A record of a fault sheet, which has no kind: a node and a row, and its two causes.
+    pub fn fault(node: u8, row: u8, node1: u8, row1: u8, node2: u8, row2: u8) -> Self
+        ensures { λ r. ⌜ six r ≡ node ∷ row ∷ node1 ∷ row1 ∷ node2 ∷ row2 ∷ [] ⌝ }
+    {
+        Record {
+            kind: node,
+            first: row,
+            second: node1,
+            third: row1,
+            fourth: node2,
+            fifth: row2,
+        }
+    }
+
+    // A record of a trail, which has no kind either: node, state, step, label, and the node and state reached.
+    pub fn step(node: u8, state: u8, step: u8, label: u8, reached: u8, next: u8) -> Self
+        ensures { λ r. ⌜ six r ≡ node ∷ state ∷ step ∷ label ∷ reached ∷ next ∷ [] ⌝ }
+    {
+        Record {
+            kind: node,
+            first: state,
+            second: step,
+            third: label,
+            fourth: reached,
+            fifth: next,
         }
     }
 

@@ -6,10 +6,7 @@ ghost use Rattle.files.specs.Record.{count};
 ghost use Rattle.files.specs.Rules.{no-rule};
 ghost use Rattle.files.specs.Decode.{decode-rules};
 ghost use Rattle.files.specs.Access.{RulesFile, rule-held};
-use crate::parse::parse_rule;
-use crate::record::Parsed;
-use crate::record::Record;
-use crate::refusal::Refusal;
+use crate::parse::read;
 
 pub struct MonitorRule {
     pub state: u8,
@@ -19,31 +16,17 @@ pub struct MonitorRule {
     pub next: u8,
 }
 
-pub enum RuleAt {
-    Is(MonitorRule),
-    Refused(Refusal),
-}
-
 // Rule j.
-pub fn rule_at(rules: &[u8], j: usize, position: u8) -> RuleAt
+pub fn rule_at(rules: &[u8], j: usize) -> MonitorRule
     requires { ⌜ (RulesFile (now rules)) × (j < count (now rules)) ⌝ }
-    ensures { λ r. ⌜ r ≡ RuleAt.Is (rule-held (getD (decode-rules (now (rules .entry))) j no-rule)) ⌝ }
+    ensures { λ r. ⌜ r ≡ rule-held (getD (decode-rules (now (rules .entry))) j no-rule) ⌝ }
 {
-    let Parsed::Rule {
-        state,
-        event,
-        m1,
-        m2,
-        next,
-    } = parse_rule(rules, j)
-    else {
-        return RuleAt::Refused(Refusal::at(2, position, j));
-    };
-    RuleAt::Is(MonitorRule {
-        state: state,
-        event: event,
-        m1: m1,
-        m2: m2,
-        next: next,
-    })
+    let r = read(rules, j);
+    MonitorRule {
+        state: r.first,
+        event: r.second,
+        m1: r.third,
+        m2: r.fourth,
+        next: r.fifth,
+    }
 }

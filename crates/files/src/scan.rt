@@ -1,63 +1,73 @@
-// What loops over the records of a file: the first offence of a run of numbers, and what number 5 counts apart.
-// States that `scan` finds the lowest number that offends at its first record, and that `count` is the count.
+// What loops over the records of a file: the lowest number that is found at its first record, and what number 5 counts apart. States that `look_through` and
+// `name_through` find the lowest of 2 to 4 and of 7 and 8, and that `count` is the count.
 ghost use mathlib.Core.Path.{_≡_};
-ghost use Prim.Native.Nat.{_+_, _-_, _*_, _≤_, _<_};
+ghost use Prim.Native.Nat.{_+_, _*_, _≤_, _<_};
 ghost use lib.ListN.{length};
+ghost use Rattle.files.specs.Record.{count};
 ghost use Rattle.files.specs.FileKind.{kind-of};
-ghost use Rattle.files.specs.Checking.{first-offending, scanned, counts, counted};
+ghost use Rattle.files.specs.Checking.{lower, lowest, counts, counted, bound-of, Sound};
+use crate::naming::name;
 use crate::offence::FileKind;
-use crate::offence::is_or;
-use crate::offence::offends;
+use crate::offence::Found;
+use crate::offence::look;
 use crate::parse::kind_at;
-use crate::parse::parse_row;
+use crate::parse::read;
+use crate::record::Operator;
 use crate::record::Record;
-use crate::refusal::Refusal;
 
-// What a scan found: nothing, or a refusal.
-pub enum Found {
-    Nothing,
-    At(Refusal),
+// The one of the lower number, the earlier where they have the same.
+fn lower(found: Found, next: Found) -> Found
+    ensures { λ r. ⌜ r ≡ lower found next ⌝ }
+{
+    let Found::At(later) = next else {
+        return found;
+    };
+    let Found::At(earlier) = found else {
+        return next;
+    };
+    if later.number < earlier.number {
+        next
+    } else {
+        found
+    }
 }
 
-// The first record at which a number offends, or the count of records.
-fn first_offending(number: u8, kind: FileKind, records: &[u8], bound: usize) -> usize
-    requires { ⌜ 6 * bound ≤ length (now records) ⌝ }
-    ensures { λ r. ⌜ r ≡ first-offending number (kind-of kind) (now (records .entry)) bound ⌝ }
+// The lowest of numbers 2 to 4, at its first record.
+pub(crate) fn look_through(kind: FileKind, records: &[u8], first: usize, position: u8) -> Found
+    requires { ⌜ first + length (now records) < 18446744073709551616 ⌝ }
+    ensures { λ r. ⌜ r ≡ lowest 3 2 (kind-of kind) (now (records .entry)) first position (count (now (records .entry))) ⌝ }
 {
     let n = records.len() / Record::LEN;
+    let mut found = Found::Nothing;
     let mut i = 0;
     while i < n {
-        if offends(number, kind, records, bound, i) {
-            return i;
-        }
+        let next = look(kind, records, i, first, position);
+        found = lower(found, next);
         i += 1;
     }
-    n
+    found
 }
 
-// The first of the numbers from `low` up to `past` that offends somewhere, at its first record.
-pub(crate) fn scan(
-    low: u8,
-    past: u8,
+// The lower of numbers 7 and 8, at its first record, where so many nodes or rows can be named.
+pub(crate) fn name_through(
     kind: FileKind,
     records: &[u8],
     bound: usize,
     first: usize,
     position: u8,
 ) -> Found
-    requires { ⌜ (low ≤ past) × ((6 * bound ≤ length (now records)) × (first + length (now records) < 18446744073709551616)) ⌝ }
-    ensures { λ r. ⌜ r ≡ scanned (past - low) low (kind-of kind) (now (records .entry)) bound first position ⌝ }
+    requires { ⌜ (Sound (kind-of kind) (now records)) × ((bound ≡ bound-of (kind-of kind) (now records)) × (first + length (now records) < 18446744073709551616)) ⌝ }
+    ensures { λ r. ⌜ r ≡ lowest 2 7 (kind-of kind) (now (records .entry)) first position (count (now (records .entry))) ⌝ }
 {
     let n = records.len() / Record::LEN;
-    let mut number = low;
-    while number < past {
-        let i = first_offending(number, kind, records, bound);
-        if i < n {
-            return Found::At(Refusal::at(number, position, first + i));
-        }
-        number += 1;
+    let mut found = Found::Nothing;
+    let mut i = 0;
+    while i < n {
+        let next = name(kind, records, bound, i, first, position);
+        found = lower(found, next);
+        i += 1;
     }
-    Found::Nothing
+    found
 }
 
 // Whether number 5 counts record i apart.
@@ -68,8 +78,8 @@ fn counts(kind: FileKind, records: &[u8], i: usize) -> bool
     match kind {
         FileKind::Graph => kind_at(records, i) == Record::NODE,
         FileKind::Property => {
-            let p = parse_row(records, i);
-            is_or(p)
+            let r = read(records, i);
+            r.first == Operator::OR
         }
         FileKind::Rules => false,
         FileKind::Interface => false,

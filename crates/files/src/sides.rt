@@ -3,7 +3,7 @@
 ghost use mathlib.Core.Path.{_≡_};
 ghost use Prim.Native.Nat.{_+_, _*_, _≤_};
 ghost use lib.ListN.{length};
-ghost use Rattle.files.specs.Checking.{parsed-at};
+ghost use Rattle.files.specs.Record.{parsed-at};
 ghost use Rattle.files.specs.Decode.{decode-interface};
 ghost use Rattle.files.specs.Sides.{foreign-node, foreign-call, foreign-of, first-foreign-record, shares, lacks, unprovided};
 ghost use Rattle.files.specs.Access.{GraphFile, InterfaceFile};

@@ -22,15 +22,12 @@ use Rattle.files.specs.Decode.Graphs.{decoded-size, decoded-edges, decoded-flow
 use Rattle.files.specs.Record.{count}
 use Rattle.files.specs.Refusal.{nodes-of}
 use Rattle.files.specs.declared.property.PropertyRow.{PropertyRow}
-use Rattle.files.specs.declared.property.RowAt.{RowAt}
-use Rattle.files.specs.declared.property.RowAt.the-variants.{Is as RowIs}
 use Rattle.judging.specs.declared.shape.Shape.{Shape}
 use Rattle.judging.specs.Chains.{Chained, Outside, linked, into, uses, named, named-or, is-row, operand-of, Index}
 use Rattle.judging.specs.Chains.Laws.{chained-none, chained-kept, linked-is, linked-outside, test-turned, chain-more, chain-on, chain-skip}
 use Rattle.judging.specs.Ranking.{Ready}
 use Rattle.judging.specs.Ranking.Files.{size-is, edges-is, rows-is}
 use Rattle.judging.proofs.ClearedLaws.{cleared-outside, cleared-inside}
-use Rattle.judging.proofs.HeldLaws.{held-row}
 
 -- ---- one item, stored by two stores
 
@@ -61,8 +58,8 @@ operand-is (box-all a) i n = go (eqb i 0)
     go false = refl
 
 -- what the operands of row v, read as u, name
-pub row-names : (x : RowAt) (u : PropertyRow) (v : Row) (i n r : ℕ) → x ≡ RowIs u → x ≡ RowIs (row-held v) → r ≡ operand-of (u .operator) (u .a) (u .b) i n → r ≡ named-or (named v i) n
-row-names x u v i n r p q e = e ∙ ap (λ (y : PropertyRow). operand-of (y .operator) (y .a) (y .b) i n) (held-row x u v p q) ∙ operand-is v i n
+pub row-names : (u : PropertyRow) (v : Row) (i n r : ℕ) → u ≡ row-held v → r ≡ operand-of (u .operator) (u .a) (u .b) i n → r ≡ named-or (named v i) n
+row-names u v i n r is e = e ∙ ap (λ (y : PropertyRow). operand-of (y .operator) (y .a) (y .b) i n) is ∙ operand-is v i n
 
 -- ---- bytes
 

@@ -19,13 +19,7 @@ use Rattle.files.specs.Cells.{cell}
 use Rattle.files.specs.Decode.{decode-graph, decode-property}
 use Rattle.files.specs.Graph.{Graph, size, no-edge}
 use Rattle.files.specs.Property.{Row, both, either, row, obliged, Boxed, is-box, aims}
-use Rattle.files.specs.declared.refusal.Refusal.{Refusal}
-use Rattle.files.specs.declared.graph.GraphEdge.{GraphEdge}
-use Rattle.files.specs.declared.graph.EdgeAt.{EdgeAt}
-use Rattle.files.specs.declared.graph.EdgeAt.the-variants.{Is as EdgeIs, Refused as EdgeRefused}
 use Rattle.files.specs.declared.property.PropertyRow.{PropertyRow}
-use Rattle.files.specs.declared.property.RowAt.{RowAt}
-use Rattle.files.specs.declared.property.RowAt.the-variants.{Is as RowIs, Refused as RowRefused}
 use Rattle.judging.specs.declared.shape.Shape.{Shape}
 use Rattle.judging.specs.Chains.{last-where}
 use Rattle.judging.specs.Chains.Laws.{last-le, last-passes, last-above, walk-on}
@@ -70,23 +64,6 @@ pub walk-less : (p : ℕ → Bool) (at next : ℕ) → 0 < at → next ≡ last-
 walk-less p at next h e = omega (arith, e, last-le p (at - 1))
 
 -- ---- files
-
-is-edge : EdgeAt → Bool
-is-edge (EdgeIs u) = true
-is-edge (EdgeRefused r) = false
-
-is-row : RowAt → Bool
-is-row (RowIs u) = true
-is-row (RowRefused r) = false
-
--- what an accessor answers is no refusal
-pub edge-read : (x : EdgeAt) (u : GraphEdge) (r : Refusal) → x ≡ EdgeIs u → x ≡ EdgeRefused r → ⊥
-unfolding is-edge
-edge-read x u r p q = subst (λ (y : EdgeAt). T (is-edge y)) (sym p ∙ q) tt
-
-pub row-read : (x : RowAt) (u : PropertyRow) (r : Refusal) → x ≡ RowIs u → x ≡ RowRefused r → ⊥
-unfolding is-row
-row-read x u r p q = subst (λ (y : RowAt). T (is-row y)) (sym p ∙ q) tt
 
 nor : (c d : Bool) → not c && not d ≡ not (c || d)
 nor true d = refl

@@ -12,13 +12,10 @@ ghost use Rattle.judging.specs.Sheets.{Settled, cause-held, AreCauses, a
 use crate::shape::Shape;
 use files::cells::get16;
 use files::cells::put16;
-use files::graph::EdgeAt;
-use files::graph::NodeAt;
 use files::graph::edge_at;
 use files::graph::next_first;
 use files::graph::node_at;
 use files::property::PropertyRow;
-use files::property::RowAt;
 use files::property::is_box;
 use files::property::obliged;
 use files::property::row_at;
@@ -57,9 +54,7 @@ fn fails_at(graph: &[u8], property: &[u8], s: Shape, work: &[u8], g: usize) -> b
     requires { ⌜ (Ready s (now graph) (now property)) × ((g < s .graph .nodes) × ((41664 ≤ length (now work)) × (Ranked (decode-graph (now graph)) (decode-property (now property)) (now work)))) ⌝ }
     ensures { λ b. ⌜ b ≡ fails-at (decode-graph (now (graph .entry))) (decode-property (now (property .entry))) g ⌝ }
 {
-    let NodeAt::Is(v) = node_at(graph, g, 0) else {
-        return false;
-    };
+    let v = node_at(graph, g);
     let x = get16(work, 0, Shape::STRIDE * g);
     v.entry & !(x == 0)
 }
@@ -146,9 +141,7 @@ fn better(
     requires { ⌜ (Ready s (now graph) (now property)) × ((box-row (x .operator) (x .a) (x .b) < s .rows) × ((best ≤ s .graph .nodes) × ((j < s .graph .edges) × (Settled (decode-graph (now graph)) (decode-property (now property)) (now work))))) ⌝ }
     ensures { λ r. ⌜ r ≡ better (decode-graph (now (graph .entry))) (decode-property (now (property .entry))) (aims (x .operator) (x .a)) (box-row (x .operator) (x .a) (x .b)) (s .graph .nodes) best j ⌝ }
 {
-    let EdgeAt::Is(edge) = edge_at(graph, s.graph.nodes, j, 0) else {
-        return best;
-    };
+    let edge = edge_at(graph, s.graph.nodes, j);
     let on = obliged(x, edge.label);
     if on.along {
         if best < s.graph.nodes {
@@ -218,12 +211,7 @@ pub(crate) fn causes_of(
         node: 0,
         row: Cause::NONE,
     };
-    let RowAt::Is(x) = row_at(property, r, 0) else {
-        return Causes {
-            first: none,
-            second: none,
-        };
-    };
+    let x = row_at(property, r);
     let a = x.a as usize;
     let b = x.b as usize;
     if x.operator == Operator::AND {

@@ -14,9 +14,7 @@ use crate::shape::Shape;
 use files::cells::clear;
 use files::cells::get16;
 use files::cells::put16;
-use files::graph::EdgeAt;
 use files::graph::edge_at;
-use files::property::RowAt;
 use files::property::row_at;
 use files::record::Operator;
 
@@ -35,9 +33,7 @@ fn edge_target(graph: &[u8], nodes: usize, e: usize) -> usize
     requires { ⌜ (GraphFile (now graph)) × ((nodes ≡ nodes-of (now graph)) × (e < count (now graph) - nodes)) ⌝ }
     ensures { λ r. ⌜ r ≡ (getD ((decode-graph (now (graph .entry))) .edges) e no-edge) .to ⌝ }
 {
-    let EdgeAt::Is(edge) = edge_at(graph, nodes, e, 0) else {
-        return 0;
-    };
+    let edge = edge_at(graph, nodes, e);
     edge.to
 }
 
@@ -65,9 +61,7 @@ fn row_named(graph: &[u8], property: &[u8], s: Shape, j: usize) -> usize
     requires { ⌜ (Ready s (now graph) (now property)) × (j < 2 * s .rows) ⌝ }
     ensures { λ r. ⌜ r ≡ named-or (named (row (decode-property (now (property .entry))) (j / 2)) (j % 2)) (s .rows) ⌝ }
 {
-    let RowAt::Is(row) = row_at(property, j / 2, 0) else {
-        return s.rows;
-    };
+    let row = row_at(property, j / 2);
     operand(row.operator, row.a, row.b, j % 2, s.rows)
 }
 

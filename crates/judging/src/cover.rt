@@ -13,7 +13,6 @@ use crate::sizes::Sizes;
 use files::cells::put_bit;
 use files::encode::LINE;
 use files::encode::put_line;
-use files::graph::NodeAt;
 use files::graph::node_at;
 
 // Whether node h of the second graph is an entry.
@@ -21,9 +20,7 @@ fn is_entry(first: &[u8], second: &[u8], s: Sizes, h: usize) -> bool
     requires { ⌜ ((Both s (now first) (now second))) × (h < s .second .nodes) ⌝ }
     ensures { λ t. ⌜ t ≡ (node (decode-graph (now (second .entry))) h) .entry ⌝ }
 {
-    let NodeAt::Is(v) = node_at(second, h, 2) else {
-        return false;
-    };
+    let v = node_at(second, h);
     v.entry
 }
 
@@ -63,9 +60,7 @@ fn is_uncovered(
     requires { ⌜ (32 ≤ length (now entries)) × ((Both s (now first) (now second)) × ((g < s .first .nodes) × ((165152 ≤ length (now work)) × ((Settled (decode-graph (now first)) (decode-graph (now second)) (now work)) × (Chosen (λ h. (node (decode-graph (now second)) h) .entry) (s .second .nodes) (now entries)))))) ⌝ }
     ensures { λ t. ⌜ t ≡ ((node (decode-graph (now (first .entry))) g) .entry && not (covered (decode-graph (now (first .entry))) (decode-graph (now (second .entry))) g)) ⌝ }
 {
-    let NodeAt::Is(v) = node_at(first, g, 1) else {
-        return false;
-    };
+    let v = node_at(first, g);
     let covered = is_covered(first, second, s, work, entries, g);
     v.entry & !covered
 }

@@ -16,12 +16,9 @@ ghost use Rattle.judging.specs.Ranking.{Ready, pair, rank-at, Given, giv
 use crate::shape::Shape;
 use files::cells::get16;
 use files::cells::put16;
-use files::graph::EdgeAt;
-use files::graph::NodeAt;
 use files::graph::edge_at;
 use files::graph::node_at;
 use files::property::PropertyRow;
-use files::property::RowAt;
 use files::property::is_box;
 use files::property::obliged;
 use files::property::row_at;
@@ -69,12 +66,8 @@ fn falls_alone(graph: &[u8], property: &[u8], s: Shape, g: usize, r: usize) -> b
     requires { ⌜ (Ready s (now graph) (now property)) × ((g < s .graph .nodes) × (r < s .rows)) ⌝ }
     ensures { λ b. ⌜ b ≡ not (level (decode-graph (now (graph .entry))) (decode-property (now (property .entry))) 1 g r) ⌝ }
 {
-    let NodeAt::Is(v) = node_at(graph, g, 0) else {
-        return false;
-    };
-    let RowAt::Is(x) = row_at(property, r, 0) else {
-        return false;
-    };
+    let v = node_at(graph, g);
+    let x = row_at(property, r);
     leaf_false(x.operator, x.a, v.method, v.returns)
 }
 
@@ -102,9 +95,7 @@ fn may_fall(property: &[u8], r: usize) -> bool
     requires { ⌜ (PropertyFile (now property)) × (r < count (now property)) ⌝ }
     ensures { λ b. ⌜ b ≡ may-fall ((row-held (row (decode-property (now (property .entry))) r)) .operator) ⌝ }
 {
-    let RowAt::Is(x) = row_at(property, r, 0) else {
-        return false;
-    };
+    let x = row_at(property, r);
     (Operator::FALSE <= x.operator) & (x.operator <= Operator::NOT_RETURNS)
 }
 
@@ -163,9 +154,7 @@ fn arrive(
     requires { ⌜ (Ready s (now graph) (now property)) × ((e < s .graph .edges) × ((q < s .rows) × ((Finding (decode-graph (now graph)) (decode-property (now property)) k tail (now work)) × (T (aims (x .operator) (x .a) ((getD ((decode-graph (now graph)) .edges) e no-edge) .label)) → T (not (level (decode-graph (now graph)) (decode-property (now property)) (suc k) ((getD ((decode-graph (now graph)) .edges) e no-edge) .from) q)))))) ⌝ }
     ensures { λ t. ⌜ (Grew (decode-graph (now (graph .entry))) (decode-property (now (property .entry))) k tail t (now (work .entry)) (now (work .exit))) × (T (aims (x .operator) (x .a) ((getD ((decode-graph (now (graph .entry))) .edges) e no-edge) .label)) → Given (now (work .exit)) ((getD ((decode-graph (now (graph .entry))) .edges) e no-edge) .from) q) ⌝ }
 {
-    let EdgeAt::Is(edge) = edge_at(graph, s.graph.nodes, e, 0) else {
-        return tail;
-    };
+    let edge = edge_at(graph, s.graph.nodes, e);
     let on = obliged(x, edge.label);
     if on.along {
         return give(work, tail, edge.from, q, k);
@@ -213,9 +202,7 @@ fn row_on(
     requires { ⌜ (Ready s (now graph) (now property)) × ((v < s .graph .nodes) × ((r < s .rows) × ((q < s .rows) × ((Finding (decode-graph (now graph)) (decode-property (now property)) k tail (now work)) × ((T (not (level (decode-graph (now graph)) (decode-property (now property)) k v r))) × (Names (row (decode-property (now property)) q) r)))))) ⌝ }
     ensures { λ t. ⌜ (Grew (decode-graph (now (graph .entry))) (decode-property (now (property .entry))) k tail t (now (work .entry)) (now (work .exit))) × (RowDone (decode-graph (now (graph .entry))) (decode-property (now (property .entry))) k (now (work .exit)) v r q) ⌝ }
 {
-    let RowAt::Is(x) = row_at(property, q, 0) else {
-        return tail;
-    };
+    let x = row_at(property, q);
     if is_box(x.operator) {
         return boxes(graph, property, s, work, tail, v, x, q, k);
     }

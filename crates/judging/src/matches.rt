@@ -25,7 +25,6 @@ use files::cells::get16;
 use files::cells::get32;
 use files::cells::put_bit;
 use files::encode::LINE;
-use files::graph::EdgeAt;
 use files::graph::edge_at;
 
 // The node that edge e comes from.
@@ -33,9 +32,7 @@ pub(crate) fn source_of(graph: &[u8], nodes: usize, e: usize) -> usize
     requires { ⌜ (GraphFile (now graph)) × ((nodes ≡ nodes-of (now graph)) × (e < count (now graph) - nodes)) ⌝ }
     ensures { λ r. ⌜ r ≡ (edge (decode-graph (now (graph .entry))) e) .from ⌝ }
 {
-    let EdgeAt::Is(x) = edge_at(graph, nodes, e, 0) else {
-        return 0;
-    };
+    let x = edge_at(graph, nodes, e);
     x.from
 }
 

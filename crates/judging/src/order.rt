@@ -12,7 +12,6 @@ use files::cells::has_bit;
 use files::cells::put_bit;
 use files::cells::put8;
 use files::cells::put16;
-use files::graph::EdgeAt;
 use files::graph::edge_at;
 
 // The node at which the walk stands, how many nodes it has left, and whether it has left the root.
@@ -55,9 +54,7 @@ fn step(first: &[u8], second: &[u8], s: Sizes, work: &mut [u8], w: Place) -> Pla
     if s.first.edges <= e {
         return leave(first, second, s, work, w);
     }
-    let EdgeAt::Is(x) = edge_at(first, s.first.nodes, e, 0) else {
-        return w;
-    };
+    let x = edge_at(first, s.first.nodes, e);
     if x.from != at {
         return leave(first, second, s, work, w);
     }

@@ -20,8 +20,6 @@ use crate::sizes::Sizes;
 use files::cells::clear;
 use files::cells::put_bit;
 use files::encode::LINE;
-use files::graph::EdgeAt;
-use files::graph::NodeAt;
 use files::graph::edge_at;
 use files::graph::node_at;
 
@@ -30,9 +28,7 @@ fn kind_of(graph: &[u8], g: usize) -> usize
     requires { ⌜ (GraphFile (now graph)) × (g < nodes-of (now graph)) ⌝ }
     ensures { λ r. ⌜ (r ≡ kind (node (decode-graph (now (graph .entry))) g)) × (r < 18) ⌝ }
 {
-    let NodeAt::Is(v) = node_at(graph, g, 0) else {
-        return 0;
-    };
+    let v = node_at(graph, g);
     if v.returns {
         return 2 * (v.method as usize) + 1;
     }
@@ -71,9 +67,7 @@ fn slot_of(first: &[u8], second: &[u8], s: Sizes, e: usize) -> usize
     requires { ⌜ (Both s (now first) (now second)) × (e < s .first .edges) ⌝ }
     ensures { λ r. ⌜ r ≡ 9 * (edge (decode-graph (now (first .entry))) e) .to + (edge (decode-graph (now (first .entry))) e) .label ⌝ }
 {
-    let EdgeAt::Is(x) = edge_at(first, s.first.nodes, e, 0) else {
-        return 0;
-    };
+    let x = edge_at(first, s.first.nodes, e);
     9 * x.to + (x.label as usize)
 }
 
@@ -95,9 +89,7 @@ fn put_edge(first: &[u8], second: &[u8], s: Sizes, work: &mut [u8], j: usize)
     requires { ⌜ (Both s (now first) (now second)) × ((j < s .second .edges) × (165152 ≤ length (now work))) ⌝ }
     ensures { λ _. ⌜ now (work .exit) ≡ put-bit (put-bit (now (work .entry)) (30816 + 32 * (10 * (edge (decode-graph (now (second .entry))) j) .from + (edge (decode-graph (now (second .entry))) j) .label)) ((edge (decode-graph (now (second .entry))) j) .to)) (30816 + 32 * (10 * (edge (decode-graph (now (second .entry))) j) .to + 9)) ((edge (decode-graph (now (second .entry))) j) .from) ⌝ }
 {
-    let EdgeAt::Is(x) = edge_at(second, s.second.nodes, j, 0) else {
-        return;
-    };
+    let x = edge_at(second, s.second.nodes, j);
     let label = x.label as usize;
     put_bit(
         work,

@@ -8,6 +8,9 @@ use maximal::answers::Modelled;
 use printing::say;
 use printing::say_decimal;
 use printing::say_graph;
+use printing::stdout::BUFFERED;
+use printing::stdout::flush;
+use printing::stdout::stdout;
 
 // Bytes past these stay unread.
 const LONGEST: usize = 60000;
@@ -22,15 +25,15 @@ fn cut(n: usize) -> usize
     Record::LEN
 }
 
-fn list(input: &[u8], out: &mut [u8], work: &mut [u8]) {
+fn list(stdout: &mut [u8; BUFFERED], input: &[u8], out: &mut [u8], work: &mut [u8]) {
     let at = cut(input.len());
     match maximal::model(&input[..at], &input[at..], out, work) {
         Modelled::Written(nodes, edges) => {
-            say_graph(out, nodes, edges);
+            say_graph(stdout, out, nodes, edges);
         }
         Modelled::Refused(refusal) => {
-            say_decimal(refusal.number as u64);
-            say(b"\n");
+            say_decimal(stdout, refusal.number as u64);
+            say(stdout, b"\n");
         }
     }
 }
@@ -52,5 +55,7 @@ fn main() {
     let n = io::read_full(STDIN_FILENO, &mut input);
     let mut out = output();
     let mut work = work_buffer();
-    list(&input[..n], &mut out, &mut work);
+    let mut stdout = stdout();
+    list(&mut stdout, &input[..n], &mut out, &mut work);
+    flush(&mut stdout);
 }

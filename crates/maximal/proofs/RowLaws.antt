@@ -16,9 +16,6 @@ use Rattle.files.specs.Property.{Row, always, never, returns, not-returns, in-m
 use Rattle.files.specs.Record.{count}
 use Rattle.files.specs.declared.property.Looks.{Looks}
 use Rattle.files.specs.declared.property.PropertyRow.{PropertyRow}
-use Rattle.files.specs.declared.property.RowAt.{RowAt}
-use Rattle.files.specs.declared.property.RowAt.the-variants.{Is as RowIs}
-use Rattle.judging.proofs.HeldLaws.{held-row}
 use Rattle.judging.specs.Levels.Laws.{obliged-named}
 use Rattle.judging.specs.Ranking.{leaf-false}
 use Rattle.maximal.specs.Charting.Files.{file-rows, file-named}
@@ -93,10 +90,7 @@ untrue-by-row (box l b) m f = refl
 untrue-by-row (box-all a) m f = refl
 
 -- row v, read as u
-module _ (x : RowAt) (u : PropertyRow) (v : Row) (is : x ≡ RowIs u) (holds : x ≡ RowIs (row-held v)) where
-  held : u ≡ row-held v
-  held = held-row x u v is holds
-
+module _ (u : PropertyRow) (v : Row) (held : u ≡ row-held v) where
   pub operands-read : (last other : ℕ) → operands-by u last other ≡ operands-or v last other
   operands-read last other = ap (λ (y : PropertyRow). operands-by y last other) held
 
@@ -130,10 +124,7 @@ module _ (p : List ℕ) (file : PropertyFile p) (n : ℕ) (n-is : n ≡ count p)
       (file-named p file .names-rows r (omega (arith, rows-are)))
 
   -- row r, read as u
-  module _ (r : ℕ) (h : r < n) (x : RowAt) (u : PropertyRow) (is : x ≡ RowIs u) (holds : x ≡ RowIs (row-held (row (decode-property p) r))) where
-    read : u ≡ row-held (row (decode-property p) r)
-    read = held-row x u (row (decode-property p) r) is holds
-
+  module _ (r : ℕ) (h : r < n) (u : PropertyRow) (read : u ≡ row-held (row (decode-property p) r)) where
     both-below : 7 ≤ u .operator → u .operator ≤ 8 → (u .a < n) × (u .b < n)
     both-below =
         subst (λ (y : PropertyRow). 7 ≤ y .operator → y .operator ≤ 8 → (y .a < n) × (y .b < n)) (sym read) (operands-rows n (row (decode-property p) r) (names-rows r h))
@@ -145,4 +136,4 @@ module _ (p : List ℕ) (file : PropertyFile p) (n : ℕ) (n-is : n ≡ count p)
 
     pub looked-below : (l : ℕ) (y : Looks) → y ≡ looks u l → y .along ≡ true → y .at < n
     looked-below l y looked t =
-        obliged-named n (row (decode-property p) r) l (y .at) (names-rows r h) (obliged-read x u (row (decode-property p) r) is holds l y looked true t)
+        obliged-named n (row (decode-property p) r) l (y .at) (names-rows r h) (obliged-read u (row (decode-property p) r) read l y looked true t)

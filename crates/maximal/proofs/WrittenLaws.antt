@@ -7,7 +7,9 @@ use native.Mathlib.Decide.{ℕ-discrete}
 use native.Mathlib.Nat.{add-zero}
 use native.Mathlib.Numerals.{add-one}
 use native.Mathlib.Omega.{arith}
+use lib.Dec.{eqb}
 use lib.ListN.{length, take, drop, length-append, take-append-drop}
+use borrow.Author.Tests.{eq-eqb, ne-eqb}
 use Rattle.files.specs.Basics.Lists.{put, keep, each, each-append, span}
 use Rattle.files.specs.Basics.Tables.{tally}
 use Rattle.files.specs.Basics.Tests.{one}
@@ -16,6 +18,7 @@ use Rattle.files.specs.Cells.Laws.{put-at-is, put-front, put-after}
 use Rattle.files.specs.Decode.{graph-bytes}
 use Rattle.files.specs.Interface.{Interface}
 use Rattle.files.specs.Property.{Row, Property}
+use Rattle.files.specs.Record.{node-record, six}
 use Rattle.maximal.specs.Charting.{kind-at, target, order-at, Arranged}
 use Rattle.maximal.specs.Listing.{leads, tally-under, tally-from, node-bytes, under-bytes, from-bytes}
 use Rattle.maximal.specs.Listing.Laws.{keep-more, nodes-bytes, nodes-more, nodes-length, tally-from-more, from-more, from-length, under-length, edges-bytes, edges-more, edges-length, total, model-bytes}
@@ -72,8 +75,17 @@ wrote-more out₀ out out′ at end end′ xs ys zs h e x a b d = record {
 module _ (w : List ℕ) where
   -- ---- nodes
 
-  pub node-of : (i s k e : ℕ) (t : Bool) → s ≡ order-at w i → k ≡ kind-at w s → t ≡ target w 2304 s → e ≡ one t → 1 ∷ k / 2 ∷ k % 2 ∷ e ∷ 0 ∷ 0 ∷ [] ≡ node-bytes w i
-  node-of i s k e t a b d f = ap₂ (λ (m o : ℕ). 1 ∷ m / 2 ∷ m % 2 ∷ o ∷ 0 ∷ 0 ∷ []) (b ∙ ap (kind-at w) a) (f ∙ ap one (d ∙ ap (target w 2304) a))
+  pub node-of : (i s k : ℕ) (t : Bool) → s ≡ order-at w i → k ≡ kind-at w s → t ≡ target w 2304 s → six (node-record (k / 2) (eqb (k % 2) 1) t) ≡ node-bytes w i
+  node-of i s k t a b d =
+      ap (λ (f : ℕ). 1 ∷ k / 2 ∷ f ∷ one t ∷ 0 ∷ 0 ∷ []) (parity k)
+      ∙ ap₂ (λ (m o : ℕ). 1 ∷ m / 2 ∷ m % 2 ∷ o ∷ 0 ∷ 0 ∷ []) (b ∙ ap (kind-at w) a) (ap one (d ∙ ap (target w 2304) a))
+    where
+      parity : (n : ℕ) → one (eqb (n % 2) 1) ≡ n % 2
+      parity n = go (ℕ-discrete (n % 2) 1)
+        where
+          go : Dec (n % 2 ≡ 1) → one (eqb (n % 2) 1) ≡ n % 2
+          go (yes e) = ap one (eq-eqb (n % 2) 1 e) ∙ sym e
+          go (no h) = ap one (ne-eqb (n % 2) 1 h) ∙ (omega arith)
 
   pub node-on : (out₀ out out′ : List ℕ) (n : ℕ) → Wrote out₀ out 0 n (nodes-bytes w n) → out′ ≡ put-at out (6 * n) (node-bytes w n) → length out′ ≡ length out → Wrote out₀ out′ 0 (n + 1) (nodes-bytes w (n + 1))
   node-on out₀ out out′ n x e l = wrote-more out₀ out out′ 0 n (n + 1) (nodes-bytes w n) (node-bytes w n) (nodes-bytes w (n + 1)) (omega arith) (ap (nodes-bytes w) (add-one n) ∙ nodes-more w n) x e l (omega arith)

@@ -12,7 +12,6 @@ ghost use Rattle.files.specs.Property.{row, obliged};
 ghost use Rattle.files.specs.Record.{count};
 ghost use Rattle.maximal.specs.Masks.{operands-or, member, within, Taken, and-rows, completion, untrue-at, untrue, obliged-rows, asked-of, Boxes};
 use files::property::PropertyRow;
-use files::property::RowAt;
 use files::property::is_box;
 use files::property::obliged;
 use files::property::row_at;
@@ -58,9 +57,7 @@ pub(crate) fn operands_or(property: &[u8], n: usize, r: usize, last: u8, other: 
     requires { ⌜ (last ≤ 8) × ((PropertyFile (now property)) × ((n ≡ count (now property)) × ((n ≤ 32) × (r < n)))) ⌝ }
     ensures { λ t. ⌜ t ≡ operands-or (row (decode-property (now (property .entry))) r) last other ⌝ }
 {
-    let RowAt::Is(x) = row_at(property, r, 2) else {
-        return 0;
-    };
+    let x = row_at(property, r);
     if (Operator::AND <= x.operator) & (x.operator <= last) {
         return one_row(x.a as usize) | one_row(x.b as usize);
     }
@@ -95,9 +92,7 @@ fn is_untrue(property: &[u8], n: usize, r: usize, method: u8, flag: bool) -> boo
     requires { ⌜ (PropertyFile (now property)) × ((n ≡ count (now property)) × ((n ≤ 32) × (r < n))) ⌝ }
     ensures { λ t. ⌜ t ≡ untrue-at (row (decode-property (now (property .entry))) r) method flag ⌝ }
 {
-    let RowAt::Is(x) = row_at(property, r, 2) else {
-        return false;
-    };
+    let x = row_at(property, r);
     let here = method == x.a;
     let never = x.operator == Operator::FALSE;
     let elsewhere = (x.operator == Operator::IN_METHOD) & !here;
@@ -128,9 +123,7 @@ fn obliged_rows(property: &[u8], n: usize, r: usize, label: u8) -> u32
     requires { ⌜ (PropertyFile (now property)) × ((n ≡ count (now property)) × ((n ≤ 32) × (r < n))) ⌝ }
     ensures { λ t. ⌜ t ≡ obliged-rows (obliged (row (decode-property (now (property .entry))) r) label) ⌝ }
 {
-    let RowAt::Is(x) = row_at(property, r, 2) else {
-        return 0;
-    };
+    let x = row_at(property, r);
     let on = obliged(x, label);
     if on.along {
         return one_row(on.at as usize);
@@ -178,9 +171,7 @@ pub(crate) fn boxes_by_label(property: &[u8], n: usize) -> [u32; LABELS]
     let mut boxes = [0u32; LABELS];
     let mut r = 0;
     while r < n {
-        let RowAt::Is(x) = row_at(property, r, 2) else {
-            return boxes;
-        };
+        let x = row_at(property, r);
         if is_box(x.operator) {
             let with = enter_box(boxes, x, r);
             boxes = with;

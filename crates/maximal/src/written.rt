@@ -17,7 +17,8 @@ use files::cells::get8;
 use files::cells::has_bit;
 use files::cells::put_bit;
 use files::encode::LINE;
-use files::encode::put_six;
+use files::encode::put_record;
+use files::record::Record;
 
 // Where the row of the i-th state under this label begins.
 fn row_of(work: &[u8], i: usize, label: usize) -> usize
@@ -81,11 +82,8 @@ fn write_node(work: &[u8], out: &mut [u8], i: usize)
 {
     let state = get8(work, Places::ORDER, i) as usize;
     let kind = get8(work, Places::KINDS, state);
-    let mut entry = 0;
-    if has_bit(work, Places::TARGETS, 256 * Places::ENTRIES + state) {
-        entry = 1;
-    }
-    put_six(out, i, 1, kind / 2, kind % 2, entry, 0, 0);
+    let entry = has_bit(work, Places::TARGETS, 256 * Places::ENTRIES + state);
+    put_record(out, i, Record::node(kind / 2, kind % 2 == 1, entry));
 }
 
 // Writes all c states.
@@ -123,7 +121,7 @@ fn write_under(work: &[u8], out: &mut [u8], c: usize, i: usize, label: usize, at
     let mut j = next_bit(&ordered, 0, 0, c);
     let mut end = at;
     while j < c {
-        put_six(out, end, 2, i as u8, label as u8, j as u8, 0, 0);
+        put_record(out, end, Record::edge(i as u8, label as u8, j as u8));
         end += 1;
         j = next_bit(&ordered, 0, j + 1, c);
     }

@@ -2,21 +2,22 @@
 ghost use Prim.Native.Nat.{_+_, _*_, _≤_};
 ghost use lib.ListN.{length};
 use crate::say_bytes;
+use crate::stdout::BUFFERED;
 use files::encode::LINE;
 use files::record::Record;
 
 // Record i of what a call wrote.
-pub(crate) fn say_record(out: &[u8], i: usize)
+pub(crate) fn say_record(stdout: &mut [u8; BUFFERED], out: &[u8], i: usize)
     requires { ⌜ 6 * i + 6 ≤ length (now out) ⌝ }
 {
     let p = Record::LEN * i;
-    say_bytes(&out[p..p + Record::LEN]);
+    say_bytes(stdout, &out[p..p + Record::LEN]);
 }
 
 // Line g of a relation.
-pub(crate) fn say_line(out: &[u8], g: usize)
+pub(crate) fn say_line(stdout: &mut [u8; BUFFERED], out: &[u8], g: usize)
     requires { ⌜ 32 * g + 32 ≤ length (now out) ⌝ }
 {
     let p = LINE * g;
-    say_bytes(&out[p..p + LINE]);
+    say_bytes(stdout, &out[p..p + LINE]);
 }

@@ -9,7 +9,22 @@ use crate::regions::Regions;
 use files::cells::has_bit;
 use files::cells::put_bit;
 use files::cells::put16;
-use files::encode::put_six;
+use files::encode::put_record;
+use files::record::Record;
+
+// The steps of a trail's records.
+pub(crate) struct Step {}
+
+impl Step {
+    pub const START: u8 = 0;
+
+    pub const INTERNAL: u8 = 1;
+
+    // A call entered, and one passed over.
+    pub const ENTERED: u8 = 2;
+
+    pub const PASSED: u8 = 3;
+}
 
 // Looks at one record from item `head`: unless its place was met, it makes an item. The end of the items after it.
 pub(crate) fn push(
@@ -30,7 +45,7 @@ pub(crate) fn push(
     if has_bit(work, Regions::SEEN, at) {
         return tail;
     }
-    put_six(work, tail, g, q, kind, label, to, next);
+    put_record(work, tail, Record::step(g, q, kind, label, to, next));
     put16(work, Regions::PARENTS, tail, head as u16);
     put_bit(work, Regions::SEEN, at);
     tail + 1

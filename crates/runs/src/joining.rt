@@ -19,7 +19,6 @@ ghost use Rattle.runs.specs.Joining.{joined, joined-answer, join-said, j
 use crate::answers::Joined;
 use files::cells::copy_at;
 use files::encode::put_record;
-use files::graph::EdgeAt;
 use files::graph::edge_at;
 use files::interface::provided_methods;
 use files::interface::required_methods;
@@ -48,9 +47,7 @@ fn write_moved(graph2: &[u8], s: Sizes, out: &mut [u8], at: usize, j: usize)
     requires { ⌜ (GraphFile (now graph2)) × ((s .second .nodes ≡ nodes-of (now graph2)) × ((s .second .edges ≡ count (now graph2) - nodes-of (now graph2)) × ((s .first .nodes + s .second .nodes ≤ 256) × ((j < s .second .edges) × (6 * at + 6 ≤ length (now out)))))) ⌝ }
     ensures { λ _. ⌜ now (out .exit) ≡ put-at (now (out .entry)) (6 * at) (moved-bytes (s .first .nodes) (decode-graph (now (graph2 .entry))) j) ⌝ }
 {
-    let EdgeAt::Is(e) = edge_at(graph2, s.second.nodes, j, 4) else {
-        return;
-    };
+    let e = edge_at(graph2, s.second.nodes, j);
     let from = moved_node(s.first.nodes, e.from);
     let to = moved_node(s.first.nodes, e.to);
     put_record(out, at, Record::edge(from, e.label, to));

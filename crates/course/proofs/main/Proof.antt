@@ -4,13 +4,16 @@ use Rattle.course.proofs.main.Statement.{statement}
 use Rattle.course.proofs.main.Tie as tie
 
 abbrev Inv-loop : tie.InvT-loop
-Inv-loop n i₀ i = n < 2 ^ 64
+Inv-loop n stdout₀ i₀ stdout i = n < 2 ^ 64
 
 abbrev μ-loop : tie.MeasureT-loop
-μ-loop n i₀ i = n - i
+μ-loop n stdout₀ i₀ stdout i = n - i
 
 arg-count-requires : tie.Need-arg-count-requires Inv-loop μ-loop
 arg-count-requires c κs = search needs
+
+stdout-requires : tie.Need-stdout-requires Inv-loop μ-loop
+stdout-requires c κs = search needs
 
 loop-holds : tie.Need-loop-holds Inv-loop μ-loop
 loop-holds c = search needs
@@ -27,6 +30,9 @@ loop-less c = search needs
 loop-again : tie.Need-loop-again Inv-loop μ-loop
 loop-again c = search needs
 
+flush-requires : tie.Need-flush-requires Inv-loop μ-loop
+flush-requires c κs = search needs
+
 returns : tie.Need-returns Inv-loop μ-loop
 returns c = search needs
 
@@ -37,9 +43,11 @@ main-spec =
     Inv-loop
     μ-loop
     arg-count-requires
+    stdout-requires
     loop-holds
     one-requires
     add-i
     loop-less
     loop-again
+    flush-requires
     returns)

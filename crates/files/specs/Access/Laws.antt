@@ -1,4 +1,5 @@
--- Laws of accepted files: no record is wrong, and each reads as what the decoded value has at its place; the edges of a node are those from its first edge to the next node's. Assumes nothing.
+-- Laws of accepted files: each record holds what the decoded value has at its place; the edges of a node are those from its first edge to the next node's.
+-- Assumes nothing.
 use mathlib.Core.Path.{_≡_, sym, ap, _∙_}
 use mathlib.Core.Logic.{inl, inr}
 use mathlib.Core.Bool.{Bool, true, false, not, cond, _&&_}
@@ -13,87 +14,65 @@ use lib.Seq.{drop-cons}
 use borrow.Author.Tests.{eqb-true, eqb-false}
 use Rattle.files.specs.Basics.Tables.{tally-le, tally-down, tally-is}
 use Rattle.files.specs.Basics.Lexical.{Before, all-ascend}
-use Rattle.files.specs.Graph.{Node, Edge, Graph, node, no-edge}
+use Rattle.files.specs.Graph.{Graph, node, no-edge}
 use Rattle.files.specs.Property.{row}
 use Rattle.files.specs.Rules.{Event, Rule, no-rule, same-event, by-rule}
 use Rattle.files.specs.Interface.{Interface}
-use Rattle.files.specs.Record.{record-at, count, wrong, parsed-as}
-use Rattle.files.specs.Record.Laws.{as-kind, parsed-node, parsed-edge, parsed-row, parsed-rule, parsed-interface}
-use Rattle.files.specs.Refusal.{Kind, graph, property, rules, interface, nodes-of}
-use Rattle.files.specs.Refusal.Laws.{says-wrong}
-use Rattle.files.specs.Decode.{decode-graph, decode-property, decode-rules, decode-interface, row-rec, key, Filed}
-use Rattle.files.specs.Decode.AnyFile.{none-applies}
-use Rattle.files.specs.Decode.Graphs.{is-node, is-edge, few, decoded-node, decoded-edge, decoded-edges, decoded-filed}
+use Rattle.files.specs.Record.{record-at, count}
+use Rattle.files.specs.Refusal.{graph, property, rules, interface, nodes-of}
+use Rattle.files.specs.Decode.{decode-graph, decode-property, decode-rules, decode-interface, to-node, to-edge, to-rule, row-rec, key, Filed}
+use Rattle.files.specs.Decode.Graphs.{few, decoded-node, decoded-edge, decoded-edges, decoded-filed}
 use Rattle.files.specs.Decode.Properties.{is-row, right, decoded-row}
-use Rattle.files.specs.Decode.RuleFiles.{is-rule, decoded-count, decoded-rule}
-use Rattle.files.specs.Decode.Interfaces.{one-record, is-interface, decoded-interface}
+use Rattle.files.specs.Decode.RuleFiles.{decoded-count, decoded-rule}
+use Rattle.files.specs.Decode.Interfaces.{one-record, decoded-interface}
 use Rattle.files.specs.Decode.Values.{row-same, of-kind-three}
-use Rattle.files.specs.Access.{AcceptedAs, first-edge}
-use Rattle.files.specs.declared.check.Checked.{Checked}
+use Rattle.files.specs.Access.{AcceptedAs, node-held, edge-held, row-held, rule-held, first-edge}
 use Rattle.files.specs.declared.record.Limits.{Limits}
 use Rattle.files.specs.declared.record.Record.{Record}
-use Rattle.files.specs.declared.record.Parsed.the-variants.{Node as NodeRead, Edge as EdgeRead, Row as RowRead, Rule as RuleRead, Interface as InterfaceRead}
+use Rattle.files.specs.declared.property.PropertyRow.{PropertyRow}
+use Rattle.files.specs.declared.rules.MonitorRule.{MonitorRule}
 
--- ---- what a record of an accepted file reads as
-
-pub not-wrong : (k : Kind) (l : List ℕ) → AcceptedAs k l → (i : ℕ) → i < count l → T (not (wrong (record-at l i)))
-not-wrong k l a i h = not-T (wrong (record-at l i)) (λ t. none-applies (a .limits) k l (a .accepted) 3 i (h, (says-wrong (record-at l i)) .say t))
+-- ---- what stands at a record of an accepted file
 
 module _ (l : List ℕ) (a : AcceptedAs graph l) where
   pub nodes-few : nodes-of l ≤ count l
   nodes-few = few (a .limits) l (a .accepted)
 
-  pub node-parsed : (g : ℕ) → g < nodes-of l
-      → parsed-as 1 (record-at l g) ≡ NodeRead ((node (decode-graph l) g) .method) ((node (decode-graph l) g) .ret) ((node (decode-graph l) g) .entry)
-  node-parsed g h =
-      as-kind 1 (record-at l g) (is-node (a .limits) l (a .accepted) g h)
-      ∙ parsed-node (record-at l g) (not-wrong graph l a g (omega (arith, nodes-few))) (is-node (a .limits) l (a .accepted) g h)
-      ∙ ap (λ (v : Node). NodeRead (v .method) (v .ret) (v .entry)) (sym (decoded-node (a .limits) l (a .accepted) g h))
+  pub reads-node : (g : ℕ) → g < nodes-of l → (r : Record) → r ≡ record-at l g → node-held (to-node r) ≡ node-held (node (decode-graph l) g)
+  reads-node g h r e = ap (λ (x : Record). node-held (to-node x)) e ∙ ap node-held (sym (decoded-node (a .limits) l (a .accepted) g h))
 
-  pub edge-parsed : (n j : ℕ) → n ≡ nodes-of l → j < count l - n
-      → parsed-as 2 (record-at l (n + j))
-      ≡ EdgeRead ((getD ((decode-graph l) .edges) j no-edge) .from) ((getD ((decode-graph l) .edges) j no-edge) .label) ((getD ((decode-graph l) .edges) j no-edge) .to)
-  edge-parsed n j e h =
-      let k : j < count l - nodes-of l = omega (arith, e) in
-      ap (λ (m : ℕ). parsed-as 2 (record-at l (m + j))) e
-      ∙ as-kind 2 (record-at l (nodes-of l + j)) (is-edge (a .limits) l (a .accepted) (nodes-of l + j) (omega arith) (omega arith))
-      ∙ parsed-edge (record-at l (nodes-of l + j)) (not-wrong graph l a (nodes-of l + j) (omega arith)) (is-edge (a .limits) l (a .accepted) (nodes-of l + j) (omega arith) (omega arith))
-      ∙ ap (λ (v : Edge). EdgeRead (v .from) (v .label) (v .to)) (sym (decoded-edge (a .limits) l (a .accepted) j k))
+  pub reads-edge : (n j : ℕ) → n ≡ nodes-of l → j < count l - n → (r : Record) → r ≡ record-at l (n + j)
+      → edge-held (to-edge r) ≡ edge-held (getD ((decode-graph l) .edges) j no-edge)
+  reads-edge n j d h r e =
+      let k : j < count l - nodes-of l = omega (arith, d) in
+      ap (λ (x : Record). edge-held (to-edge x)) (e ∙ ap (λ (m : ℕ). record-at l (m + j)) d)
+      ∙ ap edge-held (sym (decoded-edge (a .limits) l (a .accepted) j k))
 
-pub row-parsed : (l : List ℕ) → AcceptedAs property l → (r : ℕ) → r < count l
-    → parsed-as 3 (record-at l r)
-    ≡ RowRead ((row-rec (row (decode-property l) r)) .first) ((row-rec (row (decode-property l) r)) .second) ((row-rec (row (decode-property l) r)) .third)
-row-parsed l a r h =
-    as-kind 3 (record-at l r) k
-    ∙ parsed-row (record-at l r) (not-wrong property l a r h) k
-    ∙ ap (λ (x : Record). RowRead (x .first) (x .second) (x .third)) (sym same)
+pub reads-row : (l : List ℕ) → AcceptedAs property l → (i : ℕ) → i < count l → (r : Record) → r ≡ record-at l i
+    → record { operator = r .first; a = r .second; b = r .third } ≡ row-held (row (decode-property l) i)
+reads-row l a i h r e = ap row-read (e ∙ sym same)
   where
-    k : (record-at l r) .kind ≡ 3
-    k = is-row (a .limits) l (a .accepted) r h
+    row-read : Record → PropertyRow
+    row-read x = record { operator = x .first; a = x .second; b = x .third }
 
-    same : row-rec (row (decode-property l) r) ≡ record-at l r
+    same : row-rec (row (decode-property l) i) ≡ record-at l i
     same =
-        ap row-rec (decoded-row (a .limits) l (a .accepted) r h)
-        ∙ row-same _ _ _ ((record-at l r) .fourth) ((record-at l r) .fifth) (right (a .limits) l (a .accepted) r h)
-        ∙ of-kind-three (record-at l r) k
+        ap row-rec (decoded-row (a .limits) l (a .accepted) i h)
+        ∙ row-same _ _ _ ((record-at l i) .fourth) ((record-at l i) .fifth) (right (a .limits) l (a .accepted) i h)
+        ∙ of-kind-three (record-at l i) (is-row (a .limits) l (a .accepted) i h)
 
-pub rule-parsed : (l : List ℕ) → AcceptedAs rules l → (j : ℕ) → j < count l
-    → parsed-as 4 (record-at l j)
-    ≡ RuleRead ((getD (decode-rules l) j no-rule) .state) ((getD (decode-rules l) j no-rule) .event .kind) ((getD (decode-rules l) j no-rule) .event .m1) ((getD (decode-rules l) j no-rule) .event .m2) ((getD (decode-rules l) j no-rule) .next)
-rule-parsed l a j h =
-    as-kind 4 (record-at l j) (is-rule (a .limits) l (a .accepted) j h)
-    ∙ parsed-rule (record-at l j) (not-wrong rules l a j h) (is-rule (a .limits) l (a .accepted) j h)
-    ∙ ap (λ (u : Rule). RuleRead (u .state) (u .event .kind) (u .event .m1) (u .event .m2) (u .next)) (sym (decoded-rule (a .limits) l (a .accepted) j h))
+pub reads-rule : (l : List ℕ) → AcceptedAs rules l → (j : ℕ) → j < count l → (r : Record) → r ≡ record-at l j
+    → rule-held (to-rule r) ≡ rule-held (getD (decode-rules l) j no-rule)
+reads-rule l a j h r e = ap (λ (x : Record). rule-held (to-rule x)) e ∙ ap rule-held (sym (decoded-rule (a .limits) l (a .accepted) j h))
 
 module _ (l : List ℕ) (a : AcceptedAs interface l) where
   pub interface-count : count l ≡ 1
   interface-count = one-record (a .limits) l (a .accepted)
 
-  pub interface-parsed : parsed-as 5 (record-at l 0) ≡ InterfaceRead ((decode-interface l) .provided) ((decode-interface l) .required)
-  interface-parsed =
-      as-kind 5 (record-at l 0) (is-interface (a .limits) l (a .accepted))
-      ∙ parsed-interface (record-at l 0) (not-wrong interface l a 0 (omega (arith, interface-count))) (is-interface (a .limits) l (a .accepted))
-      ∙ ap (λ (I : Interface). InterfaceRead (I .provided) (I .required)) (sym (decoded-interface (a .limits) l (a .accepted)))
+  pub reads-interface : (r : Record) → r ≡ record-at l 0 → (r .first ≡ (decode-interface l) .provided) × (r .second ≡ (decode-interface l) .required)
+  reads-interface r e =
+      let d = decoded-interface (a .limits) l (a .accepted) in
+      (ap (λ (x : Record). x .first) e ∙ ap (λ (I : Interface). I .provided) (sym d), ap (λ (x : Record). x .second) e ∙ ap (λ (I : Interface). I .required) (sym d))
 
 -- ---- a scan of the rules from rule j on
 
@@ -114,6 +93,19 @@ module _ (us : List Rule) (q : ℕ) (v : Event) (j : ℕ) where
 
   pub rule-end : length us ≤ j → by-rule (drop j us) q v ≡ q
   rule-end h = ap (λ (ws : List Rule). by-rule ws q v) (drop-of-length-le us h)
+
+-- rule j, taken or passed over, by the test b on it
+
+module _ (us : List Rule) (q k m n j : ℕ) (u : MonitorRule) (e : u ≡ rule-held (getD us j no-rule)) (b : Bool)
+    (f : b ≡ (eqb (u .state) q && (eqb (u .event) k && (eqb (u .m1) m && eqb (u .m2) n)))) (h : j < length us) where
+  test : b ≡ (eqb ((getD us j no-rule) .state) q && same-event ((getD us j no-rule) .event) (record { kind = k; m1 = m; m2 = n }))
+  test = f ∙ ap (λ (w : MonitorRule). eqb (w .state) q && (eqb (w .event) k && (eqb (w .m1) m && eqb (w .m2) n))) e
+
+  pub rule-taken : b ≡ true → u .next ≡ by-rule (drop j us) q (record { kind = k; m1 = m; m2 = n })
+  rule-taken t = ap (λ (w : MonitorRule). w .next) e ∙ sym (rule-hit us q (record { kind = k; m1 = m; m2 = n }) j h (sym test ∙ t))
+
+  pub rule-passed : b ≡ false → by-rule (drop (j + 1) us) q (record { kind = k; m1 = m; m2 = n }) ≡ by-rule (drop j us) q (record { kind = k; m1 = m; m2 = n })
+  rule-passed t = sym (rule-miss us q (record { kind = k; m1 = m; m2 = n }) j h (sym test ∙ t))
 
 pub rules-count : (l : List ℕ) → AcceptedAs rules l → length (decode-rules l) ≡ count l
 rules-count l a = decoded-count (a .limits) l (a .accepted)

@@ -1,25 +1,25 @@
--- The steps that the code takes come to the file's refusal; each step's equation; what a loop that looks for a record has found; what an accepted file answers. Assumes nothing.
+-- The steps that the code takes come to the file's refusal; each step's equation; what an accepted file answers. Assumes nothing.
 use mathlib.Core.Path.{_≡_, refl, sym, ap, subst, _∙_}
 use mathlib.Core.Bool.{Bool, true, false, not, cond}
 use mathlib.Core.List.{List, [], _∷_}
 use mathlib.Core.Option.{Option, none, some}
-use Prim.Native.Nat.{ℕ, suc, _+_, _%_, _<_}
+use Prim.Native.Nat.{ℕ, zero, suc, _+_, _%_, _≤_}
 use native.Mathlib.Nat.{zero-add}
 use native.Mathlib.Omega.{arith}
-use lib.Dec.{T, ltb, eqb}
+use lib.Dec.{eqb}
 use lib.ListN.{length}
-use Rattle.files.specs.Basics.First.{first-where, whole, pick, Finds, first-finds, first-hit, first-same}
+use Rattle.files.specs.Basics.First.{first-where, or-else, whole, pick}
 use Rattle.files.specs.Basics.Tables.{tally}
-use Rattle.files.specs.Checking.{nodes-in, checked-by, checked, parsed-at, is-wrong, disordered-at, past-of, crossing-of, offends, first-or, first-offending, scanned, unless, counts, counted, bound-of, over, from-one, from-two, from-five, from-seven}
-use Rattle.files.specs.Checking.Agree.{wrong-same, four-agrees, five-agrees, seven-agrees, eight-agrees}
+use Rattle.files.specs.Checking.{nodes-in, checked-by, checked, test, found-at, lower, lowest, Sound, unless, counts, counted, over, from-one, from-two, from-five, from-seven}
+use Rattle.files.specs.Checking.Reads.{five-agrees}
 use Rattle.files.specs.Outcome.{refusal-at}
 use Rattle.files.specs.Record.{record-at, count, wrong}
 use Rattle.files.specs.Refusal.{Kind, misplaced, disordered, passed, missing, past, crossing, refusal}
 use Rattle.files.specs.Refusal.Laws.{refusal-is, findings-are}
 use Rattle.files.specs.declared.check.Checked.{Checked}
 use Rattle.files.specs.declared.check.Checked.the-variants.{Accepted, Refused}
-use Rattle.files.specs.declared.scan.Found.{Found}
-use Rattle.files.specs.declared.scan.Found.the-variants.{Nothing, At}
+use Rattle.files.specs.declared.offence.Found.{Found}
+use Rattle.files.specs.declared.offence.Found.the-variants.{Nothing, At}
 use Rattle.files.specs.declared.record.Limits.{Limits}
 use borrow.Author.Tests.{lt-ltb, le-ltb}
 
@@ -30,7 +30,7 @@ unfolding from-one
 from-one-is L k l position = refl
 
 pub from-two-is : (L : Limits) (k : Kind) (l : List ℕ) (first position : ℕ)
-    → from-two L k l first position ≡ unless (scanned 3 2 k l 0 first position) (from-five L k l first position)
+    → from-two L k l first position ≡ unless (lowest 3 2 k l first position (count l)) (from-five L k l first position)
 unfolding from-two
 from-two-is L k l first position = refl
 
@@ -40,27 +40,30 @@ unfolding from-five
 from-five-is L k l first position = refl
 
 pub from-seven-is : (k : Kind) (l : List ℕ) (first position : ℕ)
-    → from-seven k l first position ≡ unless (scanned 2 7 k l (bound-of k l) first position) (Accepted (nodes-in k l) (count l))
+    → from-seven k l first position ≡ unless (lowest 2 7 k l first position (count l)) (Accepted (nodes-in k l) (count l))
 unfolding from-seven
 from-seven-is k l first position = refl
 
-pub scanned-none : (n : ℕ) (k : Kind) (l : List ℕ) (b first position : ℕ) → scanned 0 n k l b first position ≡ Nothing
-unfolding scanned
-scanned-none n k l b first position = refl
+pub looked-is : (k : Kind) (l : List ℕ) (first position i : ℕ)
+    → found-at 3 2 k l first position i
+    ≡ cond (misplaced k l i) (At (refusal-at 2 position (first + i)))
+    (cond (wrong (record-at l i)) (At (refusal-at 3 position (first + i))) (cond (disordered k l i) (At (refusal-at 4 position (first + i))) Nothing))
+unfolding found-at test
+looked-is k l first position i = refl
 
-pub scanned-more : (many n : ℕ) (k : Kind) (l : List ℕ) (b first position : ℕ)
-    → scanned (suc many) n k l b first position ≡ cond (ltb (first-offending n k l b) (count l)) (At (refusal-at n position (first + first-offending n k l b))) (scanned many (suc n) k l b first position)
-unfolding scanned
-scanned-more many n k l b first position = refl
+pub named-is : (k : Kind) (l : List ℕ) (first position i : ℕ)
+    → found-at 2 7 k l first position i ≡ cond (past k l i) (At (refusal-at 7 position (first + i))) (cond (crossing k l i) (At (refusal-at 8 position (first + i))) Nothing)
+unfolding found-at test
+named-is k l first position i = refl
 
-pub offends-is : (n : ℕ) (k : Kind) (l : List ℕ) (b i : ℕ)
-    → offends n k l b i ≡ cond (eqb n 2) (misplaced k l i) (cond (eqb n 3) (is-wrong (parsed-at l i)) (cond (eqb n 4) (disordered-at l i) (cond (eqb n 7) (past-of b (parsed-at l i)) (crossing-of l b (parsed-at l i)))))
-unfolding offends
-offends-is n k l b i = refl
+pub lowest-none : (many n : ℕ) (k : Kind) (l : List ℕ) (first position : ℕ) → lowest many n k l first position 0 ≡ Nothing
+unfolding lowest
+lowest-none many n k l first position = refl
 
-pub first-offending-is : (n : ℕ) (k : Kind) (l : List ℕ) (b : ℕ) → first-offending n k l b ≡ first-or (first-where (offends n k l b) (count l)) (count l)
-unfolding first-offending
-first-offending-is n k l b = refl
+pub lowest-more : (many n : ℕ) (k : Kind) (l : List ℕ) (first position i : ℕ)
+    → lowest many n k l first position (suc i) ≡ lower (lowest many n k l first position i) (found-at many n k l first position i)
+unfolding lowest
+lowest-more many n k l first position i = refl
 
 pub counted-is : (k : Kind) (l : List ℕ) → counted k l ≡ tally (counts k l) (count l)
 unfolding counted
@@ -69,17 +72,6 @@ counted-is k l = refl
 pub checked-is : (L : Limits) (k : Kind) (l : List ℕ) (position : ℕ) → checked L k l position ≡ checked-by k l position (refusal L k l)
 unfolding checked
 checked-is L k l position = refl
-
--- ---- for a loop: nothing offends below i, and i does; or nothing offends
-
-found-is : (n : ℕ) (k : Kind) (l : List ℕ) (b : ℕ) (m : Option ℕ) → first-where (offends n k l b) (count l) ≡ m → first-offending n k l b ≡ first-or m (count l)
-found-is n k l b m e = first-offending-is n k l b ∙ ap (λ (x : Option ℕ). first-or x (count l)) e
-
-pub offending-at : (n : ℕ) (k : Kind) (l : List ℕ) (b i : ℕ) → i < count l → first-where (offends n k l b) i ≡ none → offends n k l b i ≡ true → first-offending n k l b ≡ i
-offending-at n k l b i h e t = found-is n k l b (some i) (first-hit (offends n k l b) (count l) i h e (rw t tt))
-
-pub offending-none : (n : ℕ) (k : Kind) (l : List ℕ) (b : ℕ) → first-where (offends n k l b) (count l) ≡ none → first-offending n k l b ≡ count l
-offending-none n k l b e = found-is n k l b none e
 
 -- ---- what an accepted file answers
 
@@ -91,6 +83,100 @@ accepted-counts L k l position n c e = go (refusal L k l) e
     go : (o : Option (ℕ × ℕ)) → checked-by k l position o ≡ Accepted n c → (o ≡ none) × (n ≡ nodes-in k l) × (c ≡ count l)
     go none q = (refl, cc, cc)
     go (some x) q = let z : _≡_ {A = ℕ} 0 1 = cc in absurd (omega arith)
+
+-- ---- the lowest of several numbers is the first of them that finds a record, there
+
+-- what a number finds first, or what the rest finds
+abbrev found-first : ℕ → ℕ → ℕ → Option ℕ → Found → Found
+found-first n first position none rest = rest
+found-first n first position (some i) rest = At (refusal-at n position (first + i))
+
+-- nothing, or a number from n on
+abbrev AtLeast : ℕ → Found → Type 0
+AtLeast n Nothing = Unit {0}
+AtLeast n (At r) = n ≤ r .number
+
+least-less : (n : ℕ) (x : Found) → AtLeast (suc n) x → AtLeast n x
+least-less n Nothing a = tt
+least-less n (At r) a = omega (arith, a)
+
+-- the lower number stays, whichever comes first
+keeps-first : (n position i : ℕ) (y : Found) → AtLeast n y → lower (At (refusal-at n position i)) y ≡ At (refusal-at n position i)
+keeps-first n position i Nothing a = refl
+keeps-first n position i (At s) a = rw (le-ltb (s .number) n a) refl
+
+takes-later : (n position i : ℕ) (x : Found) → AtLeast (suc n) x → lower x (At (refusal-at n position i)) ≡ At (refusal-at n position i)
+takes-later n position i Nothing a = refl
+takes-later n position i (At r) a = rw (lt-ltb n (r .number) a) refl
+
+found-first-least : (n first position : ℕ) (m : Option ℕ) (rest : Found) → AtLeast (suc n) rest → AtLeast n (found-first n first position m rest)
+found-first-least n first position none rest a = least-less n rest a
+found-first-least n first position (some i) rest a = omega arith
+
+cond-least : (n : ℕ) (b : Bool) (position i : ℕ) (rest : Found) → AtLeast (suc n) rest → AtLeast n (cond b (At (refusal-at n position i)) rest)
+cond-least n true position i rest a = omega arith
+cond-least n false position i rest a = least-less n rest a
+
+-- number n finds a record before N, or at N, or the later numbers have their say: x with N, y before it, z at it
+first-or-later : (n first position N : ℕ) (m : Option ℕ) (b : Bool) (x y z : Found) → AtLeast (suc n) y → AtLeast (suc n) z → x ≡ lower y z
+    → found-first n first position (or-else m b N) x ≡ lower (found-first n first position m y) (cond b (At (refusal-at n position (first + N))) z)
+first-or-later n first position N (some i) true x y z a c e = sym (keeps-first n position (first + i) (At (refusal-at n position (first + N))) (omega arith))
+first-or-later n first position N (some i) false x y z a c e = sym (keeps-first n position (first + i) z (least-less n z c))
+first-or-later n first position N none true x y z a c e = sym (takes-later n position (first + N) y a)
+first-or-later n first position N none false x y z a c e = e
+
+module _ (k : Kind) (l : List ℕ) (first position : ℕ) where
+  -- of `many` numbers from n on, the first that finds one of N records, there
+  scanned : ℕ → ℕ → ℕ → Found
+  scanned zero n N = Nothing
+  scanned (suc many) n N = found-first n first position (first-where (test k l n) N) (scanned many (suc n) N)
+
+  scanned-least : (many n N : ℕ) → AtLeast n (scanned many n N)
+  unfolding scanned
+  scanned-least zero n N = tt
+  scanned-least (suc many) n N = found-first-least n first position (first-where (test k l n) N) (scanned many (suc n) N) (scanned-least many (suc n) N)
+
+  found-least : (many n i : ℕ) → AtLeast n (found-at many n k l first position i)
+  unfolding found-at
+  found-least zero n i = tt
+  found-least (suc many) n i = cond-least n (test k l n i) position (first + i) (found-at many (suc n) k l first position i) (found-least many (suc n) i)
+
+  scanned-step : (many n N : ℕ) → scanned many n (suc N) ≡ lower (scanned many n N) (found-at many n k l first position N)
+  unfolding scanned found-at
+  scanned-step zero n N = refl
+  scanned-step (suc many) n N =
+      first-or-later n first position N (first-where (test k l n) N) (test k l n N) (scanned many (suc n) (suc N)) (scanned many (suc n) N)
+      (found-at many (suc n) k l first position N) (scanned-least many (suc n) N) (found-least many (suc n) N) (scanned-step many (suc n) N)
+
+  nothing-scanned : (many n : ℕ) → scanned many n 0 ≡ Nothing
+  unfolding scanned
+  nothing-scanned zero n = refl
+  nothing-scanned (suc many) n = nothing-scanned many (suc n)
+
+  lowest-scanned : (many n N : ℕ) → lowest many n k l first position N ≡ scanned many n N
+  lowest-scanned many n zero = lowest-none many n k l first position ∙ sym (nothing-scanned many n)
+  lowest-scanned many n (suc N) =
+      lowest-more many n k l first position N
+      ∙ ap (λ (x : Found). lower x (found-at many n k l first position N)) (lowest-scanned many n N)
+      ∙ sym (scanned-step many n N)
+
+  -- where 2 to 4 find nothing, neither 2 nor 3 does
+  pub unfound-sound : lowest 3 2 k l first position (count l) ≡ Nothing → Sound k l
+  unfolding scanned test
+  unfound-sound e = go (first-where (misplaced k l) (count l)) (first-where (λ i. wrong (record-at l i)) (count l)) refl refl (sym (lowest-scanned 3 2 (count l)) ∙ e)
+    where
+      no-find : (n i : ℕ) → At (refusal-at n position (first + i)) ≡ Nothing → ⊥
+      no-find n i q = subst is-found q tt
+        where
+          is-found : Found → Type 0
+          is-found Nothing = ⊥
+          is-found (At r) = Unit {0}
+
+      go : (a b : Option ℕ) → first-where (misplaced k l) (count l) ≡ a → first-where (λ i. wrong (record-at l i)) (count l) ≡ b
+          → found-first 2 first position a (found-first 3 first position b (scanned 1 4 (count l))) ≡ Nothing → Sound k l
+      go (some i) b d f q = absurd (no-find 2 i q)
+      go none (some i) d f q = absurd (no-find 3 i q)
+      go none none d f q = record { none-misplaced = d; none-wrong = f }
 
 -- ---- the steps come to the file's refusal
 
@@ -113,56 +199,28 @@ whole-step : (k : Kind) (l : List ℕ) (position n : ℕ) (ms : List (Option ℕ
 whole-step k l position n ms rest true f = refl
 whole-step k l position n ms rest false f = f refl
 
-scan-step : (k : Kind) (l : List ℕ) (position many n : ℕ) (ms : List (Option ℕ)) (rest : Checked) (b : ℕ) (m : Option ℕ) → first-where (offends n k l b) (count l) ≡ m
-    → (m ≡ none → unless (scanned many (suc n) k l b 0 position) rest ≡ checked-by k l position (pick (suc n) ms))
-    → unless (scanned (suc many) n k l b 0 position) rest ≡ checked-by k l position (pick n (m ∷ ms))
-scan-step k l position many n ms rest b none e f =
-    rw (scanned-more many n k l b 0 position, offending-none n k l b e, le-ltb (count l) (count l) (omega arith)) (f refl)
-scan-step k l position many n ms rest b (some i) e f =
-    rw (scanned-more many n k l b 0 position, found-is n k l b (some i) e, lt-ltb i (count l) below, zero-add i)
-  where
-    below : i < count l
-    below = (subst (λ (o : Option ℕ). Finds o (λ j. (j < count l) × T (offends n k l b j))) e (first-finds (offends n k l b) (count l))) .0 .0
+scan-step : (k : Kind) (l : List ℕ) (position n : ℕ) (ms : List (Option ℕ)) (rest : Checked) (x : Found) (m : Option ℕ)
+    → (m ≡ none → unless x rest ≡ checked-by k l position (pick (suc n) ms))
+    → unless (found-first n 0 position m x) rest ≡ checked-by k l position (pick n (m ∷ ms))
+scan-step k l position n ms rest x none f = f refl
+scan-step k l position n ms rest x (some i) f = ap (λ (j : ℕ). Refused (refusal-at n position j)) (zero-add i)
 
--- a scan of no number leaves the rest
-scan-end : (k : Kind) (l : List ℕ) (position n b : ℕ) (rest : Checked) → unless (scanned 0 n k l b 0 position) rest ≡ rest
-scan-end k l position n b rest = ap (λ (x : Found). unless x rest) (scanned-none n k l b 0 position)
-
--- each number that looks at records finds what the refusal's number finds
-module _ (k : Kind) (l : List ℕ) where
-  two-finds : first-where (offends 2 k l 0) (count l) ≡ first-where (misplaced k l) (count l)
-  unfolding offends
-  two-finds = first-same (offends 2 k l 0) (misplaced k l) (count l) (λ i h. refl)
-
-  three-finds : first-where (offends 3 k l 0) (count l) ≡ first-where (λ i. wrong (record-at l i)) (count l)
-  unfolding offends
-  three-finds = first-same (offends 3 k l 0) (λ i. wrong (record-at l i)) (count l) (λ i h. wrong-same (record-at l i))
-
-module _ (k : Kind) (l : List ℕ) (two : first-where (misplaced k l) (count l) ≡ none) (three : first-where (λ i. wrong (record-at l i)) (count l) ≡ none) where
-  four-finds : first-where (offends 4 k l 0) (count l) ≡ first-where (disordered k l) (count l)
-  unfolding offends
-  four-finds = first-same (offends 4 k l 0) (disordered k l) (count l) (four-agrees k l two three)
-
-  seven-finds : first-where (offends 7 k l (bound-of k l)) (count l) ≡ first-where (past k l) (count l)
-  unfolding offends
-  seven-finds = first-same (offends 7 k l (bound-of k l)) (past k l) (count l) (seven-agrees k l two three)
-
-  eight-finds : first-where (offends 8 k l (bound-of k l)) (count l) ≡ first-where (crossing k l) (count l)
-  unfolding offends
-  eight-finds = first-same (offends 8 k l (bound-of k l)) (crossing k l) (count l) (eight-agrees k l two three)
-
+module _ (k : Kind) (l : List ℕ) (sound : Sound k l) where
   -- the steps from numbers 7 and 5 on, where 2 and 3 find nothing
   seven-on : (position : ℕ) → from-seven k l 0 position ≡ checked-by k l position (pick 7 (from-seventh k l))
+  unfolding scanned test
   seven-on position =
       from-seven-is k l 0 position
-      ∙ scan-step k l position 1 7 (from-eighth k l) accepted (bound-of k l) _ seven-finds (λ e. scan-step k l position 0 8 [] accepted (bound-of k l) _ eight-finds (λ f. scan-end k l position 9 (bound-of k l) accepted))
+      ∙ ap (λ (x : Found). unless x accepted) (lowest-scanned k l 0 position 2 7 (count l))
+      ∙ scan-step k l position 7 (from-eighth k l) accepted (scanned k l 0 position 1 8 (count l)) (first-where (past k l) (count l))
+      (λ e. scan-step k l position 8 [] accepted Nothing (first-where (crossing k l) (count l)) (λ f. refl))
     where
       accepted : Checked
       accepted = Accepted (nodes-in k l) (count l)
 
   five-on : (L : Limits) (position : ℕ) → from-five L k l 0 position ≡ checked-by k l position (pick 5 (from-fifth L k l))
   five-on L position =
-      from-five-is L k l 0 position ∙ ap (λ (b : Bool). cond b (Refused (refusal-at 5 position 0)) six) (five-agrees k l two three L)
+      from-five-is L k l 0 position ∙ ap (λ (b : Bool). cond b (Refused (refusal-at 5 position 0)) six) (five-agrees L k l sound)
       ∙ whole-step k l position 5 (whole (missing k l) ∷ from-seventh k l) six (passed L k l) (λ e. whole-step k l position 6 (from-seventh k l) _ (missing k l) (λ f. seven-on position))
     where
       six : Checked
@@ -170,6 +228,7 @@ module _ (k : Kind) (l : List ℕ) (two : first-where (misplaced k l) (count l) 
 
 -- the steps that the code takes come to the file's refusal
 pub checked-steps : (L : Limits) (k : Kind) (l : List ℕ) (position : ℕ) → from-one L k l position ≡ checked L k l position
+unfolding scanned test
 checked-steps L k l position = one-on ∙ ap (λ (ms : List (Option ℕ)). checked-by k l position (pick 1 ms)) (sym (findings-are L k l)) ∙ ap (checked-by k l position) (sym (refusal-is L k l)) ∙ sym (checked-is L k l position)
   where
     thirds : List (Option ℕ)
@@ -178,15 +237,14 @@ checked-steps L k l position = one-on ∙ ap (λ (ms : List (Option ℕ)). check
     rest : Checked
     rest = from-five L k l 0 position
 
-    four-on : first-where (misplaced k l) (count l) ≡ none → first-where (λ i. wrong (record-at l i)) (count l) ≡ none
-        → unless (scanned 1 4 k l 0 0 position) rest ≡ checked-by k l position (pick 4 (from-fourth L k l))
-    four-on two three = scan-step k l position 0 4 (from-fifth L k l) rest 0 _ (four-finds k l two three) (λ e. scan-end k l position 5 0 rest ∙ five-on k l two three L position)
-
-    three-on : first-where (misplaced k l) (count l) ≡ none → unless (scanned 2 3 k l 0 0 position) rest ≡ checked-by k l position (pick 3 thirds)
-    three-on two = scan-step k l position 1 3 (from-fourth L k l) rest 0 _ (three-finds k l) (four-on two)
-
     two-on : from-two L k l 0 position ≡ checked-by k l position (pick 2 (first-where (misplaced k l) (count l) ∷ thirds))
-    two-on = from-two-is L k l 0 position ∙ scan-step k l position 2 2 thirds rest 0 _ (two-finds k l) three-on
+    two-on =
+        from-two-is L k l 0 position
+        ∙ ap (λ (x : Found). unless x rest) (lowest-scanned k l 0 position 3 2 (count l))
+        ∙ scan-step k l position 2 thirds rest (scanned k l 0 position 2 3 (count l)) (first-where (misplaced k l) (count l))
+        (λ two. scan-step k l position 3 (from-fourth L k l) rest (scanned k l 0 position 1 4 (count l)) (first-where (λ i. wrong (record-at l i)) (count l))
+        (λ three. scan-step k l position 4 (from-fifth L k l) rest Nothing (first-where (disordered k l) (count l))
+        (λ four. five-on k l (record { none-misplaced = two; none-wrong = three }) L position)))
 
     one-on : from-one L k l position ≡ checked-by k l position (pick 1 (whole (not (eqb (length l % 6) 0)) ∷ first-where (misplaced k l) (count l) ∷ thirds))
     one-on = from-one-is L k l position ∙ whole-step k l position 1 (first-where (misplaced k l) (count l) ∷ thirds) _ (not (eqb (length l % 6) 0)) (λ e. two-on)

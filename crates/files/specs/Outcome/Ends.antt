@@ -1,25 +1,20 @@
 -- How the work of a call ends: a result that is too large or does not fit is refused, another is written; and what a check that passes leaves to those that follow.
-use mathlib.Core.Path.{_≡_, refl, sym, ap, ap₂, subst, _∙_}
-use mathlib.Core.Bool.{Bool, true, false, cond}
+use mathlib.Core.Path.{_≡_, refl, sym, ap, ap₂, _∙_}
+use mathlib.Core.Bool.{Bool, true, false}
 use mathlib.Core.List.{List, [], _∷_, _++_}
-use mathlib.Core.Option.{Option, none, some}
-use Prim.Native.Nat.{ℕ, suc, _+_, _≤_, _<_}
+use mathlib.Core.Option.{Option, none}
+use Prim.Native.Nat.{ℕ, _+_, _≤_, _<_}
 use native.Mathlib.Omega.{arith}
-use lib.Dec.{T, eqb, ltb}
-use lib.ListN.{length, drop, replicate}
-use borrow.Author.Tests.{lt-ltb, le-ltb, ne-eqb}
+use lib.Dec.{T, ltb}
+use lib.ListN.{length, drop}
+use borrow.Author.Tests.{lt-ltb, le-ltb}
 use Rattle.files.specs.Basics.Tests.{T-eq}
-use Rattle.files.specs.Checking.{checked, checked-by}
-use Rattle.files.specs.Checking.Laws.{checked-is}
 use Rattle.files.specs.Decode.{graph-bytes}
 use Rattle.files.specs.Graph.{Graph, size}
-use Rattle.files.specs.Outcome.{Said, Outcome, refuses, says, Answer, Answers, Does, answer, refused-answer, verdict-answer, Check, numbered, file-checks, whole-check, scan-check, out-check}
-use Rattle.files.specs.Outcome.{first-refusal, unless, answered, refusal-at, out-after, work-after, too-large, TooLarge, graph-said}
+use Rattle.files.specs.Outcome.{Said, Outcome, refuses, says, Answer, Answers, answer, refused-answer, verdict-answer, Check, file-checks, whole-check, out-check}
+use Rattle.files.specs.Outcome.{first-refusal, unless, answered, refusal-at, out-after, too-large, TooLarge, graph-said}
 use Rattle.files.specs.Outcome.Laws.{file-first, file-or, refusal-leaves-output, says-too-large}
-use Rattle.files.specs.Refusal.{Kind, findings, refusal}
-use Rattle.files.specs.Refusal.Laws.{eight}
-use Rattle.files.specs.declared.check.Checked.{Checked}
-use Rattle.files.specs.declared.check.Checked.the-variants.{Accepted, Refused}
+use Rattle.files.specs.Refusal.{Kind, refusal}
 use Rattle.files.specs.declared.record.Limits.{Limits}
 use Rattle.files.specs.declared.refusal.Refusal.{Refusal}
 

@@ -74,10 +74,6 @@ parsed-rule r t e = parsed-right r 4 t e
 pub parsed-interface : (r : Record) → T (not (wrong r)) → r .kind ≡ 5 → parsed r ≡ Interface (r .first) (r .second)
 parsed-interface r t e = parsed-right r 5 t e
 
-pub parsed-other : (r : Record) → (r .kind ≡ 1 → ⊥) → (r .kind ≡ 2 → ⊥) → (r .kind ≡ 3 → ⊥) → (r .kind ≡ 4 → ⊥) → (r .kind ≡ 5 → ⊥) → parsed r ≡ Other
-unfolding parsed
-parsed-other r a b c d e = simp (ne-eqb (r .kind) 1 a, ne-eqb (r .kind) 2 b, ne-eqb (r .kind) 3 c, ne-eqb (r .kind) 4 d, ne-eqb (r .kind) 5 e)
-
 -- by the kind's own tests: the tests of the other kinds fall away
 pub parsed-kind : (k : ℕ) (r : Record) → r .kind ≡ k
     → parsed r

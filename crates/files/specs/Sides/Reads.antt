@@ -1,33 +1,38 @@
 -- Refusal 9 on records as they read: in an accepted graph the two tests agree, and a scan finds the first record that is not of the interface.
 use mathlib.Core.Path.{_≡_, refl, sym, ap}
-use mathlib.Core.Bool.{true}
+use mathlib.Core.Bool.{true, not}
 use mathlib.Core.List.{List}
 use mathlib.Core.Option.{Option, none, some}
 use Prim.Native.Nat.{ℕ, _≤_, _<_}
 use native.Mathlib.Decide.{decLt}
 use native.Mathlib.Omega.{arith}
 use Rattle.files.specs.Basics.First.{Finds, first-or, first-where, first-same, first-hit}
-use Rattle.files.specs.Record.{record-at, count, parsed}
+use lib.Dec.{T, not-T}
+use Rattle.files.specs.Record.{record-at, count, wrong, parsed}
 use Rattle.files.specs.Record.Laws.{parsed-node, parsed-edge}
 use Rattle.files.specs.Interface.{Interface}
 use Rattle.files.specs.Refusal.{graph, nodes-of}
 use Rattle.files.specs.Decode.Graphs.{is-node, is-edge}
 use Rattle.files.specs.Access.{AcceptedAs}
-use Rattle.files.specs.Access.Laws.{not-wrong}
+use Rattle.files.specs.Decode.AnyFile.{none-applies}
+use Rattle.files.specs.Refusal.Laws.{says-wrong}
 use Rattle.files.specs.Sides.{foreign, foreign-of, first-foreign, first-foreign-record, ForeignAt}
 use Rattle.files.specs.Sides.Laws.{foreign-finds}
 
 module _ (I : Interface) (l : List ℕ) (a : AcceptedAs graph l) where
+  right : (i : ℕ) → i < count l → T (not (wrong (record-at l i)))
+  right i h = not-T (wrong (record-at l i)) (λ t. none-applies (a .limits) graph l (a .accepted) 3 i (h, (says-wrong (record-at l i)) .say t))
+
   reads : (i : ℕ) → i < count l → foreign-of I (parsed (record-at l i)) ≡ foreign I l i
   reads i h = go (decLt i (nodes-of l))
     where
       go : Dec (i < nodes-of l) → foreign-of I (parsed (record-at l i)) ≡ foreign I l i
       go (yes b) =
           let k = is-node (a .limits) l (a .accepted) i b in
-          rw (parsed-node (record-at l i) (not-wrong graph l a i h) k, k)
+          rw (parsed-node (record-at l i) (right i h) k, k)
       go (no b) =
           let k = is-edge (a .limits) l (a .accepted) i (omega arith) h in
-          rw (parsed-edge (record-at l i) (not-wrong graph l a i h) k, k)
+          rw (parsed-edge (record-at l i) (right i h) k, k)
 
   same : first-where (λ i. foreign-of I (parsed (record-at l i))) (count l) ≡ first-foreign I l
   unfolding first-foreign

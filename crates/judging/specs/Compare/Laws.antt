@@ -18,7 +18,7 @@ use Rattle.files.specs.Refusal.{graph, refusal}
 use Rattle.files.specs.declared.record.Limits.{Limits}
 use Rattle.judging.specs.TwoFiles.{two-match, two-given, two-say}
 use Rattle.judging.specs.Compare.{compare-room, compare-said, compare-verdict, compare-checks, compare-lines, compared, Lowest, Compares, compared-answer, compare-first}
-use Rattle.judging.specs.Simulation.{Covered, Simulates, covered, simulates, uncovered, relation-bytes, related, Simulation}
+use Rattle.judging.specs.Simulation.{Covered, Simulates, covered, simulates, uncovered, relation-bytes, related}
 use Rattle.judging.specs.Simulation.Laws.{verdict, largest, covered-e, covered-i, uncovered-is, uncovered-lowest, simulates-covers, related-simulation, relation-bit}
 use Rattle.files.specs.Outcome.{published}
 use Rattle.files.specs.Basics.Tests.{one}

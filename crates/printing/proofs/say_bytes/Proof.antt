@@ -6,10 +6,10 @@ use Rattle.printing.proofs.say_bytes.Statement.{statement}
 use Rattle.printing.proofs.say_bytes.Tie as tie
 
 abbrev Inv-loop : tie.InvT-loop
-Inv-loop bytes i₀ t3 i = 1 ≤ i
+Inv-loop stdout₀ bytes i₀ t4 stdout i = 1 ≤ i
 
 abbrev μ-loop : tie.MeasureT-loop
-μ-loop bytes i₀ t3 i = length bytes - i
+μ-loop stdout₀ bytes i₀ t4 stdout i = length bytes - i
 
 shared-slice-read-wide : tie.Need-shared-slice-read-wide Inv-loop μ-loop
 shared-slice-read-wide c = search needs

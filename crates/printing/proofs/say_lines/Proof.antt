@@ -6,10 +6,10 @@ use Rattle.printing.proofs.say_lines.Statement.{statement}
 use Rattle.printing.proofs.say_lines.Tie as tie
 
 abbrev Inv-loop : tie.InvT-loop
-Inv-loop out end g₀ g = end ≤ length out / 32
+Inv-loop stdout₀ out end g₀ stdout g = end ≤ length out / 32
 
 abbrev μ-loop : tie.MeasureT-loop
-μ-loop out end g₀ g = end - g
+μ-loop stdout₀ out end g₀ stdout g = end - g
 
 loop-holds : tie.Need-loop-holds Inv-loop μ-loop
 loop-holds c = omega arith

@@ -6,10 +6,10 @@ use Rattle.printing.proofs.say_records.Statement.{statement}
 use Rattle.printing.proofs.say_records.Tie as tie
 
 abbrev Inv-loop : tie.InvT-loop
-Inv-loop out n end i₀ i = end ≤ length out / 6
+Inv-loop stdout₀ out n end i₀ stdout i = end ≤ length out / 6
 
 abbrev μ-loop : tie.MeasureT-loop
-μ-loop out n end i₀ i = end - i
+μ-loop stdout₀ out n end i₀ stdout i = end - i
 
 at-most-requires : tie.Need-at-most-requires Inv-loop μ-loop
 at-most-requires c κs = search needs
@@ -27,7 +27,7 @@ loop-less : tie.Need-loop-less Inv-loop μ-loop
 loop-less c = omega arith
 
 loop-again : tie.Need-loop-again Inv-loop μ-loop
-loop-again c = c .before .before .loop .inv
+loop-again c = c .before .before .before .loop .inv
 
 returns : tie.Need-returns Inv-loop μ-loop
 returns c = search needs

@@ -15,7 +15,7 @@ use Rattle.files.specs.Basics.Lists.{span, span-i, span-e}
 use Rattle.files.specs.Basics.Tables.{tally-more}
 use Rattle.files.specs.Basics.Tests.{any, any-i, any-e, and-i, and-e, or-l, or-r, or-e, decide, same-test, eq-eqb}
 use Rattle.files.specs.Cells.{cell, put-cell}
-use Rattle.files.specs.Cells.Laws.{length-put-cell, byte-outside, cell-same, cell-apart, cell-other, cell-agree}
+use Rattle.files.specs.Cells.Laws.{length-put-cell, byte-outside, cell-same, cell-apart, cell-other}
 use Rattle.files.specs.Graph.{Graph, size}
 use Rattle.files.specs.Rules.{Monitor}
 use Rattle.judging.specs.Ranking.Stores.{tally-room}
@@ -305,7 +305,6 @@ module _ (G : Graph) (mon : Monitor) where
         tables = tables-kept G mon w w′ few-nodes few-edges (λ q a b. st .rest q (inl (a, b))) (now .tables);
         reach-small = λ h r hh hr. small-on h r hh hr (pick h r hh hr);
         reach-happens = λ h r q hh hr hq t. happens-on h r q hh hr hq t (pick h r hh hr);
-        sums-happen = λ m r q hm hr hq t. now .sums-happen m r q hm hr hq (subst (λ (k : ℕ). T (member k q)) (cell-agree w′ w 46612 1 (8 * m + r) (λ i a b. st .rest i (inr (omega arith)))) t);
         in-queue = queued-on;
         few = ends (st .queue-end) .1;
       }

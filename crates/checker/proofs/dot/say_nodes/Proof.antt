@@ -6,19 +6,16 @@ use Rattle.checker.proofs.dot.say_nodes.Statement.{statement}
 use Rattle.checker.proofs.dot.say_nodes.Tie as tie
 
 abbrev Inv-loop : tie.InvT-loop
-Inv-loop graph trail nodes end i₀ i = end ≤ length graph / 6
+Inv-loop stdout₀ nodes trail sheet method end i₀ stdout i = end ≤ length nodes / 6
 
 abbrev μ-loop : tie.MeasureT-loop
-μ-loop graph trail nodes end i₀ i = end - i
-
-at-most-requires : tie.Need-at-most-requires Inv-loop μ-loop
-at-most-requires c κs = search needs
+μ-loop stdout₀ nodes trail sheet method end i₀ stdout i = end - i
 
 loop-holds : tie.Need-loop-holds Inv-loop μ-loop
-loop-holds c = omega (arith, c .at-most .ensures)
+loop-holds c = omega arith
 
-say-node-requires : tie.Need-say-node-requires Inv-loop μ-loop
-say-node-requires c κs = omega arith
+say-node-of-requires : tie.Need-say-node-of-requires Inv-loop μ-loop
+say-node-of-requires c κs = omega arith
 
 add-i : tie.Need-add-i Inv-loop μ-loop
 add-i c = omega arith
@@ -35,13 +32,4 @@ returns c = search needs
 pub say-nodes-spec : {M : Type 1} → statement M
 say-nodes-spec =
     tie.close
-    (tie.spec
-    Inv-loop
-    μ-loop
-    at-most-requires
-    loop-holds
-    say-node-requires
-    add-i
-    loop-less
-    loop-again
-    returns)
+    (tie.spec Inv-loop μ-loop loop-holds say-node-of-requires add-i loop-less loop-again returns)

@@ -6,10 +6,10 @@ use Rattle.checker.proofs.text.list.Statement.{statement}
 use Rattle.checker.proofs.text.list.Tie as tie
 
 abbrev Inv-loop : tie.InvT-loop
-Inv-loop file end i₀ i = end ≤ length file / 6
+Inv-loop stdout₀ file end i₀ stdout i = end ≤ length file / 6
 
 abbrev μ-loop : tie.MeasureT-loop
-μ-loop file end i₀ i = end - i
+μ-loop stdout₀ file end i₀ stdout i = end - i
 
 loop-holds : tie.Need-loop-holds Inv-loop μ-loop
 loop-holds c = omega arith
@@ -24,7 +24,7 @@ loop-less : tie.Need-loop-less Inv-loop μ-loop
 loop-less c = search needs
 
 loop-again : tie.Need-loop-again Inv-loop μ-loop
-loop-again c = c .before .before .loop .inv
+loop-again c = c .before .before .before .loop .inv
 
 say-rest-requires : tie.Need-say-rest-requires Inv-loop μ-loop
 say-rest-requires c κs = search needs

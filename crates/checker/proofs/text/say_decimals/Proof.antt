@@ -6,10 +6,10 @@ use Rattle.checker.proofs.text.say_decimals.Statement.{statement}
 use Rattle.checker.proofs.text.say_decimals.Tie as tie
 
 abbrev Inv-loop : tie.InvT-loop
-Inv-loop bytes k₀ k = 0 ≤ k
+Inv-loop stdout₀ bytes k₀ stdout k = 0 ≤ k
 
 abbrev μ-loop : tie.MeasureT-loop
-μ-loop bytes k₀ k = length bytes - k
+μ-loop stdout₀ bytes k₀ stdout k = length bytes - k
 
 loop-holds : tie.Need-loop-holds Inv-loop μ-loop
 loop-holds c = omega arith

@@ -5,10 +5,10 @@ use Rattle.checker.proofs.text.say_methods.Statement.{statement}
 use Rattle.checker.proofs.text.say_methods.Tie as tie
 
 abbrev Inv-loop : tie.InvT-loop
-Inv-loop set k₀ t3 k = k ≤ 8
+Inv-loop stdout₀ set k₀ t4 stdout k = k ≤ 8
 
 abbrev μ-loop : tie.MeasureT-loop
-μ-loop set k₀ t3 k = 8 - k
+μ-loop stdout₀ set k₀ t4 stdout k = 8 - k
 
 loop-holds : tie.Need-loop-holds Inv-loop μ-loop
 loop-holds c = omega arith

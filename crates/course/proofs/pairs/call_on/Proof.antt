@@ -24,7 +24,7 @@ slice-reshare-prefix-say-judged : tie.Need-slice-reshare-prefix-say-judged
 slice-reshare-prefix-say-judged c = search needs
 
 slice-aggregate-say-judged : tie.Need-slice-aggregate-say-judged
-slice-aggregate-say-judged c = sym (length-take-le (c .before .before .before .before .before .before .before .before .before .before .before .before .before .args .room) _ (omega arith))
+slice-aggregate-say-judged c = sym (length-take-le (c .before .before .before .before .before .before .before .before .before .before .before .before .before .before .args .room) _ (omega arith))
 
 say-judged-requires : tie.Need-say-judged-requires
 say-judged-requires c κs = search needs
@@ -57,7 +57,7 @@ slice-reshare-prefix-say-modelled : tie.Need-slice-reshare-prefix-say-modelled
 slice-reshare-prefix-say-modelled c = search needs
 
 slice-aggregate-say-modelled : tie.Need-slice-aggregate-say-modelled
-slice-aggregate-say-modelled c = sym (length-take-le (c .before .before .before .before .before .before .before .before .before .before .before .before .before .before .args .room) _ (omega arith))
+slice-aggregate-say-modelled c = sym (length-take-le (c .before .before .before .before .before .before .before .before .before .before .before .before .before .before .before .args .room) _ (omega arith))
 
 say-modelled-requires : tie.Need-say-modelled-requires
 say-modelled-requires c κs = search needs
@@ -90,7 +90,7 @@ slice-reshare-prefix-say-compared : tie.Need-slice-reshare-prefix-say-compared
 slice-reshare-prefix-say-compared c = search needs
 
 slice-aggregate-say-compared : tie.Need-slice-aggregate-say-compared
-slice-aggregate-say-compared c = sym (length-take-le (c .before .before .before .before .before .before .before .before .before .before .before .before .before .before .args .room) _ (omega arith))
+slice-aggregate-say-compared c = sym (length-take-le (c .before .before .before .before .before .before .before .before .before .before .before .before .before .before .before .args .room) _ (omega arith))
 
 say-compared-requires : tie.Need-say-compared-requires
 say-compared-requires c κs = search needs

@@ -21,7 +21,7 @@ slice-reshare-prefix-say-joined c = search needs
 
 slice-aggregate-say-joined : tie.Need-slice-aggregate-say-joined
 slice-aggregate-say-joined c =
-    sym (length-take-le (c .before .before .before .before .before .before .before .before .before .before .args .room) _ (omega arith))
+    sym (length-take-le (c .before .before .before .before .before .before .before .before .before .before .before .args .room) _ (omega arith))
 
 say-joined-requires : tie.Need-say-joined-requires
 say-joined-requires c κs = search needs

@@ -29,7 +29,7 @@ slice-reshare-prefix-say-watched c = search needs
 
 slice-aggregate-say-watched : tie.Need-slice-aggregate-say-watched
 slice-aggregate-say-watched c =
-    sym (length-take-le (c .before .before .before .before .before .before .before .before .before .before .before .before .before .args .room) _ (omega arith))
+    sym (length-take-le (c .before .before .before .before .before .before .before .before .before .before .before .before .before .before .args .room) _ (omega arith))
 
 say-watched-requires : tie.Need-say-watched-requires
 say-watched-requires c κs = search needs

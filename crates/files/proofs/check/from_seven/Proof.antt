@@ -1,32 +1,34 @@
 use mathlib.Core.Path.{_≡_, ap, _∙_}
 use Prim.Native.Nat.{ℕ}
-use native.Mathlib.Omega.{arith}
 use Rattle.files.specs.FileKind.{kind-of}
 use Rattle.files.specs.Record.{count}
 use Rattle.files.specs.Checking.{nodes-with, unless, from-seven}
 use Rattle.files.specs.declared.check.Checked.the-variants.{Accepted}
-use Rattle.files.proofs.CheckLaws.{bound-is, bound-fits, seven-scan}
+use Rattle.files.proofs.CheckLaws.{bound-is, seven-scan}
 use borrow.Author.Needs.{needs}
 use Rattle.files.proofs.check.from_seven.Statement.{statement}
 use Rattle.files.proofs.check.from_seven.Tie as tie
 
 -- what the scan found decides the steps from number 7 on
-abbrev Said : tie.After-scan → Type 0
+abbrev Said : tie.After-name-through → Type 0
 Said c =
     let a = c .before .before .before .args in
-    unless (c .scan .result) (Accepted (nodes-with (kind-of (a .kind)) (a .apart)) (count (a .records .now)))
+    unless (c .name-through .result) (Accepted (nodes-with (kind-of (a .kind)) (a .apart)) (count (a .records .now)))
     ≡ from-seven (kind-of (a .kind)) (a .records .now) (a .first) (a .position)
 
-scan-said : (c : tie.After-scan) → Said c
+scan-said : (c : tie.After-name-through) → Said c
 scan-said c =
     let a = c .before .before .before .args in
-    seven-scan (kind-of (a .kind)) (a .records .now) (a .first) (a .position) (a .apart) (c .before .bound .result) (c .scan .result) (c .before .before .before .pre .0) (c .before .bound .ensures) (c .scan .ensures)
+    seven-scan (kind-of (a .kind)) (a .records .now) (a .first) (a .position) (a .apart) (c .name-through .result) (c .before .before .before .pre .1 .0) (c .name-through .ensures)
 
 bound-requires : tie.Need-bound-requires
 bound-requires c κs = search needs
 
-scan-requires : tie.Need-scan-requires
-scan-requires c κs = (omega arith, (omega (arith, c .bound .ensures ∙ bound-is (kind-of (c .before .before .args .kind)) (c .before .before .args .records .now) (c .before .before .args .apart) (c .before .before .pre .0), bound-fits (kind-of (c .before .before .args .kind)) (c .before .before .args .records .now)), c .before .before .pre .1))
+name-through-requires : tie.Need-name-through-requires
+name-through-requires c κs =
+    let s = c .before .before in
+    let a = s .args in
+    (s .pre .0, (c .bound .ensures ∙ bound-is (kind-of (a .kind)) (a .records .now) (a .apart) (s .pre .1 .0), s .pre .1 .1))
 
 enum-known-refusal : tie.Need-enum-known-refusal
 enum-known-refusal c = search needs
@@ -48,7 +50,7 @@ from-seven-spec =
     tie.close
     (tie.spec
     bound-requires
-    scan-requires
+    name-through-requires
     enum-known-refusal
     enum-told
     nodes-requires

@@ -1,8 +1,7 @@
-use mathlib.Core.Path.{ap, _∙_}
+use mathlib.Core.Path.{ap}
 use Prim.Native.Nat.{ℕ}
 use lib.Dec.{eqb}
-use Rattle.files.specs.Checking.{is-or-of}
-use Rattle.files.proofs.Tags.{or-as}
+use Rattle.files.specs.declared.record.Record.{Record}
 use borrow.Author.Needs.{needs}
 use Rattle.files.proofs.scan.counts.Statement.{statement}
 use Rattle.files.proofs.scan.counts.Tie as tie
@@ -16,11 +15,8 @@ kind-at-requires c κs = search needs
 enum-told-2 : tie.Need-enum-told-2
 enum-told-2 c = search needs
 
-parse-row-requires : tie.Need-parse-row-requires
-parse-row-requires c κs = search needs
-
-is-or-requires : tie.Need-is-or-requires
-is-or-requires c κs = search needs
+read-requires : tie.Need-read-requires
+read-requires c κs = search needs
 
 enum-told-3 : tie.Need-enum-told-3
 enum-told-3 c = search needs
@@ -32,7 +28,7 @@ returns : tie.Need-returns
 returns c = rw (c .before .enum-told .given .1) (ap (λ (x : ℕ). eqb x 1) (c .kind-at .ensures))
 
 returns-2 : tie.Need-returns-2
-returns-2 c = rw (c .before .before .enum-told2 .given .1) (c .is-or .ensures ∙ ap is-or-of (c .before .parse-row .ensures) ∙ or-as _)
+returns-2 c = rw (c .before .before .enum-told2 .given .1) (ap (λ (r : Record). eqb (r .first) 8) (c .before .read .ensures))
 
 returns-3 : tie.Need-returns-3
 returns-3 c = search needs
@@ -47,8 +43,7 @@ counts-spec =
     enum-told
     kind-at-requires
     enum-told-2
-    parse-row-requires
-    is-or-requires
+    read-requires
     enum-told-3
     enum-told-4
     returns

@@ -4,7 +4,7 @@ use Prim.Native.Nat.{_≤_, _-_}
 use native.Mathlib.Omega.{arith}
 use Rattle.files.specs.Record.{count}
 use Rattle.files.specs.Basics.First.{first-where}
-use Rattle.files.specs.Checking.{parsed-at}
+use Rattle.files.specs.Record.{parsed-at}
 use Rattle.files.specs.Interface.{Interface}
 use Rattle.files.specs.Sides.{foreign-of, first-foreign-record}
 use Rattle.files.specs.Sides.Reads.{foreign-at, foreign-never}

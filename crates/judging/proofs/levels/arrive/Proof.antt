@@ -6,10 +6,9 @@ use Rattle.files.specs.Decode.{decode-graph, decode-property}
 use Rattle.files.specs.Graph.{no-edge}
 use Rattle.files.specs.Property.{aims}
 use Rattle.judging.specs.Ranking.Stores.{grew-none}
-use Rattle.judging.proofs.LevelLaws.{from-in, may-give, gave, edge-read}
+use Rattle.judging.proofs.LevelLaws.{from-in, may-give, gave}
 use Rattle.files.specs.declared.graph.GraphEdge.{GraphEdge}
 use Rattle.files.specs.declared.property.Looks.{Looks}
-use Rattle.judging.proofs.HeldLaws.{held-edge}
 use Rattle.judging.specs.Ranking.{pair, rank-at, given, tail-after}
 use borrow.Author.Needs.{needs}
 use Rattle.judging.proofs.levels.arrive.Statement.{statement}
@@ -18,56 +17,37 @@ use Rattle.judging.proofs.levels.arrive.Tie as tie
 edge-at-requires : tie.Need-edge-at-requires
 edge-at-requires c κs = search needs
 
-enum-known-edge : tie.Need-enum-known-edge
-enum-known-edge c = search needs
-
-enum-told : tie.Need-enum-told
-enum-told c = search needs
-
-returns : tie.Need-returns
-returns c =
-    absurd (edge-read (c .before .before .edge-at .result) _ _ (c .before .before .edge-at .ensures) (c .enum-told .given .1))
-
 obliged-requires : tie.Need-obliged-requires
 obliged-requires c κs = search needs
 
 give-requires : tie.Need-give-requires
 give-requires c κs =
-    let k = c .before .before .before .before .before .before .before .before .before .before in
+    let k = c .before .before .before .before .before .before .before in
     let a = k .args in
-    let h = held-edge (c .before .before .before .before .before .before .edge-at .result) _ (getD ((decode-graph (a .graph .now)) .edges) (a .e) no-edge) (c .before .before .before .before .edge .given .1) (c .before .before .before .before .before .before .edge-at .ensures) in
+    let h = c .before .before .before .edge-at .ensures in
     let m = may-give (a .s) (a .graph .now) (a .property .now) (k .pre .0) (a .k) (a .tail) (a .work .now) (k .pre .1 .1 .1 .0) ((getD ((decode-graph (a .graph .now)) .edges) (a .e) no-edge) .from) (a .q) (from-in (a .s) (a .graph .now) (a .property .now) (k .pre .0) (a .e) (k .pre .1 .0)) (k .pre .1 .1 .0) (k .pre .1 .1 .1 .1 (subst T (sym (c .before .if1 .taken) ∙ ap (λ (y : Looks). y .along) (c .before .before .obliged .ensures) ∙ ap (λ (u : GraphEdge). aims (a .x .operator) (a .x .a) (u .label)) h) tt)) in
     subst (λ (n : ℕ). (pair n (a .q) < 8192) × ((rank-at (a .work .now) n (a .q) ≡ 0 → a .tail < 8192) × ((41664 ≤ length (a .work .now)) × (a .k ≤ 8192)))) (sym (ap (λ (u : GraphEdge). u .from) h)) m
 
 same-length : tie.Need-same-length
 same-length c = search needs
 
-returns-2 : tie.Need-returns-2
-returns-2 c =
-    let k = c .before .before .before .before .before .before .before .before .before .before .before .before .before in
+returns : tie.Need-returns
+returns c =
+    let k = c .before .before .before .before .before .before .before .before .before .before in
     let a = k .args in
-    let h = held-edge (c .before .before .before .before .before .before .before .before .before .edge-at .result) _ (getD ((decode-graph (a .graph .now)) .edges) (a .e) no-edge) (c .before .before .before .before .before .before .before .edge .given .1) (c .before .before .before .before .before .before .before .before .before .edge-at .ensures) in
+    let h = c .before .before .before .before .before .before .edge-at .ensures in
     let x = gave (a .s) (a .graph .now) (a .property .now) (k .pre .0) (a .k) (a .tail) (a .work .now) (k .pre .1 .1 .1 .0) ((getD ((decode-graph (a .graph .now)) .edges) (a .e) no-edge) .from) (a .q) (from-in (a .s) (a .graph .now) (a .property .now) (k .pre .0) (a .e) (k .pre .1 .0)) (k .pre .1 .1 .0) (k .pre .1 .1 .1 .1 (subst T (sym (c .before .before .before .before .if1 .taken) ∙ ap (λ (y : Looks). y .along) (c .before .before .before .before .before .obliged .ensures) ∙ ap (λ (u : GraphEdge). aims (a .x .operator) (a .x .a) (u .label)) h) tt)) (c .before .before .give .result) (c .before .before .give .last .0)
     (subst (λ (n : ℕ). (c .before .before .give .result ≡ tail-after (a .work .now) (a .tail) n (a .q)) × (c .before .before .give .last .0 ≡ given (a .work .now) (a .tail) n (a .q) (a .k))) (ap (λ (u : GraphEdge). u .from) h) (c .before .before .give .ensures)) in
     (x .0, λ t. x .1)
 
-returns-3 : tie.Need-returns-3
-returns-3 c =
-    let k = c .before .before .before .before .before .before .before .before .before in
+returns-2 : tie.Need-returns-2
+returns-2 c =
+    let k = c .before .before .before .before .before .before in
     let a = k .args in
-    let h = held-edge (c .before .before .before .before .before .edge-at .result) _ (getD ((decode-graph (a .graph .now)) .edges) (a .e) no-edge) (c .before .before .before .edge .given .1) (c .before .before .before .before .before .edge-at .ensures) in
+    let h = c .before .before .edge-at .ensures in
     (grew-none (decode-graph (a .graph .now)) (decode-property (a .property .now)) (a .k) (a .tail) (a .work .now) (k .pre .1 .1 .1 .0), λ t. absurd (subst T (ap (λ (u : GraphEdge). aims (a .x .operator) (a .x .a) (u .label)) (sym h) ∙ sym (ap (λ (y : Looks). y .along) (c .before .obliged .ensures)) ∙ c .if1 .left) t))
 
 pub arrive-spec : {M : Type 1} → statement M
 arrive-spec =
     tie.close
-    (tie.spec
-    edge-at-requires
-    enum-known-edge
-    enum-told
-    returns
-    obliged-requires
-    give-requires
-    same-length
-    returns-2
-    returns-3)
+    (tie.spec edge-at-requires obliged-requires give-requires same-length returns returns-2)

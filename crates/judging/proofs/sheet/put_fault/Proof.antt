@@ -53,39 +53,43 @@ causes-of-requires c κs =
     let h = in-range c in
     (k .pre .0, (h .0, (h .1, k .pre .1 .0 .settled)))
 
-cast-put-six : tie.Need-cast-put-six
-cast-put-six c = omega (arith, in-range (c .before .before))
+cast-fault : tie.Need-cast-fault
+cast-fault c = omega (arith, in-range (c .before))
 
-cast-put-six-2 : tie.Need-cast-put-six-2
-cast-put-six-2 c = omega arith
+cast-fault-2 : tie.Need-cast-fault-2
+cast-fault-2 c = omega arith
 
-cast-put-six-3 : tie.Need-cast-put-six-3
-cast-put-six-3 c = omega (arith, first-bytes (c .before .before) .0)
+cast-fault-3 : tie.Need-cast-fault-3
+cast-fault-3 c = omega (arith, first-bytes (c .before) .0)
 
-cast-put-six-4 : tie.Need-cast-put-six-4
-cast-put-six-4 c = omega (arith, first-bytes (c .before .before .before) .1)
+cast-fault-4 : tie.Need-cast-fault-4
+cast-fault-4 c = omega (arith, first-bytes (c .before .before) .1)
 
-cast-put-six-5 : tie.Need-cast-put-six-5
-cast-put-six-5 c = omega (arith, second-bytes (c .before .before .before .before) .0)
+cast-fault-5 : tie.Need-cast-fault-5
+cast-fault-5 c = omega (arith, second-bytes (c .before .before .before) .0)
 
-cast-put-six-6 : tie.Need-cast-put-six-6
-cast-put-six-6 c = omega (arith, second-bytes (c .before .before .before .before .before) .1)
+cast-fault-6 : tie.Need-cast-fault-6
+cast-fault-6 c = omega (arith, second-bytes (c .before .before .before .before) .1)
 
-put-six-requires : tie.Need-put-six-requires
-put-six-requires c κs = c .before .before .before .before .before .before .before .before .before .before .before .pre .1 .1 .1
+fault-requires : tie.Need-fault-requires
+fault-requires c κs = search needs
+
+put-record-requires : tie.Need-put-record-requires
+put-record-requires c κs = c .before .before .before .before .before .before .before .before .before .before .before .before .pre .1 .1 .1
 
 same-length : tie.Need-same-length
 same-length c = search needs
 
 returns : tie.Need-returns
 returns c =
-    let y = c .before .before .before .before .before .before .before .before in
+    let y = c .before .before .before .before .before .before .before .before .before in
     let a = y .before .before .before .before .before .before .args in
     let x = y .before .get16 in
     let f = y .causes-of in
-    c .before .before .put-six .ensures
+    c .before .before .put-record .ensures
     ∙ ap (put-at (a .out .now) (6 * a .i))
-    (fault-of (decode-graph (a .graph .now)) (decode-property (a .property .now)) (a .work .now) (a .i) (x .result) (f .result .first) (f .result .second) (x .ensures) (f .ensures .0)
+    (c .before .before .before .before .fault .ensures
+    ∙ fault-of (decode-graph (a .graph .now)) (decode-property (a .property .now)) (a .work .now) (a .i) (x .result) (f .result .first) (f .result .second) (x .ensures) (f .ensures .0)
     (f .ensures .1))
 
 pub put-fault-spec : {M : Type 1} → statement M
@@ -95,12 +99,13 @@ put-fault-spec =
     get16-requires
     cast-p
     causes-of-requires
-    cast-put-six
-    cast-put-six-2
-    cast-put-six-3
-    cast-put-six-4
-    cast-put-six-5
-    cast-put-six-6
-    put-six-requires
+    cast-fault
+    cast-fault-2
+    cast-fault-3
+    cast-fault-4
+    cast-fault-5
+    cast-fault-6
+    fault-requires
+    put-record-requires
     same-length
     returns)

@@ -6,8 +6,6 @@ use Prim.Native.Nat.{ℕ, _-_, _≤_, _<_}
 use native.Mathlib.Omega.{arith}
 use lib.ListN.{length, getD, getD-replicate}
 use Rattle.files.specs.Decode.{decode-property}
-use Rattle.files.specs.Property.{row}
-use Rattle.judging.proofs.HeldLaws.{held-row}
 use Rattle.maximal.specs.Masks.{mask}
 use Rattle.maximal.proofs.MaskLaws.{looks-along, boxed-with, boxed-without}
 use Rattle.maximal.proofs.RowLaws.{rows-are}
@@ -27,16 +25,6 @@ loop-holds c = (omega arith, λ l h. getD-replicate 9 l 0 0 h)
 row-at-requires : tie.Need-row-at-requires Inv-loop μ-loop
 row-at-requires c κs = search needs
 
-enum-known-x : tie.Need-enum-known-x Inv-loop μ-loop
-enum-known-x c = search needs
-
-enum-told : tie.Need-enum-told Inv-loop μ-loop
-enum-told c = search needs
-
--- not reached, as the row is there
-returns : tie.Need-returns Inv-loop μ-loop
-returns c = λ l h. cc
-
 is-box-requires : tie.Need-is-box-requires Inv-loop μ-loop
 is-box-requires c κs = search needs
 
@@ -51,11 +39,10 @@ loop-less c = search needs
 
 loop-again : tie.Need-loop-again Inv-loop μ-loop
 loop-again c =
-    let y = c .before .before .before in
-    let i = y .before .before .before .before .loop in
-    let P = decode-property (y .before .before .before .before .before .before .args .property .now) in
-    let f = y .before .before .row-at in
-    let read = held-row (f .result) _ (row P (i .r)) (y .x .given .1) (f .ensures) in
+    let y = c .before .before in
+    let i = y .before .before .loop in
+    let P = decode-property (y .before .before .before .before .args .property .now) in
+    let read = y .row-at .ensures in
     let told = sym (c .before .is-box .ensures) in (
       omega arith,
       λ l h. ⊎-elim
@@ -64,8 +51,8 @@ loop-again c =
           (c .if1 .came),
     )
 
-returns-2 : tie.Need-returns-2 Inv-loop μ-loop
-returns-2 c = λ l h.
+returns : tie.Need-returns Inv-loop μ-loop
+returns c = λ l h.
     let k = c .before .before .before in
     let P = decode-property (k .args .property .now) in
     let i = c .before .loop in
@@ -80,12 +67,9 @@ boxes-by-label-spec =
     μ-loop
     loop-holds
     row-at-requires
-    enum-known-x
-    enum-told
-    returns
     is-box-requires
     enter-box-requires
     add-r
     loop-less
     loop-again
-    returns-2)
+    returns)

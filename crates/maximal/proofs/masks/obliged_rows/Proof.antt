@@ -12,15 +12,6 @@ use Rattle.maximal.proofs.masks.obliged_rows.Tie as tie
 row-at-requires : tie.Need-row-at-requires
 row-at-requires c κs = search needs
 
-enum-known-x : tie.Need-enum-known-x
-enum-known-x c = search needs
-
-enum-told : tie.Need-enum-told
-enum-told c = search needs
-
-returns : tie.Need-returns
-returns c = search needs
-
 obliged-requires : tie.Need-obliged-requires
 obliged-requires c κs = search needs
 
@@ -29,43 +20,31 @@ cast-one-row c = search needs
 
 one-row-requires : tie.Need-one-row-requires
 one-row-requires c κs =
-    let y = c .before .before .before .before in
-    let k = y .before .before .before .before in
+    let y = c .before .before .before in
+    let k = y .before .before in
     let a = k .args in
-    let f = y .before .before .row-at in
     let on = c .before .before .obliged in
     let below = looked-below (a .property .now) (k .pre .0) (a .n) (k .pre .1 .0) (a .r) (k .pre .1 .1 .1) in
-    omega (arith, below (f .result) _ (y .x .given .1) (f .ensures) (a .label) (on .result) (on .ensures) (c .before .if1 .taken))
+    omega (arith, below _ (y .row-at .ensures) (a .label) (on .result) (on .ensures) (c .before .if1 .taken))
 
-returns-2 : tie.Need-returns-2
-returns-2 c =
-    let y = c .before .before .before .before .before in
-    let a = y .before .before .before .before .args in
-    let f = y .before .before .row-at in
+returns : tie.Need-returns
+returns c =
+    let y = c .before .before .before .before in
+    let a = y .before .before .args in
     let on = c .before .before .before .obliged in
     let v = row (decode-property (a .property .now)) (a .r) in
     let along = c .before .before .if1 .taken in
-    c .one-row .ensures ∙ obliged-rows-read (f .result) _ v (y .x .given .1) (f .ensures) (a .label) (on .result) (on .ensures) true along
+    c .one-row .ensures ∙ obliged-rows-read _ v (y .row-at .ensures) (a .label) (on .result) (on .ensures) true along
 
-returns-3 : tie.Need-returns-3
-returns-3 c =
-    let y = c .before .before .before in
-    let a = y .before .before .before .before .args in
-    let f = y .before .before .row-at in
+returns-2 : tie.Need-returns-2
+returns-2 c =
+    let y = c .before .before in
+    let a = y .before .before .args in
     let on = c .before .obliged in
     let v = row (decode-property (a .property .now)) (a .r) in
-    obliged-rows-read (f .result) _ v (y .x .given .1) (f .ensures) (a .label) (on .result) (on .ensures) false (c .if1 .left)
+    obliged-rows-read _ v (y .row-at .ensures) (a .label) (on .result) (on .ensures) false (c .if1 .left)
 
 pub obliged-rows-spec : {M : Type 1} → statement M
 obliged-rows-spec =
     tie.close
-    (tie.spec
-    row-at-requires
-    enum-known-x
-    enum-told
-    returns
-    obliged-requires
-    cast-one-row
-    one-row-requires
-    returns-2
-    returns-3)
+    (tie.spec row-at-requires obliged-requires cast-one-row one-row-requires returns returns-2)

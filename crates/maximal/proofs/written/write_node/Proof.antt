@@ -1,8 +1,8 @@
-use mathlib.Core.Path.{_≡_, sym, ap, _∙_}
-use mathlib.Core.Logic.{⊎-elim}
+use mathlib.Core.Path.{ap, _∙_}
 use Prim.Native.Nat.{_*_}
-use Rattle.files.specs.Basics.Tests.{one}
 use Rattle.files.specs.Cells.{put-at}
+use Rattle.files.specs.Record.{six}
+use Rattle.files.specs.declared.record.Record.{Record}
 use Rattle.maximal.proofs.WrittenLaws.{node-of}
 use borrow.Author.Needs.{needs}
 use Rattle.maximal.proofs.written.write_node.Statement.{statement}
@@ -26,17 +26,24 @@ add-has-bit c = search needs
 has-bit-requires : tie.Need-has-bit-requires
 has-bit-requires c κs = search needs
 
-put-six-requires : tie.Need-put-six-requires
-put-six-requires c κs = search needs
+node-requires : tie.Need-node-requires
+node-requires c κs = search needs
+
+put-record-requires : tie.Need-put-record-requires
+put-record-requires c κs = search needs
 
 same-length : tie.Need-same-length
 same-length c = search needs
 
 returns : tie.Need-returns
-returns c = let a = c .before .before .before .before .before .before .before .before .before .before .args in
-    let e : c .before .before .before .before .if1 .entry ≡ one (c .before .before .before .before .before .has-bit .result) = ⊎-elim (λ u. u .1 ∙ ap one (sym (u .0 .taken))) (λ u. u .1 ∙ ap one (sym (u .0 .left))) (c .before .before .before .before .if1 .came) in
-    c .before .before .put-six .ensures
-    ∙ ap (put-at (a .out .now) (6 * a .i)) (node-of (a .work .now) (a .i) (c .before .before .before .before .before .before .before .get8 .result) (c .before .before .before .before .before .before .get82 .result) (c .before .before .before .before .if1 .entry) (c .before .before .before .before .before .has-bit .result) (c .before .before .before .before .before .before .before .get8 .ensures) (c .before .before .before .before .before .before .get82 .ensures) (c .before .before .before .before .before .has-bit .ensures) e)
+returns c =
+    let a = c .before .before .before .before .before .before .before .before .before .before .args in
+    let bit = c .before .before .before .before .before .has-bit in
+    let kind = c .before .before .before .before .before .before .get82 in
+    let state = c .before .before .before .before .before .before .before .get8 in
+    c .before .before .put-record .ensures
+    ∙ ap (λ (r : Record). put-at (a .out .now) (6 * a .i) (six r)) (c .before .before .before .node .ensures)
+    ∙ ap (put-at (a .out .now) (6 * a .i)) (node-of (a .work .now) (a .i) (state .result) (kind .result) (bit .result) (state .ensures) (kind .ensures) (bit .ensures))
 
 pub write-node-spec : {M : Type 1} → statement M
 write-node-spec =
@@ -48,6 +55,7 @@ write-node-spec =
     mul-has-bit
     add-has-bit
     has-bit-requires
-    put-six-requires
+    node-requires
+    put-record-requires
     same-length
     returns)

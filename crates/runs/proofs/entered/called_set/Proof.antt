@@ -7,8 +7,6 @@ use Rattle.files.specs.Access.{first-edge}
 use Rattle.files.specs.Decode.{decode-graph, decode-rules}
 use Rattle.files.specs.Graph.{no-edge}
 use Rattle.files.specs.Rules.{watch}
-use Rattle.judging.proofs.HeldLaws.{held-edge}
-use Rattle.judging.proofs.LevelLaws.{edge-read}
 use Rattle.runs.specs.Prepared.Files.{labels-small}
 use Rattle.runs.proofs.SummaryLaws.{node-in, member-edge, label-is}
 use Rattle.runs.proofs.SearchLaws.{node-small, edge-owned, first-fits, last-fits, first-is, last-is, first-last, CalledTo, called-none, called-more, called-same, called-all}
@@ -71,27 +69,17 @@ edge-at-requires c κs =
     let d = edge-owned (a .s) (a .graph .now) (a .rules .now) (k .pre .0) (a .g) (a .work .now) hn _ (l .j) (k .pre .1 .1 .1) (c .before .before .get162 .ensures) (l .inv .0) (c .loop-test .taken) in
     (k .pre .0 .held .views .graph-file, k .pre .0 .held .views .nodes-are, omega (arith, d .0, k .pre .0 .held .views .edges-are, k .pre .0 .held .views .nodes-are))
 
-enum-known-e : tie.Need-enum-known-e Inv-loop μ-loop
-enum-known-e c = search needs
-
-enum-told : tie.Need-enum-told Inv-loop μ-loop
-enum-told c = search needs
-
-returns : tie.Need-returns Inv-loop μ-loop
-returns c = absurd (edge-read (c .before .before .edge-at .result) _ _ (c .before .before .edge-at .ensures) (c .enum-told .given .1))
-
 sub-one-state : tie.Need-sub-one-state Inv-loop μ-loop
 sub-one-state c = search needs
 
 one-state-requires : tie.Need-one-state-requires Inv-loop μ-loop
 one-state-requires c κs =
-    let k = c .before .before .before .before .before .before .before .before .before .before .before .before .before .before in
+    let k = c .before .before .before .before .before .before .before .before .before .before .before in
     let a = k .args in
-    let l = c .before .before .before .before .before .before .before .before .loop in
+    let l = c .before .before .before .before .before .loop in
     let hn = node-in (a .s) (a .graph .now) (a .rules .now) (k .pre .0) (a .g) (k .pre .1 .0) in
-    let d = edge-owned (a .s) (a .graph .now) (a .rules .now) (k .pre .0) (a .g) (a .work .now) hn _ (l .j) (k .pre .1 .1 .1) (c .before .before .before .before .before .before .before .before .before .get162 .ensures) (l .inv .0) (c .before .before .before .before .before .before .before .loop-test .taken) in
-    let h = held-edge (c .before .before .before .before .before .before .edge-at .result) _ (getD ((decode-graph (a .graph .now)) .edges) (l .j) no-edge)
-    (c .before .before .before .before .e .given .1) (c .before .before .before .before .before .before .edge-at .ensures) in
+    let d = edge-owned (a .s) (a .graph .now) (a .rules .now) (k .pre .0) (a .g) (a .work .now) hn _ (l .j) (k .pre .1 .1 .1) (c .before .before .before .before .before .before .get162 .ensures) (l .inv .0) (c .before .before .before .before .loop-test .taken) in
+    let h = c .before .before .before .edge-at .ensures in
     let lab = label-is (a .s) (a .graph .now) (a .rules .now) (k .pre .0) (l .j) (d .0) _ h in
     omega (
       arith,
@@ -101,23 +89,22 @@ one-state-requires c κs =
     )
 
 add-j : tie.Need-add-j Inv-loop μ-loop
-add-j c = omega (arith, c .before .before .before .before .before .before .loop-test .taken)
+add-j c = omega (arith, c .before .before .before .loop-test .taken)
 
 loop-less : tie.Need-loop-less Inv-loop μ-loop
-loop-less c = omega (arith, c .before .before .before .before .before .before .loop-test .taken)
+loop-less c = omega (arith, c .before .before .before .loop-test .taken)
 
 loop-again : tie.Need-loop-again Inv-loop μ-loop
 loop-again c =
-    let k = c .before .before .before .before .before .before .before .before .before .before .before .before .before in
+    let k = c .before .before .before .before .before .before .before .before .before .before in
     let a = k .args in
-    let l = c .before .before .before .before .before .before .before .loop in
+    let l = c .before .before .before .before .loop in
     let hn = node-in (a .s) (a .graph .now) (a .rules .now) (k .pre .0) (a .g) (k .pre .1 .0) in
-    let d = edge-owned (a .s) (a .graph .now) (a .rules .now) (k .pre .0) (a .g) (a .work .now) hn _ (l .j) (k .pre .1 .1 .1) (c .before .before .before .before .before .before .before .before .get162 .ensures) (l .inv .0) (c .before .before .before .before .before .before .loop-test .taken) in
-    let h = held-edge (c .before .before .before .before .before .edge-at .result) _ (getD ((decode-graph (a .graph .now)) .edges) (l .j) no-edge) (c .before .before .before .e .given .1)
-    (c .before .before .before .before .before .edge-at .ensures) in
+    let d = edge-owned (a .s) (a .graph .now) (a .rules .now) (k .pre .0) (a .g) (a .work .now) hn _ (l .j) (k .pre .1 .1 .1) (c .before .before .before .before .before .get162 .ensures) (l .inv .0) (c .before .before .before .loop-test .taken) in
+    let h = c .before .before .edge-at .ensures in
     let lab = label-is (a .s) (a .graph .now) (a .rules .now) (k .pre .0) (l .j) (d .0) _ h in (
       omega (arith, l .inv .0),
-      omega (arith, c .before .before .before .before .before .before .loop-test .taken),
+      omega (arith, c .before .before .before .loop-test .taken),
       ⊎-elim
           (λ u. subst (CalledTo (decode-graph (a .graph .now)) (watch (decode-rules (a .rules .now))) (a .g) (l .j + 1)) (sym (u .3))
           (called-more (decode-graph (a .graph .now)) (watch (decode-rules (a .rules .now))) (a .g) (l .j) (l .set) (l .inv .0) (l .inv .2) _ (u .2 .result) lab (u .0 .taken) (u .2 .ensures)))
@@ -125,8 +112,8 @@ loop-again c =
           (called-same (decode-graph (a .graph .now)) (watch (decode-rules (a .rules .now))) (a .g) (l .j) (l .set) (l .inv .0) (l .inv .2) _ lab (omega (arith, u .0 .left)))) (c .if1 .came),
     )
 
-returns-2 : tie.Need-returns-2 Inv-loop μ-loop
-returns-2 c =
+returns : tie.Need-returns Inv-loop μ-loop
+returns c =
     let k = c .before .before .before .before .before .before .before in
     let a = k .args in
     let l = c .before .loop in
@@ -147,12 +134,9 @@ called-set-spec =
     cast-last
     loop-holds
     edge-at-requires
-    enum-known-e
-    enum-told
-    returns
     sub-one-state
     one-state-requires
     add-j
     loop-less
     loop-again
-    returns-2)
+    returns)

@@ -1,13 +1,12 @@
 use mathlib.Core.Path.{ap, _∙_}
 use Prim.Native.Nat.{ℕ}
 use native.Mathlib.Omega.{arith}
-use Rattle.files.specs.Decode.{decode-graph, decode-rules}
+use Rattle.files.specs.Decode.{decode-rules}
 use Rattle.files.specs.Graph.{node}
 use Rattle.files.specs.Rules.{calls, watch}
 use Rattle.files.specs.declared.graph.GraphNode.{GraphNode}
-use Rattle.judging.proofs.HeldLaws.{held-node}
 use Rattle.runs.proofs.SearchLaws.{method-fits, state-fits, entered-before, entered-now}
-use Rattle.runs.proofs.SummaryLaws.{node-read, node-readable}
+use Rattle.runs.proofs.SummaryLaws.{node-readable}
 use borrow.Author.Needs.{needs}
 use Rattle.runs.proofs.entered.enter.Statement.{statement}
 use Rattle.runs.proofs.entered.enter.Tie as tie
@@ -19,22 +18,12 @@ node-at-requires c κs =
     let at = k .pre .1 .1 .1 .1 .0 in
     (k .pre .0 .held .views .graph-file, node-readable (a .s) (a .graph .now) (a .rules .now) (k .pre .0) (a .g) (at .at-node))
 
-enum-known-v : tie.Need-enum-known-v
-enum-known-v c = search needs
-
-enum-told : tie.Need-enum-told
-enum-told c = search needs
-
-returns : tie.Need-returns
-returns c = absurd (node-read (c .before .before .node-at .result) _ _ (c .before .before .node-at .ensures) (c .enum-told .given .1))
-
 step-requires : tie.Need-step-requires
 step-requires c κs =
-    let k = c .before .before .before .before .before .before .before .before in
+    let k = c .before .before .before .before .before in
     let a = k .args in
     let at = k .pre .1 .1 .1 .1 .0 in
-    let h = held-node (c .before .before .before .before .node-at .result) _ (node (decode-graph (a .graph .now)) (a .g)) (c .before .before .v .given .1)
-    (c .before .before .before .before .node-at .ensures) in
+    let h = c .before .node-at .ensures in
     let v = ap (λ (u : GraphNode). u .method) h in
     let f = method-fits (a .s) (a .graph .now) (a .rules .now) (k .pre .0) (a .g) _ (at .at-node) v in
     (k .pre .1 .1 .1 .1 .1 .searching .tables .steps, (k .pre .1 .1 .1 .1 .1 .searching .room, (at .now-small, (omega arith, (omega arith, (f .0, (f .1, (k .pre .1 .0, k .pre .1 .1 .0))))))))
@@ -50,11 +39,10 @@ add-at c = search needs
 
 has-bit-requires : tie.Need-has-bit-requires
 has-bit-requires c κs =
-    let k = c .before .before .before .before .before .before .before .before .before .before in
+    let k = c .before .before .before .before .before .before .before in
     let a = k .args in
     let at = k .pre .1 .1 .1 .1 .0 in
-    let h = held-node (c .before .before .before .before .before .before .node-at .result) _ (node (decode-graph (a .graph .now)) (a .g)) (c .before .before .before .before .v .given .1)
-    (c .before .before .before .before .before .before .node-at .ensures) in
+    let h = c .before .before .before .node-at .ensures in
     let v = ap (λ (u : GraphNode). u .method) h in
     let d = c .before .step .ensures ∙ ap (λ (i : ℕ). watch (decode-rules (a .rules .now)) (a .q) (calls i (a .l))) v in
     omega (
@@ -68,13 +56,12 @@ has-bit-requires c κs =
 same-length : tie.Need-same-length
 same-length c = search needs
 
-returns-2 : tie.Need-returns-2
-returns-2 c =
-    let k = c .before .before .before .before .before .before .before .before .before .before .before .before in
+returns : tie.Need-returns
+returns c =
+    let k = c .before .before .before .before .before .before .before .before .before in
     let a = k .args in
     let at = k .pre .1 .1 .1 .1 .0 in
-    let h = held-node (c .before .before .before .before .before .before .before .before .node-at .result) _ (node (decode-graph (a .graph .now)) (a .g))
-    (c .before .before .before .before .before .before .v .given .1) (c .before .before .before .before .before .before .before .before .node-at .ensures) in
+    let h = c .before .before .before .before .before .node-at .ensures in
     let v = ap (λ (u : GraphNode). u .method) h in
     let d = c .before .before .before .step .ensures ∙ ap (λ (i : ℕ). watch (decode-rules (a .rules .now)) (a .q) (calls i (a .l))) v in
     entered-before (a .s) (a .graph .now) (a .rules .now) (k .pre .0) (a .start) (a .head) (a .tail) (a .work .now) (a .g) (a .q) at (a .l) (k .pre .1 .0) (k .pre .1 .1 .1 .0)
@@ -82,23 +69,20 @@ returns-2 c =
 
 look-entries-requires : tie.Need-look-entries-requires
 look-entries-requires c κs =
-    let k = c .before .before .before .before .before .before .before .before .before .before .before .before .before in
+    let k = c .before .before .before .before .before .before .before .before .before .before in
     let a = k .args in
     let at = k .pre .1 .1 .1 .1 .0 in
-    let h = held-node (c .before .before .before .before .before .before .before .before .before .node-at .result) _ (node (decode-graph (a .graph .now)) (a .g))
-    (c .before .before .before .before .before .before .before .v .given .1) (c .before .before .before .before .before .before .before .before .before .node-at .ensures) in
+    let h = c .before .before .before .before .before .before .node-at .ensures in
     let v = ap (λ (u : GraphNode). u .method) h in
     let d = c .before .before .before .before .step .ensures ∙ ap (λ (i : ℕ). watch (decode-rules (a .rules .now)) (a .q) (calls i (a .l))) v in
     (k .pre .0, (k .pre .1 .0, (k .pre .1 .1 .0, (k .pre .1 .1 .1 .0, (d, (at, k .pre .1 .1 .1 .1 .1))))))
 
 put-bit-requires : tie.Need-put-bit-requires
 put-bit-requires c κs =
-    let k = c .before .before .before .before .before .before .before .before .before .before .before .before .before .before .before .before .before in
+    let k = c .before .before .before .before .before .before .before .before .before .before .before .before .before .before in
     let a = k .args in
     let at = k .pre .1 .1 .1 .1 .0 in
-    let h = held-node (c .before .before .before .before .before .before .before .before .before .before .before .before .before .node-at .result) _ (node (decode-graph (a .graph .now)) (a .g))
-    (c .before .before .before .before .before .before .before .before .before .before .before .v .given .1)
-    (c .before .before .before .before .before .before .before .before .before .before .before .before .before .node-at .ensures) in
+    let h = c .before .before .before .before .before .before .before .before .before .before .node-at .ensures in
     let v = ap (λ (u : GraphNode). u .method) h in
     let d = c .before .before .before .before .before .before .before .before .step .ensures ∙ ap (λ (i : ℕ). watch (decode-rules (a .rules .now)) (a .q) (calls i (a .l))) v in
     omega (
@@ -114,14 +98,12 @@ put-bit-requires c κs =
 same-length-2 : tie.Need-same-length-2
 same-length-2 c = search needs
 
-returns-3 : tie.Need-returns-3
-returns-3 c =
-    let k = c .before .before .before .before .before .before .before .before .before .before .before .before .before .before .before .before .before .before .before .before in
+returns-2 : tie.Need-returns-2
+returns-2 c =
+    let k = c .before .before .before .before .before .before .before .before .before .before .before .before .before .before .before .before .before in
     let a = k .args in
     let at = k .pre .1 .1 .1 .1 .0 in
-    let h = held-node (c .before .before .before .before .before .before .before .before .before .before .before .before .before .before .before .before .node-at .result) _
-    (node (decode-graph (a .graph .now)) (a .g)) (c .before .before .before .before .before .before .before .before .before .before .before .before .before .before .v .given .1)
-    (c .before .before .before .before .before .before .before .before .before .before .before .before .before .before .before .before .node-at .ensures) in
+    let h = c .before .before .before .before .before .before .before .before .before .before .before .before .before .node-at .ensures in
     let v = ap (λ (u : GraphNode). u .method) h in
     let d = c .before .before .before .before .before .before .before .before .before .before .before .step .ensures ∙ ap (λ (i : ℕ). watch (decode-rules (a .rules .now)) (a .q) (calls i (a .l)))
     v in
@@ -135,17 +117,14 @@ enter-spec =
     tie.close
     (tie.spec
     node-at-requires
-    enum-known-v
-    enum-told
-    returns
     step-requires
     mul-at
     cast-at
     add-at
     has-bit-requires
     same-length
-    returns-2
+    returns
     look-entries-requires
     put-bit-requires
     same-length-2
-    returns-3)
+    returns-2)

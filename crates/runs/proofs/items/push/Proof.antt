@@ -1,7 +1,9 @@
-use mathlib.Core.Path.{sym, subst, _∙_}
+use mathlib.Core.Path.{sym, ap, subst, _∙_}
 use mathlib.Core.Bool.{Bool, not}
+use Prim.Native.Nat.{_*_}
 use native.Mathlib.Omega.{arith}
 use lib.Dec.{T}
+use Rattle.files.specs.Cells.{put-at}
 use Rattle.runs.specs.Searching.{rec-of}
 use Rattle.runs.specs.Searching.Pushes.{push-seen, push-new}
 use borrow.Author.Needs.{needs}
@@ -26,35 +28,37 @@ returns c =
     let a = k .args in
     push-seen (a .work .now) (a .tail) (a .head) (rec-of (a .g) (a .q) (a .kind) (a .label) (a .to) (a .next)) (c .before .has-bit .result) (c .before .has-bit .ensures) (c .if1 .taken)
 
-put-six-requires : tie.Need-put-six-requires
-put-six-requires c κs =
-    let k = c .before .before .before .before .before in
-    let few = k .pre .1 .1 .1 (subst (λ (b : Bool). T (not b)) (sym (sym (c .before .before .has-bit .ensures) ∙ c .before .if1 .left)) tt) in
+step-requires : tie.Need-step-requires
+step-requires c κs = search needs
+
+put-record-requires : tie.Need-put-record-requires
+put-record-requires c κs =
+    let k = c .before .before .before .before .before .before in
+    let few = k .pre .1 .1 .1 (subst (λ (b : Bool). T (not b)) (sym (sym (c .before .before .before .has-bit .ensures) ∙ c .before .before .if1 .left)) tt) in
     omega (arith, few, k .pre .1 .0)
 
 cast-put16 : tie.Need-cast-put16
 cast-put16 c =
-    let k = c .before .before .before .before .before .before .before .before .before in
+    let k = c .before .before .before .before .before .before .before .before .before .before in
     let few = k .pre .1 .1 .1 (subst (λ (b : Bool). T (not b)) (sym
-    (sym (c .before .before .before .before .before .before .has-bit .ensures) ∙ c .before .before .before .before .before .if1 .left)) tt) in
+    (sym (c .before .before .before .before .before .before .before .has-bit .ensures) ∙ c .before .before .before .before .before .before .if1 .left)) tt) in
     omega (arith, few, k .pre .1 .1 .0)
 
 put16-requires : tie.Need-put16-requires
 put16-requires c κs =
-    let k = c .before .before .before .before .before .before .before .before .before in
+    let k = c .before .before .before .before .before .before .before .before .before .before in
     let few = k .pre .1 .1 .1 (subst (λ (b : Bool). T (not b)) (sym
-    (sym (c .before .before .before .before .before .before .has-bit .ensures) ∙ c .before .before .before .before .before .if1 .left)) tt) in
-    omega (arith, few, k .pre .1 .0, c .before .before .before .put-six .kept .0)
+    (sym (c .before .before .before .before .before .before .before .has-bit .ensures) ∙ c .before .before .before .before .before .before .if1 .left)) tt) in
+    omega (arith, few, k .pre .1 .0, c .before .before .before .put-record .kept .0)
 
 put-bit-requires : tie.Need-put-bit-requires
 put-bit-requires c κs = search needs
 
 add-result : tie.Need-add-result
 add-result c =
-    let k = c .before .before .before .before .before .before .before .before .before .before .before .before .before .before .before .before in
+    let k = c .before .before .before .before .before .before .before .before .before .before .before .before .before .before .before .before .before in
     let few = k .pre .1 .1 .1 (subst (λ (b : Bool). T (not b)) (sym
-    (sym (c .before .before .before .before .before .before .before .before .before .before .before .before .before .has-bit .ensures) ∙ c .before .before .before .before .before .before .before
-    .before .before .before .before .before .if1 .left)) tt) in
+    (sym (c .before .before .before .before .before .before .before .before .before .before .before .before .before .before .has-bit .ensures) ∙ c .before .before .before .before .before .before .before .before .before .before .before .before .before .if1 .left)) tt) in
     omega (arith, few)
 
 same-length-2 : tie.Need-same-length-2
@@ -62,14 +66,14 @@ same-length-2 c = search needs
 
 returns-2 : tie.Need-returns-2
 returns-2 c =
-    let k = c .before .before .before .before .before .before .before .before .before .before .before .before .before .before .before .before in
+    let k = c .before .before .before .before .before .before .before .before .before .before .before .before .before .before .before .before .before in
     let a = k .args in
-    push-new (a .work .now) (c .before .before .before .before .before .before .before .before .before .before .put-six .last .0)
+    push-new (a .work .now) (c .before .before .before .before .before .before .before .before .before .before .put-record .last .0)
     (c .before .before .before .before .before .before .put16 .last .0) (c .before .before .put-bit .last .0) (a .tail) (a .head) (rec-of (a .g) (a .q) (a .kind) (a .label) (a .to) (a .next))
-    (c .before .before .before .before .before .before .before .before .before .before .before .before .before .has-bit .result)
-    (c .before .before .before .before .before .before .before .before .before .before .before .before .before .has-bit .ensures)
-    (c .before .before .before .before .before .before .before .before .before .before .before .before .if1 .left)
-    (c .before .before .before .before .before .before .before .before .before .before .put-six .ensures) (c .before .before .before .before .before .before .put16 .ensures)
+    (c .before .before .before .before .before .before .before .before .before .before .before .before .before .before .has-bit .result)
+    (c .before .before .before .before .before .before .before .before .before .before .before .before .before .before .has-bit .ensures)
+    (c .before .before .before .before .before .before .before .before .before .before .before .before .before .if1 .left)
+    (c .before .before .before .before .before .before .before .before .before .before .put-record .ensures ∙ ap (put-at (a .work .now) (6 * a .tail)) (c .before .before .before .before .before .before .before .before .before .before .before .step .ensures)) (c .before .before .before .before .before .before .put16 .ensures)
     (c .before .before .put-bit .ensures)
 
 pub push-spec : {M : Type 1} → statement M
@@ -81,7 +85,8 @@ push-spec =
     has-bit-requires
     same-length
     returns
-    put-six-requires
+    step-requires
+    put-record-requires
     cast-put16
     put16-requires
     put-bit-requires

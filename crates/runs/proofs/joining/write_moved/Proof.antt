@@ -1,11 +1,7 @@
 -- Both nodes stay in a byte, since the joined graph has at most 256.
 use mathlib.Core.Path.{ap, _∙_}
 use Prim.Native.Nat.{_*_}
-use lib.ListN.{getD}
-use Rattle.files.proofs.AccessLaws.{held-edge}
 use Rattle.files.specs.Cells.{put-at}
-use Rattle.files.specs.Decode.{decode-graph}
-use Rattle.files.specs.Graph.{no-edge}
 use Rattle.files.specs.Record.{six}
 use Rattle.runs.specs.Joining.Bytes.{from-fits, to-fits, moved-is}
 use borrow.Author.Needs.{needs}
@@ -15,49 +11,40 @@ use Rattle.runs.proofs.joining.write_moved.Tie as tie
 edge-at-requires : tie.Need-edge-at-requires
 edge-at-requires c κs = search needs
 
-enum-known-e : tie.Need-enum-known-e
-enum-known-e c = search needs
-
-enum-told : tie.Need-enum-told
-enum-told c = search needs
-
-returns : tie.Need-returns
-returns c = search needs
-
 moved-node-requires : tie.Need-moved-node-requires
 moved-node-requires c κs =
-    let k = c .before .before .before .before .before .before in
+    let k = c .before .before .before in
     let a = k .args in
     let p = k .pre .1 in
-    let x = c .before .before .before .edge-at in
-    let h = held-edge (x .result) _ (getD ((decode-graph (a .graph2 .now)) .edges) (a .j) no-edge) (c .before .e .given .1) (x .ensures) in
+    let x = c .edge-at in
+    let h = x .ensures in
     from-fits (a .graph2 .now) (k .pre .0) (a .s .first .nodes) (a .s .second .nodes) (a .s .second .edges) (p .0) (p .1 .0) (p .1 .1 .0) (a .j) (p .1 .1 .1 .0) _ h
 
 moved-node-requires-2 : tie.Need-moved-node-requires-2
 moved-node-requires-2 c κs =
-    let k = c .before .before .before .before .before .before .before in
+    let k = c .before .before .before .before in
     let a = k .args in
     let p = k .pre .1 in
-    let x = c .before .before .before .before .edge-at in
-    let h = held-edge (x .result) _ (getD ((decode-graph (a .graph2 .now)) .edges) (a .j) no-edge) (c .before .before .e .given .1) (x .ensures) in
+    let x = c .before .edge-at in
+    let h = x .ensures in
     to-fits (a .graph2 .now) (k .pre .0) (a .s .first .nodes) (a .s .second .nodes) (a .s .second .edges) (p .0) (p .1 .0) (p .1 .1 .0) (a .j) (p .1 .1 .1 .0) _ h
 
 edge-requires : tie.Need-edge-requires
 edge-requires c κs = search needs
 
 put-record-requires : tie.Need-put-record-requires
-put-record-requires c κs = c .before .before .before .before .before .before .before .before .before .before .pre .1 .1 .1 .1 .1
+put-record-requires c κs = c .before .before .before .before .before .before .before .pre .1 .1 .1 .1 .1
 
 same-length : tie.Need-same-length
 same-length c = search needs
 
-returns-2 : tie.Need-returns-2
-returns-2 c =
-    let k = c .before .before .before .before .before .before .before .before .before .before .before .before .before in
+returns : tie.Need-returns
+returns c =
+    let k = c .before .before .before .before .before .before .before .before .before .before in
     let a = k .args in
     let p = k .pre .1 in
-    let x = c .before .before .before .before .before .before .before .before .before .before .edge-at in
-    let h = held-edge (x .result) _ (getD ((decode-graph (a .graph2 .now)) .edges) (a .j) no-edge) (c .before .before .before .before .before .before .before .before .e .given .1) (x .ensures) in
+    let x = c .before .before .before .before .before .before .before .edge-at in
+    let h = x .ensures in
     let from = c .before .before .before .before .before .before .moved-node in
     let to = c .before .before .before .before .before .moved-node2 in
     c .before .before .put-record .ensures
@@ -68,12 +55,9 @@ write-moved-spec =
     tie.close
     (tie.spec
     edge-at-requires
-    enum-known-e
-    enum-told
-    returns
     moved-node-requires
     moved-node-requires-2
     edge-requires
     put-record-requires
     same-length
-    returns-2)
+    returns)

@@ -1,13 +1,9 @@
 use mathlib.Core.Path.{sym, subst}
 use Prim.Native.Nat.{ℕ, _<_}
 use native.Mathlib.Omega.{arith}
-use lib.ListN.{getD}
 use Rattle.files.specs.Basics.Lists.{span}
 use Rattle.files.specs.Decode.{decode-graph, decode-rules}
-use Rattle.files.specs.Graph.{no-edge}
 use Rattle.files.specs.Rules.{watch}
-use Rattle.judging.proofs.HeldLaws.{held-edge}
-use Rattle.judging.proofs.LevelLaws.{edge-read}
 use Rattle.runs.specs.Prepared.Files.{monitor-small}
 use Rattle.runs.specs.Searching.{place, passed-recs, passed-at}
 use Rattle.runs.specs.Searching.Looks.{may-same}
@@ -20,32 +16,21 @@ use Rattle.runs.proofs.passed.look_passed.Tie as tie
 edge-at-requires : tie.Need-edge-at-requires
 edge-at-requires c κs = search needs
 
-enum-known-e : tie.Need-enum-known-e
-enum-known-e c = search needs
-
-enum-told : tie.Need-enum-told
-enum-told c = search needs
-
 returns : tie.Need-returns
-returns c = absurd (edge-read (c .before .before .edge-at .result) _ _ (c .before .before .edge-at .ensures) (c .enum-told .given .1))
-
-returns-2 : tie.Need-returns-2
-returns-2 c =
-    let k = c .before .before .before .before .before .before .before .before .before in
+returns c =
+    let k = c .before .before .before .before .before .before in
     let a = k .args in
     let at = k .pre .1 .1 .1 .1 .1 .0 in
-    let h = held-edge (c .before .before .before .before .before .edge-at .result) _ (getD ((decode-graph (a .graph .now)) .edges) (a .j) no-edge) (c .before .before .before .e .given .1)
-    (c .before .before .before .before .before .edge-at .ensures) in
+    let h = c .before .before .edge-at .ensures in
     no-pass (a .s) (a .graph .now) (a .rules .now) (k .pre .0) (a .start) (a .head) (a .tail) (a .work .now) (a .g) (a .q) at (a .j) (k .pre .1 .1 .0) (k .pre .1 .1 .1 .0) _ h (c .if1 .taken)
 
 step-requires : tie.Need-step-requires
 step-requires c κs =
-    let k = c .before .before .before .before .before .before .before .before .before .before in
+    let k = c .before .before .before .before .before .before .before in
     let a = k .args in
     let at = k .pre .1 .1 .1 .1 .1 .0 in
     let may = k .pre .1 .1 .1 .1 .1 .1 in
-    let h = held-edge (c .before .before .before .before .before .before .edge-at .result) _ (getD ((decode-graph (a .graph .now)) .edges) (a .j) no-edge)
-    (c .before .before .before .before .e .given .1) (c .before .before .before .before .before .before .edge-at .ensures) in
+    let h = c .before .before .before .edge-at .ensures in
     let f = call-fits (a .s) (a .graph .now) (a .rules .now) (k .pre .0) (a .start) (a .head) (a .tail) (a .work .now) (a .g) (a .q) at (a .j) (k .pre .1 .1 .0) (k .pre .1 .1 .1 .0) _ h
     (c .before .if1 .left) (a .method) (k .pre .1 .1 .1 .1 .0) in
     (may .searching .tables .steps, (may .searching .room, (at .now-small, (omega arith, (omega arith, f)))))
@@ -64,52 +49,46 @@ mul-returned c = search needs
 
 index-1-returned : tie.Need-index-1-returned
 index-1-returned c =
-    let k = c .before .before .before .before .before .before .before .before .before .before .before .before in
+    let k = c .before .before .before .before .before .before .before .before .before in
     let a = k .args in
     let at = k .pre .1 .1 .1 .1 .1 .0 in
-    let h = held-edge (c .before .before .before .before .before .before .before .before .edge-at .result) _ (getD ((decode-graph (a .graph .now)) .edges) (a .j) no-edge)
-    (c .before .before .before .before .before .before .e .given .1) (c .before .before .before .before .before .before .before .before .edge-at .ensures) in
+    let h = c .before .before .before .before .before .edge-at .ensures in
     let f = call-fits (a .s) (a .graph .now) (a .rules .now) (k .pre .0) (a .start) (a .head) (a .tail) (a .work .now) (a .g) (a .q) at (a .j) (k .pre .1 .1 .0) (k .pre .1 .1 .1 .0) _ h
     (c .before .before .before .if1 .left) (a .method) (k .pre .1 .1 .1 .1 .0) in
     omega (arith, f .1 .1 .0, f .1 .1 .1)
 
 index-2-returned : tie.Need-index-2-returned
 index-2-returned c =
-    let k = c .before .before .before .before .before .before .before .before .before .before .before .before in
+    let k = c .before .before .before .before .before .before .before .before .before in
     let a = k .args in
     let at = k .pre .1 .1 .1 .1 .1 .0 in
     subst (λ (i : ℕ). i < 8) (sym (c .before .step .ensures)) (monitor-small (a .s) (a .graph .now) (a .rules .now) (k .pre .0) (a .q) _ (at .now-small))
 
 step-set-requires : tie.Need-step-set-requires
 step-set-requires c κs =
-    let k = c .before .before .before .before .before .before .before .before .before .before .before .before .before .before in
+    let k = c .before .before .before .before .before .before .before .before .before .before .before in
     let a = k .args in
     let at = k .pre .1 .1 .1 .1 .1 .0 in
     let may = k .pre .1 .1 .1 .1 .1 .1 in
-    let h = held-edge (c .before .before .before .before .before .before .before .before .before .before .edge-at .result) _ (getD ((decode-graph (a .graph .now)) .edges) (a .j) no-edge)
-    (c .before .before .before .before .before .before .before .before .e .given .1) (c .before .before .before .before .before .before .before .before .before .before .edge-at .ensures) in
+    let h = c .before .before .before .before .before .before .before .edge-at .ensures in
     let f = call-fits (a .s) (a .graph .now) (a .rules .now) (k .pre .0) (a .start) (a .head) (a .tail) (a .work .now) (a .g) (a .q) at (a .j) (k .pre .1 .1 .0) (k .pre .1 .1 .1 .0) _ h
     (c .before .before .before .before .before .if1 .left) (a .method) (k .pre .1 .1 .1 .1 .0) in
     (k .pre .0, (may .searching .tables .steps, (may .searching .room, (omega arith, (omega arith, (f .1 .1 .0, (f .1 .1 .1, (f .0, f .1 .0))))))))
 
 cast-look-states : tie.Need-cast-look-states
 cast-look-states c =
-    let k = c .before .before .before .before .before .before .before .before .before .before .before .before .before .before .before .before .before in
+    let k = c .before .before .before .before .before .before .before .before .before .before .before .before .before .before in
     let a = k .args in
-    let h = held-edge (c .before .before .before .before .before .before .before .before .before .before .before .before .before .edge-at .result) _
-    (getD ((decode-graph (a .graph .now)) .edges) (a .j) no-edge) (c .before .before .before .before .before .before .before .before .before .before .before .e .given .1)
-    (c .before .before .before .before .before .before .before .before .before .before .before .before .before .edge-at .ensures) in
+    let h = c .before .before .before .before .before .before .before .before .before .before .edge-at .ensures in
     omega (arith, node-small (a .s) (a .graph .now) (a .rules .now) (k .pre .0) _ (to-in (a .s) (a .graph .now) (a .rules .now) (k .pre .0) (a .j) (k .pre .1 .1 .0) _ h))
 
 look-states-requires : tie.Need-look-states-requires
 look-states-requires c κs =
-    let k = c .before .before .before .before .before .before .before .before .before .before .before .before .before .before .before .before .before in
+    let k = c .before .before .before .before .before .before .before .before .before .before .before .before .before .before in
     let a = k .args in
     let at = k .pre .1 .1 .1 .1 .1 .0 in
     let may = k .pre .1 .1 .1 .1 .1 .1 in
-    let h = held-edge (c .before .before .before .before .before .before .before .before .before .before .before .before .before .edge-at .result) _
-    (getD ((decode-graph (a .graph .now)) .edges) (a .j) no-edge) (c .before .before .before .before .before .before .before .before .before .before .before .e .given .1)
-    (c .before .before .before .before .before .before .before .before .before .before .before .before .before .edge-at .ensures) in
+    let h = c .before .before .before .before .before .before .before .before .before .before .edge-at .ensures in
     let f = call-fits (a .s) (a .graph .now) (a .rules .now) (k .pre .0) (a .start) (a .head) (a .tail) (a .work .now) (a .g) (a .q) at (a .j) (k .pre .1 .1 .0) (k .pre .1 .1 .1 .0) _ h
     (c .before .before .before .before .before .before .before .before .if1 .left) (a .method) (k .pre .1 .1 .1 .1 .0) in (
       k .pre .0,
@@ -147,14 +126,12 @@ look-states-requires c κs =
 same-length : tie.Need-same-length
 same-length c = search needs
 
-returns-3 : tie.Need-returns-3
-returns-3 c =
-    let k = c .before .before .before .before .before .before .before .before .before .before .before .before .before .before .before .before .before .before .before .before in
+returns-2 : tie.Need-returns-2
+returns-2 c =
+    let k = c .before .before .before .before .before .before .before .before .before .before .before .before .before .before .before .before .before in
     let a = k .args in
     let at = k .pre .1 .1 .1 .1 .1 .0 in
-    let h = held-edge (c .before .before .before .before .before .before .before .before .before .before .before .before .before .before .before .before .edge-at .result) _
-    (getD ((decode-graph (a .graph .now)) .edges) (a .j) no-edge) (c .before .before .before .before .before .before .before .before .before .before .before .before .before .before .e .given .1)
-    (c .before .before .before .before .before .before .before .before .before .before .before .before .before .before .before .before .edge-at .ensures) in
+    let h = c .before .before .before .before .before .before .before .before .before .before .before .before .before .edge-at .ensures in
     looked-named (decode-graph (a .graph .now)) (watch (decode-rules (a .rules .now))) (a .start) (a .head)
     (passed-at (decode-graph (a .graph .now)) (watch (decode-rules (a .rules .now))) (place (a .g) (a .q)) (a .j))
     (passed-recs (decode-graph (a .graph .now)) (watch (decode-rules (a .rules .now))) (place (a .g) (a .q)) (a .j) (span 0 8)) (a .tail) (c .before .before .look-states .result) (a .work .now)
@@ -166,10 +143,7 @@ look-passed-spec =
     tie.close
     (tie.spec
     edge-at-requires
-    enum-known-e
-    enum-told
     returns
-    returns-2
     step-requires
     sub-returned
     cast-returned
@@ -181,4 +155,4 @@ look-passed-spec =
     cast-look-states
     look-states-requires
     same-length
-    returns-3)
+    returns-2)

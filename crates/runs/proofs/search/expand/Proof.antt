@@ -5,9 +5,8 @@ use lib.ListN.{getD}
 use Rattle.files.specs.Decode.{decode-graph}
 use Rattle.files.specs.Graph.{size, node}
 use Rattle.files.specs.declared.graph.GraphNode.{GraphNode}
-use Rattle.judging.proofs.HeldLaws.{held-node}
 use Rattle.runs.proofs.SearchLaws.{item-few, item-reads, node-there, turn-back, at-place, may-step-first, here-stepped, may-stepped, here-entered, may-entered, turn-on}
-use Rattle.runs.proofs.SummaryLaws.{node-read, node-of, node-readable}
+use Rattle.runs.proofs.SummaryLaws.{node-of, node-readable}
 use borrow.Author.Needs.{needs}
 use Rattle.runs.proofs.search.expand.Statement.{statement}
 use Rattle.runs.proofs.search.expand.Tie as tie
@@ -55,81 +54,64 @@ node-at-requires c κs =
           (node-there (a .s) (a .graph .now) (a .rules .now) (k .pre .0) (a .start) (a .head) (a .tail) (a .work .now) (k .pre .1 .1 .1 .0) (k .pre .1 .1 .0))),
     )
 
-enum-known-v : tie.Need-enum-known-v
-enum-known-v c = search needs
-
-enum-told : tie.Need-enum-told
-enum-told c = search needs
-
 returns : tie.Need-returns
-returns c = absurd (node-read (c .before .before .node-at .result) _ _ (c .before .before .node-at .ensures) (c .enum-told .given .1))
-
-returns-2 : tie.Need-returns-2
-returns-2 c =
-    let k = c .before .before .before .before .before .before .before .before .before .before .before in
+returns c =
+    let k = c .before .before .before .before .before .before .before .before in
     let a = k .args in
-    let h = held-node (c .before .before .before .before .node-at .result) _ (node (decode-graph (a .graph .now)) (c .before .before .before .before .before .before .wide .result))
-    (c .before .before .v .given .1) (c .before .before .before .before .node-at .ensures) in
+    let h = c .before .node-at .ensures in
     turn-back (a .s) (a .graph .now) (a .rules .now) (k .pre .0) (a .start) (a .head) (a .tail) (a .work .now) (k .pre .1 .1 .1 .0) (k .pre .1 .1 .0) (k .pre .1 .1 .1 .1)
-    (c .before .before .before .before .before .before .wide .result) (getD (a .work .now) (6 * a .head + 5) 0) (c .before .before .before .before .before .before .wide .ensures .0) refl _ h
+    (c .before .before .before .wide .result) (getD (a .work .now) (6 * a .head + 5) 0) (c .before .before .before .wide .ensures .0) refl _ h
     (c .if1 .taken)
 
 called-set-requires : tie.Need-called-set-requires
 called-set-requires c κs =
-    let k = c .before .before .before .before .before .before .before .before .before .before .before .before in
+    let k = c .before .before .before .before .before .before .before .before .before in
     let a = k .args in
-    let h = held-node (c .before .before .before .before .before .node-at .result) _
-    (node (decode-graph (a .graph .now)) (c .before .before .before .before .before .before .before .wide .result)) (c .before .before .before .v .given .1)
-    (c .before .before .before .before .before .node-at .ensures) in (
+    let h = c .before .before .node-at .ensures in (
       k .pre .0,
       (
-        node-of (a .s) (a .graph .now) (a .rules .now) (k .pre .0) (c .before .before .before .before .before .before .before .wide .result)
+        node-of (a .s) (a .graph .now) (a .rules .now) (k .pre .0) (c .before .before .before .before .wide .result)
             (at-place (a .s) (a .graph .now) (a .rules .now) (k .pre .0) (a .start) (a .head) (a .tail) (a .work .now) (k .pre .1 .1 .1 .0) (k .pre .1 .1 .0) (k .pre .1 .1 .1 .1)
-            (c .before .before .before .before .before .before .before .wide .result) (getD (a .work .now) (6 * a .head + 5) 0)
-            (c .before .before .before .before .before .before .before .wide .ensures .0) refl _ h (c .before .if1 .left) .at-node),
+            (c .before .before .before .before .wide .result) (getD (a .work .now) (6 * a .head + 5) 0)
+            (c .before .before .before .before .wide .ensures .0) refl _ h (c .before .if1 .left) .at-node),
         (k .pre .1 .1 .1 .0 .searching .room, k .pre .1 .1 .1 .0 .searching .tables),
       ),
     )
 
 look-internals-requires : tie.Need-look-internals-requires
 look-internals-requires c κs =
-    let k = c .before .before .before .before .before .before .before .before .before .before .before .before .before .before in
+    let k = c .before .before .before .before .before .before .before .before .before .before .before in
     let a = k .args in
-    let h = held-node (c .before .before .before .before .before .before .before .node-at .result) _
-    (node (decode-graph (a .graph .now)) (c .before .before .before .before .before .before .before .before .before .wide .result)) (c .before .before .before .before .before .v .given .1)
-    (c .before .before .before .before .before .before .before .node-at .ensures) in (
+    let h = c .before .before .before .before .node-at .ensures in (
       k .pre .0,
       (
         at-place (a .s) (a .graph .now) (a .rules .now) (k .pre .0) (a .start) (a .head) (a .tail) (a .work .now) (k .pre .1 .1 .1 .0) (k .pre .1 .1 .0) (k .pre .1 .1 .1 .1)
-            (c .before .before .before .before .before .before .before .before .before .wide .result) (getD (a .work .now) (6 * a .head + 5) 0)
-            (c .before .before .before .before .before .before .before .before .before .wide .ensures .0) refl _ h (c .before .before .before .if1 .left),
+            (c .before .before .before .before .before .before .wide .result) (getD (a .work .now) (6 * a .head + 5) 0)
+            (c .before .before .before .before .before .before .wide .ensures .0) refl _ h (c .before .before .before .if1 .left),
         may-step-first (a .s) (a .graph .now)
             (a .rules .now) (k .pre .0) (a .start) (a .head) (a .tail) (a .work .now) (k .pre .1 .1 .1 .0) (k .pre .1 .1 .0) (k .pre .1 .1 .1 .1)
-            (c .before .before .before .before .before .before .before .before .before .wide .result) (getD (a .work .now) (6 * a .head + 5) 0)
-            (c .before .before .before .before .before .before .before .before .before .wide .ensures .0) refl _ h (c .before .before .before .if1 .left),
+            (c .before .before .before .before .before .before .wide .result) (getD (a .work .now) (6 * a .head + 5) 0)
+            (c .before .before .before .before .before .before .wide .ensures .0) refl _ h (c .before .before .before .if1 .left),
       ),
     )
 
 look-entered-requires : tie.Need-look-entered-requires
 look-entered-requires c κs =
-    let k = c .before .before .before .before .before .before .before .before .before .before .before .before .before .before .before .before .before .before in
+    let k = c .before .before .before .before .before .before .before .before .before .before .before .before .before .before .before in
     let a = k .args in
-    let h = held-node (c .before .before .before .before .before .before .before .before .before .before .before .node-at .result) _
-    (node (decode-graph (a .graph .now)) (c .before .before .before .before .before .before .before .before .before .before .before .before .before .wide .result))
-    (c .before .before .before .before .before .before .before .before .before .v .given .1)
-    (c .before .before .before .before .before .before .before .before .before .before .before .node-at .ensures) in (
+    let h = c .before .before .before .before .before .before .before .before .node-at .ensures in (
       k .pre .0,
       (
         c .before .before .before .before .before .called-set .ensures,
         (
           here-stepped (a .s) (a .graph .now) (a .rules .now) (k .pre .0) (a .start) (a .head) (a .tail) (a .work .now) (k .pre .1 .1 .1 .0) (k .pre .1 .1 .0) (k .pre .1 .1 .1 .1)
-              (c .before .before .before .before .before .before .before .before .before .before .before .before .before .wide .result) (getD (a .work .now) (6 * a .head + 5) 0)
-              (c .before .before .before .before .before .before .before .before .before .before .before .before .before .wide .ensures .0) refl _ h
+              (c .before .before .before .before .before .before .before .before .before .before .wide .result) (getD (a .work .now) (6 * a .head + 5) 0)
+              (c .before .before .before .before .before .before .before .before .before .before .wide .ensures .0) refl _ h
               (c .before .before .before .before .before .before .before .if1 .left) (c .before .before .before .look-internals .result) (c .before .before .before .look-internals .last .1 .1 .1 .0)
               (c .before .before .before .look-internals .ensures),
           may-stepped (a .s) (a .graph .now) (a .rules .now) (k .pre .0) (a .start) (a .head) (a .tail) (a .work .now) (k .pre .1 .1 .1 .0)
-              (k .pre .1 .1 .0) (k .pre .1 .1 .1 .1) (c .before .before .before .before .before .before .before .before .before .before .before .before .before .wide .result)
-              (getD (a .work .now) (6 * a .head + 5) 0) (c .before .before .before .before .before .before .before .before .before .before .before .before .before .wide .ensures .0) refl _ h
+              (k .pre .1 .1 .0) (k .pre .1 .1 .1 .1) (c .before .before .before .before .before .before .before .before .before .before .wide .result)
+              (getD (a .work .now) (6 * a .head + 5) 0) (c .before .before .before .before .before .before .before .before .before .before .wide .ensures .0) refl _ h
               (c .before .before .before .before .before .before .before .if1 .left) (c .before .before .before .look-internals .result) (c .before .before .before .look-internals .last .1 .1 .1 .0)
               (c .before .before .before .look-internals .ensures),
         ),
@@ -138,12 +120,9 @@ look-entered-requires c κs =
 
 look-passeds-requires : tie.Need-look-passeds-requires
 look-passeds-requires c κs =
-    let k = c .before .before .before .before .before .before .before .before .before .before .before .before .before .before .before .before .before .before .before .before .before .before in
+    let k = c .before .before .before .before .before .before .before .before .before .before .before .before .before .before .before .before .before .before .before in
     let a = k .args in
-    let h = held-node (c .before .before .before .before .before .before .before .before .before .before .before .before .before .before .before .node-at .result) _
-    (node (decode-graph (a .graph .now)) (c .before .before .before .before .before .before .before .before .before .before .before .before .before .before .before .before .before .wide .result))
-    (c .before .before .before .before .before .before .before .before .before .before .before .before .before .v .given .1)
-    (c .before .before .before .before .before .before .before .before .before .before .before .before .before .before .before .node-at .ensures) in (
+    let h = c .before .before .before .before .before .before .before .before .before .before .before .before .node-at .ensures in (
       k .pre .0,
       (
         k .pre .1 .0,
@@ -151,16 +130,16 @@ look-passeds-requires c κs =
           ap (λ (u : GraphNode). u .method) h,
           (
             here-entered (a .s) (a .graph .now) (a .rules .now) (k .pre .0) (a .start) (a .head) (a .tail) (a .work .now) (k .pre .1 .1 .1 .0) (k .pre .1 .1 .0) (k .pre .1 .1 .1 .1)
-                (c .before .before .before .before .before .before .before .before .before .before .before .before .before .before .before .before .before .wide .result)
-                (getD (a .work .now) (6 * a .head + 5) 0) (c .before .before .before .before .before .before .before .before .before .before .before .before .before .before .before .before .before .wide
+                (c .before .before .before .before .before .before .before .before .before .before .before .before .before .before .wide .result)
+                (getD (a .work .now) (6 * a .head + 5) 0) (c .before .before .before .before .before .before .before .before .before .before .before .before .before .before .wide
                 .ensures .0) refl _ h (c .before .before .before .before .before .before .before .before .before .before .before .if1 .left)
                 (c .before .before .before .before .before .before .before .look-internals .result) (c .before .before .before .before .before .before .before .look-internals .last .1 .1 .1 .0)
                 (c .before .before .before .before .before .before .before .look-internals .ensures) (c .before .before .before .look-entered .result)
                 (c .before .before .before .look-entered .last .1 .1 .1 .0) (c .before .before .before .look-entered .ensures),
             may-entered (a .s) (a .graph .now) (a .rules .now) (k .pre .0) (a .start)
                 (a .head) (a .tail) (a .work .now) (k .pre .1 .1 .1 .0) (k .pre .1 .1 .0) (k .pre .1 .1 .1 .1)
-                (c .before .before .before .before .before .before .before .before .before .before .before .before .before .before .before .before .before .wide .result)
-                (getD (a .work .now) (6 * a .head + 5) 0) (c .before .before .before .before .before .before .before .before .before .before .before .before .before .before .before .before .before .wide
+                (c .before .before .before .before .before .before .before .before .before .before .before .before .before .before .wide .result)
+                (getD (a .work .now) (6 * a .head + 5) 0) (c .before .before .before .before .before .before .before .before .before .before .before .before .before .before .wide
                 .ensures .0) refl _ h (c .before .before .before .before .before .before .before .before .before .before .before .if1 .left)
                 (c .before .before .before .before .before .before .before .look-internals .result) (c .before .before .before .before .before .before .before .look-internals .last .1 .1 .1 .0)
                 (c .before .before .before .before .before .before .before .look-internals .ensures) (c .before .before .before .look-entered .result)
@@ -173,19 +152,14 @@ look-passeds-requires c κs =
 same-length : tie.Need-same-length
 same-length c = search needs
 
-returns-3 : tie.Need-returns-3
-returns-3 c =
-    let k = c .before .before .before .before .before .before .before .before .before .before .before .before .before .before .before .before .before .before .before .before .before .before
-    .before .before .before in
+returns-2 : tie.Need-returns-2
+returns-2 c =
+    let k = c .before .before .before .before .before .before .before .before .before .before .before .before .before .before .before .before .before .before .before .before .before .before in
     let a = k .args in
-    let h = held-node (c .before .before .before .before .before .before .before .before .before .before .before .before .before .before .before .before .before .before .node-at .result) _
-    (node (decode-graph (a .graph .now)) (c .before .before .before .before .before .before .before .before .before .before .before .before .before .before .before .before .before .before .before
-    .before .wide .result)) (c .before .before .before .before .before .before .before .before .before .before .before .before .before .before .before .before .v .given .1)
-    (c .before .before .before .before .before .before .before .before .before .before .before .before .before .before .before .before .before .before .node-at .ensures) in
+    let h = c .before .before .before .before .before .before .before .before .before .before .before .before .before .before .before .node-at .ensures in
     turn-on (a .s) (a .graph .now) (a .rules .now) (k .pre .0) (a .start) (a .head) (a .tail) (a .work .now) (k .pre .1 .1 .1 .0) (k .pre .1 .1 .0) (k .pre .1 .1 .1 .1)
-    (c .before .before .before .before .before .before .before .before .before .before .before .before .before .before .before .before .before .before .before .before .wide .result)
-    (getD (a .work .now) (6 * a .head + 5) 0) (c .before .before .before .before .before .before .before .before .before .before .before .before .before .before .before .before .before .before
-    .before .before .wide .ensures .0) refl _ h (c .before .before .before .before .before .before .before .before .before .before .before .before .before .before .if1 .left)
+    (c .before .before .before .before .before .before .before .before .before .before .before .before .before .before .before .before .before .wide .result)
+    (getD (a .work .now) (6 * a .head + 5) 0) (c .before .before .before .before .before .before .before .before .before .before .before .before .before .before .before .before .before .wide .ensures .0) refl _ h (c .before .before .before .before .before .before .before .before .before .before .before .before .before .before .if1 .left)
     (c .before .before .before .before .before .before .before .before .before .before .look-internals .result)
     (c .before .before .before .before .before .before .before .before .before .before .look-internals .last .1 .1 .1 .0)
     (c .before .before .before .before .before .before .before .before .before .before .look-internals .ensures) (c .before .before .before .before .before .before .look-entered .result)
@@ -203,13 +177,10 @@ expand-spec =
     add-q
     slice-read-q
     node-at-requires
-    enum-known-v
-    enum-told
     returns
-    returns-2
     called-set-requires
     look-internals-requires
     look-entered-requires
     look-passeds-requires
     same-length
-    returns-3)
+    returns-2)

@@ -21,7 +21,7 @@ step-set-requires-2 c κs =
 returns : tie.Need-returns
 returns c =
     let a = c .before .before .before .before .before .before .args in
-    passed-by (watch (decode-rules (a .rules .now))) (sums (a .work .now)) (a .caller) (a .label) (a .x) (c .before .before .step-set .result) (c .before .sum-set .result) (c .step-set2 .result)
+    passed-by (watch (decode-rules (a .rules .now))) (sums (a .table .now)) (a .caller) (a .label) (a .x) (c .before .before .step-set .result) (c .before .sum-set .result) (c .step-set2 .result)
     (c .before .before .step-set .ensures) (c .before .sum-set .ensures) (c .step-set2 .ensures)
 
 pub pass-spec : {M : Type 1} → statement M

@@ -14,21 +14,21 @@ use Rattle.runs.specs.Worklist.{Grew, GroupRan}
 use Rattle.runs.specs.Worklist.Growth.{grew-none, grew-on}
 use Rattle.runs.specs.Worklist.Loops.{calls-run}
 use Rattle.runs.proofs.PrepareLaws.{opens-label, group-of}
-use Rattle.runs.proofs.SummaryLaws.{links-kept, links-of, group-kept, group-from}
+use Rattle.runs.proofs.SummaryLaws.{links-of, group-kept, group-from}
 use borrow.Author.Needs.{needs}
 use Rattle.runs.proofs.summaries.run_calls.Statement.{statement}
 use Rattle.runs.proofs.summaries.run_calls.Tie as tie
 
 abbrev Inv-loop : tie.InvT-loop
-Inv-loop graph rules s callers ends work₀ tail m at₀ end₀ work at end =
+Inv-loop graph rules s table callers ends work₀ tail m at₀ end₀ work at end =
     (length work ≡ length work₀) × (Grew (decode-graph graph) (watch (decode-rules rules)) tail end work₀ work)
-    × (Walk (opens (decode-graph graph) m) (length ((decode-graph graph) .edges)) at (GroupRan (decode-graph graph) (watch (decode-rules rules)) callers ends work₀ work))
+    × (Walk (opens (decode-graph graph) m) (length ((decode-graph graph) .edges)) at (GroupRan (decode-graph graph) (watch (decode-rules rules)) callers ends table work₀ work))
 
 abbrev μ-loop : tie.MeasureT-loop
-μ-loop graph rules s callers ends work₀ tail m at₀ end₀ work at end = at
+μ-loop graph rules s table callers ends work₀ tail m at₀ end₀ work at end = at
 
 get16-requires : tie.Need-get16-requires Inv-loop μ-loop
-get16-requires c κs = let k = c .before .before .before .before in omega (arith, k .pre .1 .1 .0, k .pre .1 .1 .1 .0 .room)
+get16-requires c κs = let k = c .before .before .before .before in omega (arith, k .pre .1 .1 .0, k .pre .1 .1 .1 .1 .0 .room)
 
 cast-at : tie.Need-cast-at Inv-loop μ-loop
 cast-at c = search needs
@@ -38,9 +38,9 @@ loop-holds c =
     let k = c .before .before .before .before .before in
     let a = k .args in (
       refl,
-      grew-none (decode-graph (a .graph .now)) (watch (decode-rules (a .rules .now))) (a .tail) (a .work .now) (k .pre .1 .1 .1 .0),
+      grew-none (decode-graph (a .graph .now)) (watch (decode-rules (a .rules .now))) (a .tail) (a .work .now) (k .pre .1 .1 .1 .1 .0),
       walk-start (opens (decode-graph (a .graph .now)) (a .m)) (length ((decode-graph (a .graph .now)) .edges)) (c .get16 .result)
-          (GroupRan (decode-graph (a .graph .now)) (watch (decode-rules (a .rules .now))) (a .callers .now) (a .ends .now) (a .work .now) (a .work .now)) (c .get16 .ensures ∙ k .pre .1 .1 .1 .0 .tables .by-label .heads-are (a .m) (k .pre .1 .1 .0)),
+          (GroupRan (decode-graph (a .graph .now)) (watch (decode-rules (a .rules .now))) (a .callers .now) (a .ends .now) (a .table .now) (a .work .now) (a .work .now)) (c .get16 .ensures ∙ k .pre .1 .1 .1 .1 .0 .tables .by-label .heads-are (a .m) (k .pre .1 .1 .0)),
     )
 
 sub-first : tie.Need-sub-first Inv-loop μ-loop
@@ -53,22 +53,20 @@ run-source-requires c κs =
     let a = k .args in
     let l = c .before .before .loop in
     let i = walk-item (opens (decode-graph (a .graph .now)) (a .m)) (length ((decode-graph (a .graph .now)) .edges)) (l .at)
-    (GroupRan (decode-graph (a .graph .now)) (watch (decode-rules (a .rules .now))) (a .callers .now) (a .ends .now) (a .work .now) (l .work)) (l .inv .2) (loop-test .taken) in
+    (GroupRan (decode-graph (a .graph .now)) (watch (decode-rules (a .rules .now))) (a .callers .now) (a .ends .now) (a .table .now) (a .work .now) (l .work)) (l .inv .2) (loop-test .taken) in
     let hj : l .at - 1 < a .s .edges = omega (arith, i .1, edges-is (a .s) (a .graph .now) (a .rules .now) (k .pre .0)) in
     let d : (getD ((decode-graph (a .graph .now)) .edges) (l .at - 1) no-edge) .label ≡ a .m = opens-label (decode-graph (a .graph .now)) (a .m) (l .at - 1) (omega (arith, k .pre .1 .0)) (i .0) in
-    let z = k .pre .1 .1 .1 .1 in (
+    let z = k .pre .1 .1 .1 .1 .1 in (
       k .pre .0,
       (
         hj,
         (
           omega (arith, d, k .pre .1 .0),
           (
-            l .inv .1 .holding,
+            k .pre .1 .1 .1 .0,
             (
-              z .0,
-              z .1,
-              links-kept (a .s) (a .graph .now) (a .rules .now) (k .pre .0) (a .tail) (l .end) (a .work .now) (l .work) (l .inv .1) (l .at - 1) hj _ _ (z .0) _ _
-                  (links-of (a .s) (a .graph .now) (a .rules .now) (k .pre .0) (l .at - 1) hj (a .m) (z .0) (a .callers .now) (a .ends .now) (a .work .now) d (z .2) (z .3)),
+              l .inv .1 .holding,
+              (z .0, z .1, links-of (a .s) (a .graph .now) (a .rules .now) (k .pre .0) (l .at - 1) hj (a .m) (z .0) (a .callers .now) (a .ends .now) (a .table .now) d (z .2) (z .3)),
             ),
           ),
         ),
@@ -83,7 +81,7 @@ get16-requires-2 c κs =
     let a = k .args in
     let l = c .before .before .before .before .before .before .loop in
     let i = walk-item (opens (decode-graph (a .graph .now)) (a .m)) (length ((decode-graph (a .graph .now)) .edges)) (l .at)
-    (GroupRan (decode-graph (a .graph .now)) (watch (decode-rules (a .rules .now))) (a .callers .now) (a .ends .now) (a .work .now) (l .work)) (l .inv .2) (loop-test .taken) in
+    (GroupRan (decode-graph (a .graph .now)) (watch (decode-rules (a .rules .now))) (a .callers .now) (a .ends .now) (a .table .now) (a .work .now) (l .work)) (l .inv .2) (loop-test .taken) in
     omega (arith, i .1, edges-fit (a .s) (a .graph .now) (a .rules .now) (k .pre .0), run-source .ensures .0 .holding .room)
 
 cast-at-2 : tie.Need-cast-at-2 Inv-loop μ-loop
@@ -98,7 +96,7 @@ loop-less c =
     let l = c .before .before .before .before .before .before .before .loop in
     let t = loop-test .taken in
     let i = walk-item (opens (decode-graph (a .graph .now)) (a .m)) (length ((decode-graph (a .graph .now)) .edges)) (l .at)
-    (GroupRan (decode-graph (a .graph .now)) (watch (decode-rules (a .rules .now))) (a .callers .now) (a .ends .now) (a .work .now) (l .work)) (l .inv .2) (loop-test .taken) in
+    (GroupRan (decode-graph (a .graph .now)) (watch (decode-rules (a .rules .now))) (a .callers .now) (a .ends .now) (a .table .now) (a .work .now) (l .work)) (l .inv .2) (loop-test .taken) in
     walk-less (opens (decode-graph (a .graph .now)) (a .m)) (l .at) (c .get162 .result) t
     (c .get162 .ensures ∙ run-source .ensures .0 .holding .tables .by-label .nexts-are (a .m) (l .at - 1) (k .pre .1 .1 .0) (i .1) (i .0))
 
@@ -111,15 +109,15 @@ loop-again c =
     let x = c .before .before .before .before .run-source in
     let t = loop-test .taken in
     let i = walk-item (opens (decode-graph (a .graph .now)) (a .m)) (length ((decode-graph (a .graph .now)) .edges)) (l .at)
-    (GroupRan (decode-graph (a .graph .now)) (watch (decode-rules (a .rules .now))) (a .callers .now) (a .ends .now) (a .work .now) (l .work)) (l .inv .2) (loop-test .taken) in
+    (GroupRan (decode-graph (a .graph .now)) (watch (decode-rules (a .rules .now))) (a .callers .now) (a .ends .now) (a .table .now) (a .work .now) (l .work)) (l .inv .2) (loop-test .taken) in
     let n = c .get162 .ensures ∙ x .ensures .0 .holding .tables .by-label .nexts-are (a .m) (l .at - 1) (k .pre .1 .1 .0) (i .1) (i .0) in (
-      x .kept .1 .1 .1 .1 .1 .0 ∙ l .inv .0,
-      grew-on (decode-graph (a .graph .now)) (watch (decode-rules (a .rules .now))) (a .tail) (l .end) (x .result) (a .work .now) (l .work) (x .last .1 .1 .1 .1 .1 .0) (l .inv .1) (x .ensures .0),
+      x .kept .1 .1 .1 .1 .1 .1 .0 ∙ l .inv .0,
+      grew-on (decode-graph (a .graph .now)) (watch (decode-rules (a .rules .now))) (a .tail) (l .end) (x .result) (a .work .now) (l .work) (x .last .1 .1 .1 .1 .1 .1 .0) (l .inv .1) (x .ensures .0),
       walk-turn (opens (decode-graph (a .graph .now)) (a .m)) (length ((decode-graph (a .graph .now)) .edges)) (l .at) (c .get162 .result)
-          (GroupRan (decode-graph (a .graph .now)) (watch (decode-rules (a .rules .now))) (a .callers .now) (a .ends .now) (a .work .now) (l .work)) (GroupRan (decode-graph (a .graph .now)) (watch (decode-rules (a .rules .now))) (a .callers .now) (a .ends .now) (a .work .now) (x .last .1 .1 .1 .1 .1 .0))
+          (GroupRan (decode-graph (a .graph .now)) (watch (decode-rules (a .rules .now))) (a .callers .now) (a .ends .now) (a .table .now) (a .work .now) (l .work)) (GroupRan (decode-graph (a .graph .now)) (watch (decode-rules (a .rules .now))) (a .callers .now) (a .ends .now) (a .table .now) (a .work .now) (x .last .1 .1 .1 .1 .1 .1 .0))
           (l .inv .2) t n
-          (λ j h. group-kept (a .s) (a .graph .now) (a .rules .now) (k .pre .0) (l .end) (x .result) (l .work) (x .last .1 .1 .1 .1 .1 .0) (x .ensures .0) (a .callers .now) (a .ends .now) j (a .work .now))
-          (group-from (a .s) (a .graph .now) (a .rules .now) (k .pre .0) (a .tail) (l .end) (a .work .now) (l .work) (l .inv .1) (a .callers .now) (a .ends .now) (l .at - 1) (x .last .1 .1 .1 .1 .1 .0) (x .ensures .1)),
+          (λ j h. group-kept (a .s) (a .graph .now) (a .rules .now) (k .pre .0) (l .end) (x .result) (l .work) (x .last .1 .1 .1 .1 .1 .1 .0) (x .ensures .0) (a .table .now) (a .callers .now) (a .ends .now) j (a .work .now))
+          (group-from (a .s) (a .graph .now) (a .rules .now) (k .pre .0) (a .tail) (l .end) (a .work .now) (l .work) (l .inv .1) (a .table .now) (a .callers .now) (a .ends .now) (l .at - 1) (x .last .1 .1 .1 .1 .1 .1 .0) (x .ensures .1)),
     )
 
 same-length : tie.Need-same-length Inv-loop μ-loop
@@ -131,10 +129,10 @@ returns c =
     let a = k .args in
     let l = c .before .loop in (
       l .inv .1,
-      λ i hi into back. calls-run (decode-graph (a .graph .now)) (watch (decode-rules (a .rules .now))) i (a .callers .now) (a .work .now) (l .work) (a .m)
+      λ i hi into back. calls-run (decode-graph (a .graph .now)) (watch (decode-rules (a .rules .now))) i (a .callers .now) (a .table .now) (a .work .now) (l .work) (a .m)
           (λ j h t n p hp. let f = group-of (decode-graph (a .graph .now)) (a .m) j t in
           l .inv .2 .3 (f .0) (omega (arith, f .1, h)) (f .2) (omega (arith, c .loop-test .left)) j (f .1) h (f .3) n p hp i hi
-          (links-of (a .s) (a .graph .now) (a .rules .now) (k .pre .0) j (omega (arith, h, edges-is (a .s) (a .graph .now) (a .rules .now) (k .pre .0))) (a .m) i (a .callers .now) (a .ends .now) (a .work .now) (eqb→eq _ (a .m) t) into back)),
+          (links-of (a .s) (a .graph .now) (a .rules .now) (k .pre .0) j (omega (arith, h, edges-is (a .s) (a .graph .now) (a .rules .now) (k .pre .0))) (a .m) i (a .callers .now) (a .ends .now) (a .table .now) (eqb→eq _ (a .m) t) into back)),
     )
 
 pub run-calls-spec : {M : Type 1} → statement M

@@ -7,12 +7,11 @@ use lib.ListN.{length}
 use Rattle.files.specs.Decode.{decode-graph, decode-rules}
 use Rattle.files.specs.Graph.{node}
 use Rattle.files.specs.Rules.{watch}
-use Rattle.judging.proofs.HeldLaws.{held-node}
 use Rattle.judging.proofs.LevelLaws.{below-more}
 use Rattle.maximal.specs.Masks.{member}
 use Rattle.runs.specs.Worklist.{reach, Grew}
 use Rattle.runs.specs.Worklist.Growth.{grew-none, grew-on}
-use Rattle.runs.proofs.SummaryLaws.{node-read, node-in, node-readable, may-add, seeds-none, seeds}
+use Rattle.runs.proofs.SummaryLaws.{node-in, node-readable, may-add, seeds-none, seeds}
 use borrow.Author.Needs.{needs}
 use Rattle.runs.proofs.summaries.seed_node.Statement.{statement}
 use Rattle.runs.proofs.summaries.seed_node.Tie as tie
@@ -30,30 +29,20 @@ node-at-requires c κs =
     let a = k .args in
     (k .pre .0 .held .views .graph-file, node-readable (a .s) (a .graph .now) (a .rules .now) (k .pre .0) (a .g) (node-in (a .s) (a .graph .now) (a .rules .now) (k .pre .0) (a .g) (k .pre .1 .0)))
 
-enum-known-v : tie.Need-enum-known-v Inv-loop μ-loop
-enum-known-v c = search needs
-
-enum-told : tie.Need-enum-told Inv-loop μ-loop
-enum-told c = search needs
-
 returns : tie.Need-returns Inv-loop μ-loop
-returns c = absurd (node-read (c .before .before .node-at .result) _ _ (c .before .before .node-at .ensures) (c .enum-told .given .1))
-
-returns-2 : tie.Need-returns-2 Inv-loop μ-loop
-returns-2 c =
-    let node-at = c .before .before .before .before .before .node-at in
-    let read-v = c .before .before .before .v in
-    let k = c .before .before .before .before .before .before .before .before .before in
+returns c =
+    let node-at = c .before .before .node-at in
+    let k = c .before .before .before .before .before .before in
     let a = k .args in (
       grew-none (decode-graph (a .graph .now)) (watch (decode-rules (a .rules .now))) (a .tail) (a .work .now) (k .pre .1 .1),
       λ t. absurd
-          (seeds-none (a .s) (a .graph .now) (a .rules .now) (k .pre .0) (a .g) _ (held-node (node-at .result) _ (node (decode-graph (a .graph .now)) (a .g)) (read-v .given .1) (node-at .ensures))
+          (seeds-none (a .s) (a .graph .now) (a .rules .now) (k .pre .0) (a .g) _ (node-at .ensures)
           (c .if1 .taken) t),
     )
 
 loop-holds : tie.Need-loop-holds Inv-loop μ-loop
 loop-holds c =
-    let k = c .before .before .before .before .before .before .before .before .before in
+    let k = c .before .before .before .before .before .before in
     let a = k .args in
     (omega arith, refl, grew-none (decode-graph (a .graph .now)) (watch (decode-rules (a .rules .now))) (a .tail) (a .work .now) (k .pre .1 .1), λ i h. absurd (omega arith))
 
@@ -66,7 +55,7 @@ one-state-requires c κs = omega arith
 add-requires : tie.Need-add-requires Inv-loop μ-loop
 add-requires c κs =
     let loop-test = c .before .before .loop-test in
-    let k = c .before .before .before .before .before .before .before .before .before .before .before .before .before in
+    let k = c .before .before .before .before .before .before .before .before .before .before in
     let a = k .args in
     let l = c .before .before .before .loop in
     may-add (a .s) (a .graph .now) (a .rules .now) (k .pre .0) (l .end) (l .work) (l .inv .2 .holding) (a .g) (l .p) (c .one-state .result)
@@ -80,17 +69,16 @@ loop-less c = omega arith
 
 loop-again : tie.Need-loop-again Inv-loop μ-loop
 loop-again c =
-    let node-at = c .before .before .before .before .before .before .before .before .before .before .before .before .node-at in
-    let read-v = c .before .before .before .before .before .before .before .before .before .before .v in
+    let node-at = c .before .before .before .before .before .before .before .before .before .node-at in
     let if1 = c .before .before .before .before .before .before .before .if1 in
     let loop-test = c .before .before .before .before .before .loop-test in
-    let k = c .before .before .before .before .before .before .before .before .before .before .before .before .before .before .before .before in
+    let k = c .before .before .before .before .before .before .before .before .before .before .before .before .before in
     let a = k .args in
     let l = c .before .before .before .before .before .before .loop in
     let x = c .before .before .add in
     let y = c .before .before .before .one-state in
     let d = seeds (a .s) (a .graph .now) (a .rules .now) (k .pre .0) (a .g) _ (k .pre .1 .0)
-    (held-node (node-at .result) _ (node (decode-graph (a .graph .now)) (a .g)) (read-v .given .1) (node-at .ensures)) (if1 .left) (l .end) (l .work) (l .inv .2 .holding) (l .p) (y .result)
+    (node-at .ensures) (if1 .left) (l .end) (l .work) (l .inv .2 .holding) (l .p) (y .result)
     (loop-test .taken) (omega arith) (y .ensures) (x .result) (x .last .0) (x .ensures) in (
       omega (arith, loop-test .taken),
       x .kept .0 ∙ l .inv .1,
@@ -102,8 +90,8 @@ loop-again c =
 same-length : tie.Need-same-length Inv-loop μ-loop
 same-length c = c .before .loop .inv .1
 
-returns-3 : tie.Need-returns-3 Inv-loop μ-loop
-returns-3 c = let l = c .before .loop in (l .inv .2, λ t i h. l .inv .3 i (omega (arith, c .loop-test .left, h)))
+returns-2 : tie.Need-returns-2 Inv-loop μ-loop
+returns-2 c = let l = c .before .loop in (l .inv .2, λ t i h. l .inv .3 i (omega (arith, c .loop-test .left, h)))
 
 pub seed-node-spec : {M : Type 1} → statement M
 seed-node-spec =
@@ -112,10 +100,7 @@ seed-node-spec =
     Inv-loop
     μ-loop
     node-at-requires
-    enum-known-v
-    enum-told
     returns
-    returns-2
     loop-holds
     cast-add
     one-state-requires
@@ -124,4 +109,4 @@ seed-node-spec =
     loop-less
     loop-again
     same-length
-    returns-3)
+    returns-2)

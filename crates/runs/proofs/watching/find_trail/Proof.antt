@@ -10,11 +10,6 @@ use Rattle.runs.specs.Worklist.Loops.{table-yields}
 use borrow.Author.Needs.{needs}
 use Rattle.runs.proofs.watching.find_trail.Statement.{statement}
 use Rattle.runs.proofs.watching.find_trail.Tie as tie
-use Rattle.files.proofs.cells.clear.Reads as clear-reads
-use Rattle.runs.proofs.prepare.prepare.Reads as prepare-reads
-use Rattle.runs.proofs.search.search.Reads as search-reads
-use Rattle.runs.proofs.summaries.summarize.Reads as summarize-reads
-use Rattle.runs.proofs.summaries.table_of.Reads as table-of-reads
 
 clear-requires : tie.Need-clear-requires
 clear-requires c κs = search needs
@@ -29,20 +24,16 @@ summarize-requires c κs = let k = c .before .before .before .before .before .be
     let p = c .before .before .before .prepare in
     (k .pre .0, (p .ensures .0, (omega (arith, p .kept .1 .1 .1 .0, x .kept .0, k .pre .1), λ q h. p .ensures .1 q (inr h) ∙ zero-byte (x .last .0) zeros q)))
 
-table-of-requires : tie.Need-table-of-requires
-table-of-requires c κs = search needs
-
 search-requires : tie.Need-search-requires
-search-requires c κs = let k = c .before .before .before .before .before .before .before .before .before .before .before .before .before .before .before .before .before .before .before in
+search-requires c κs = let k = c .before .before .before .before .before .before .before .before .before .before .before .before .before .before .before .before .before in
     let a = k .args in
-    let x = c .before .before .before .before .before .before .before .before .before .before .before .before .before .before .clear in
+    let x = c .before .before .before .before .before .before .before .before .before .before .before .before .clear in
     let zeros = x .ensures ∙ ap (λ (n : ℕ). replicate n 0) (sym (x .kept .0)) in
-    let p = c .before .before .before .before .before .before .before .before .before .before .prepare in
-    let s = c .before .before .before .before .before .before .summarize in
-    let t = c .before .before .table-of in (
+    let p = c .before .before .before .before .before .before .before .before .prepare in
+    let s = c .before .before .before .before .summarize in (
       k .pre .0,
       (
-        table-yields (decode-graph (a .graph .now)) (watch (decode-rules (a .rules .now))) (s .last .1 .1 .1 .0) (t .result) (s .ensures .0) (t .ensures),
+        table-yields (decode-graph (a .graph .now)) (watch (decode-rules (a .rules .now))) (s .result) (s .ensures .0),
         (
           omega (arith, s .kept .1 .1 .1 .0, p .kept .1 .1 .1 .0, x .kept .0, k .pre .1),
           (
@@ -66,7 +57,6 @@ find-trail-spec =
     clear-requires
     prepare-requires
     summarize-requires
-    table-of-requires
     search-requires
     same-length
     returns)

@@ -1,0 +1,43 @@
+use native.Mathlib.Omega.{arith}
+use Prim.Native.Nat.{_≤_, _-_, _/_}
+use lib.ListN.{length}
+use borrow.Author.Needs.{needs}
+use Rattle.checker.proofs.notes.say_trail.Statement.{statement}
+use Rattle.checker.proofs.notes.say_trail.Tie as tie
+
+abbrev Inv-loop : tie.InvT-loop
+Inv-loop stdout₀ trail start end method₀ i₀ stdout method i = end ≤ length trail / 6
+
+abbrev μ-loop : tie.MeasureT-loop
+μ-loop stdout₀ trail start end method₀ i₀ stdout method i = end - i
+
+loop-holds : tie.Need-loop-holds Inv-loop μ-loop
+loop-holds c = omega arith
+
+say-trail-line-requires : tie.Need-say-trail-line-requires Inv-loop μ-loop
+say-trail-line-requires c κs = omega arith
+
+add-i : tie.Need-add-i Inv-loop μ-loop
+add-i c = omega arith
+
+loop-less : tie.Need-loop-less Inv-loop μ-loop
+loop-less c = omega arith
+
+loop-again : tie.Need-loop-again Inv-loop μ-loop
+loop-again c = omega arith
+
+returns : tie.Need-returns Inv-loop μ-loop
+returns c = search needs
+
+pub say-trail-spec : {M : Type 1} → statement M
+say-trail-spec =
+    tie.close
+    (tie.spec
+    Inv-loop
+    μ-loop
+    loop-holds
+    say-trail-line-requires
+    add-i
+    loop-less
+    loop-again
+    returns)
