@@ -87,7 +87,7 @@ fn counts(kind: FileKind, records: &[u8], i: usize) -> bool
 }
 
 // How many records number 5 counts apart: nodes of a graph, or-rows of a property. One pass.
-pub fn count(kind: FileKind, records: &[u8]) -> usize
+pub(crate) fn count(kind: FileKind, records: &[u8]) -> usize
     ensures { λ r. ⌜ r ≡ counted (kind-of kind) (now (records .entry)) ⌝ }
 {
     let n = records.len() / Record::LEN;
