@@ -8,6 +8,7 @@ use files::cells::put_bit;
 use files::cells::wide;
 use files::encode::LINE;
 use files::record::Record;
+use files::record::Step;
 use printing::say;
 use printing::say_decimal;
 use printing::stdout::BUFFERED;
@@ -48,7 +49,11 @@ pub fn is_lit(trail: &[u8], sheet: &[u8], node: u8) -> bool {
 // A node's line for the trail's start.
 pub fn say_start(stdout: &mut [u8; BUFFERED], trail: &[u8], node: u8) {
     if trail.len() >= Record::LEN {
-        say_if(stdout, (trail[2] == 0) & (trail[4] == node), b"\\n1: start");
+        say_if(
+            stdout,
+            (trail[2] == Step::START) & (trail[4] == node),
+            b"\\n1: start",
+        );
     }
 }
 
@@ -81,11 +86,11 @@ pub fn say_rows(stdout: &mut [u8; BUFFERED], sheet: &[u8], node: u8) {
 
 // What a step does: an internal one, a call entered, or a call passed over.
 fn say_kind(stdout: &mut [u8; BUFFERED], kind: u8, label: u8) {
-    if kind == 1 {
+    if kind == Step::INTERNAL {
         say(stdout, b": step");
         return;
     }
-    if kind == 2 {
+    if kind == Step::ENTERED {
         say(stdout, b": enters ");
     } else {
         say(stdout, b": call ");
@@ -99,12 +104,12 @@ fn say_step(stdout: &mut [u8; BUFFERED], trail: &[u8], i: usize)
 {
     let p = Record::LEN * i;
     let kind = trail[p + 2];
-    if kind != 0 {
+    if kind != Step::START {
         say_ends(stdout, trail[p], trail[p + 4]);
         say_decimal(stdout, (i + 1) as u64);
         say_kind(stdout, kind, trail[p + 3]);
         say(stdout, b" \"");
-        say_if(stdout, kind == 2, b", style=dashed");
+        say_if(stdout, kind == Step::ENTERED, b", style=dashed");
         say(stdout, b"];\n");
     }
 }

@@ -11,6 +11,7 @@ use crate::text::say_record;
 use files::cells::wide;
 use files::encode::LINE;
 use files::record::Record;
+use files::record::Step;
 use printing::say;
 use printing::say_number;
 use printing::stdout::BUFFERED;
@@ -26,12 +27,12 @@ fn say_reached(stdout: &mut [u8; BUFFERED], node: u8, state: u8) {
 
 // What a step does, by its kind: an internal step, a call entered, or a call passed over.
 fn say_act(stdout: &mut [u8; BUFFERED], kind: u8, label: u8) {
-    if kind == 1 {
+    if kind == Step::INTERNAL {
         say(stdout, b", steps to");
         return;
     }
     say_about(stdout, b", calls method", label);
-    if kind == 2 {
+    if kind == Step::ENTERED {
         say(stdout, b" and enters");
     } else {
         say(stdout, b", which returns:");
@@ -48,7 +49,7 @@ fn say_step(stdout: &mut [u8; BUFFERED], r: &[u8], method: u8)
     say_about(stdout, b"node", r[0]);
     say_about(stdout, b" of method", method);
     say_about(stdout, b", in state", r[1]);
-    if r[2] != 0 {
+    if r[2] != Step::START {
         say_act(stdout, r[2], r[3]);
         say_reached(stdout, r[4], r[5]);
     }
@@ -65,7 +66,7 @@ fn say_trail_line(stdout: &mut [u8; BUFFERED], trail: &[u8], i: usize, method: u
     say(stdout, b": ");
     say_step(stdout, &trail[p..p + Record::LEN], method);
     say(stdout, b"\n");
-    if trail[p + 2] == 2 {
+    if trail[p + 2] == Step::ENTERED {
         return trail[p + 3];
     }
     method

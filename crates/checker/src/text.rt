@@ -2,6 +2,7 @@
 ghost use Prim.Native.Nat.{_+_, _*_, _≤_};
 ghost use lib.ListN.{length};
 use crate::load::load;
+use files::record::Operator;
 use files::record::Record;
 use printing::say;
 use printing::say_decimal;
@@ -43,7 +44,7 @@ fn say_edge(stdout: &mut [u8; BUFFERED], from: u8, label: u8, to: u8) {
 
 // A row whose operator names two rows, or a label and a row.
 fn say_operands(stdout: &mut [u8; BUFFERED], op: u8, a: u8, b: u8) {
-    if op == 9 {
+    if op == Operator::BOX {
         say(stdout, b"after every edge with label");
         say_field(stdout, a);
         say(stdout, b", row");
@@ -52,7 +53,7 @@ fn say_operands(stdout: &mut [u8; BUFFERED], op: u8, a: u8, b: u8) {
     }
     say(stdout, b"row");
     say_field(stdout, a);
-    if op == 7 {
+    if op == Operator::AND {
         say(stdout, b" and row");
     } else {
         say(stdout, b" or row");
@@ -69,16 +70,16 @@ pub fn say_about(stdout: &mut [u8; BUFFERED], words: &[u8], number: u8) {
 // What a row asks for.
 pub fn say_formula(stdout: &mut [u8; BUFFERED], op: u8, a: u8, b: u8) {
     match op {
-        1 => say(stdout, b"true"),
-        2 => say(stdout, b"false"),
-        3 => say_about(stdout, b"in method", a),
-        4 => say_about(stdout, b"not in method", a),
-        5 => say(stdout, b"return"),
-        6 => say(stdout, b"not return"),
-        7 => say_operands(stdout, op, a, b),
-        8 => say_operands(stdout, op, a, b),
-        9 => say_operands(stdout, op, a, b),
-        10 => say_about(stdout, b"after every edge, row", a),
+        Operator::TRUE => say(stdout, b"true"),
+        Operator::FALSE => say(stdout, b"false"),
+        Operator::IN_METHOD => say_about(stdout, b"in method", a),
+        Operator::NOT_IN_METHOD => say_about(stdout, b"not in method", a),
+        Operator::RETURNS => say(stdout, b"return"),
+        Operator::NOT_RETURNS => say(stdout, b"not return"),
+        Operator::AND => say_operands(stdout, op, a, b),
+        Operator::OR => say_operands(stdout, op, a, b),
+        Operator::BOX => say_operands(stdout, op, a, b),
+        Operator::BOX_ALL => say_about(stdout, b"after every edge, row", a),
         _ => say(stdout, b"no operator of this number"),
     }
 }
@@ -139,11 +140,11 @@ fn say_meaning(stdout: &mut [u8; BUFFERED], i: usize, r: &[u8])
 {
     let kind = r[0];
     match kind {
-        1 => say_node(stdout, i, r[1], r[2], r[3]),
-        2 => say_edge(stdout, r[1], r[2], r[3]),
-        3 => say_row(stdout, i, r[1], r[2], r[3]),
-        4 => say_rule(stdout, r[1], r[2], r[3], r[4], r[5]),
-        5 => say_interface(stdout, r[1], r[2]),
+        Record::NODE => say_node(stdout, i, r[1], r[2], r[3]),
+        Record::EDGE => say_edge(stdout, r[1], r[2], r[3]),
+        Record::ROW => say_row(stdout, i, r[1], r[2], r[3]),
+        Record::RULE => say_rule(stdout, r[1], r[2], r[3], r[4], r[5]),
+        Record::INTERFACE => say_interface(stdout, r[1], r[2]),
         _ => say(stdout, b"no record of this kind"),
     }
 }

@@ -13,7 +13,7 @@ use Rattle.files.specs.Basics.Tables.{tally, tally-le}
 use Rattle.files.specs.Basics.First.{first-where, first-miss}
 use Rattle.files.specs.Record.{kind-at, count}
 use Rattle.files.specs.Refusal.{edge-before, Kind, graph, property, rules, interface, missing}
-use Rattle.files.specs.Checking.{found-at, lower, lowest, counts, counted, nodes-in, nodes-with, bound-with, bound-of, missing-with, unless, over, checked, from-two, from-five, from-seven}
+use Rattle.files.specs.Checking.{test, found-at, lower, lowest, counts, counted, nodes-in, nodes-with, bound-with, bound-of, missing-with, unless, over, checked, from-two, from-five, from-seven}
 use lib.ListN.{length}
 use Rattle.files.specs.Outcome.{refusal-at}
 use Rattle.files.specs.declared.check.Checked.the-variants.{Accepted, Refused}
@@ -60,22 +60,22 @@ missing-is interface l = refl
 -- ---- a pass over the records
 
 -- one record more
-pub lowest-on : (many n : ℕ) (k : Kind) (l : List ℕ) (first position i : ℕ) (x y z : Found) → x ≡ lowest many n k l first position i
-    → y ≡ found-at many n k l first position i → z ≡ lower x y → z ≡ lowest many n k l first position (i + 1)
-lowest-on many n k l first position i x y z d e f =
-    f ∙ ap₂ lower d e ∙ sym (lowest-more many n k l first position i) ∙ ap (lowest many n k l first position) (sym (add-one i))
+pub lowest-on : (many n : ℕ) (t : ℕ → ℕ → Bool) (first position i : ℕ) (x y z : Found) → x ≡ lowest many n t first position i → y ≡ found-at many n t first position i
+    → z ≡ lower x y → z ≡ lowest many n t first position (i + 1)
+lowest-on many n t first position i x y z d e f =
+    f ∙ ap₂ lower d e ∙ sym (lowest-more many n t first position i) ∙ ap (lowest many n t first position) (sym (add-one i))
 
 -- ---- the steps
 
 -- what the pass for numbers 7 and 8 found, with what number 5 counted
-pub seven-scan : (k : Kind) (l : List ℕ) (first position c : ℕ) (f : Found) → c ≡ counted k l → f ≡ lowest 2 7 k l first position (count l)
+pub seven-scan : (k : Kind) (l : List ℕ) (first position c : ℕ) (f : Found) → c ≡ counted k l → f ≡ lowest 2 7 (test k l) first position (count l)
     → unless f (Accepted (nodes-with k c) (count l)) ≡ from-seven k l first position
 seven-scan k l first position c f e g =
     ap₂ (λ (x : Found) (n : ℕ). unless x (Accepted n (count l))) g (nodes-are k l c e) ∙ sym (from-seven-is k l first position)
 
 module _ (L : Limits) (k : Kind) (l : List ℕ) (first position : ℕ) where
   -- what the pass for numbers 2 to 4 found
-  pub two-scan : (f : Found) → f ≡ lowest 3 2 k l first position (count l) → unless f (from-five L k l first position) ≡ from-two L k l first position
+  pub two-scan : (f : Found) → f ≡ lowest 3 2 (test k l) first position (count l) → unless f (from-five L k l first position) ≡ from-two L k l first position
   two-scan f g = ap (λ (x : Found). unless x (from-five L k l first position)) g ∙ sym (from-two-is L k l first position)
 
   pub five-over : over L k l ≡ true → Refused (refusal-at 5 position 0) ≡ from-five L k l first position

@@ -12,7 +12,7 @@ use types.Run.{OneOf}
 use denote.Enum.Declared.{tagOf}
 use borrow.Author.Tests.{eq-eqb, ne-eqb, le-leb, lt-leb, lt-ltb}
 use Rattle.files.specs.Basics.Lexical.{before}
-use Rattle.files.specs.Checking.{found-at, unread-number, names-past, Sound}
+use Rattle.files.specs.Checking.{test, found-at, unread-number, names-past, Sound}
 use Rattle.files.specs.Checking.Laws.{looked-is, named-is}
 use Rattle.files.specs.Checking.Reads.{right-kind, read-right, node-or-edge, sound-node, sound-edge, sound-row}
 use Rattle.files.specs.Outcome.{refusal-at}
@@ -30,17 +30,17 @@ use Rattle.files.proofs.record.Parsed
 -- ---- 2 to 4
 
 module _ (k : Kind) (l : List ℕ) (first position i : ℕ) where
-  pub two-found : (x : Refusal) → misplaced k l i ≡ true → x ≡ refusal-at 2 position (first + i) → At x ≡ found-at 3 2 k l first position i
+  pub two-found : (x : Refusal) → misplaced k l i ≡ true → x ≡ refusal-at 2 position (first + i) → At x ≡ found-at 3 2 (test k l) first position i
   two-found x a d = rw (looked-is k l first position i, a) (ap At d)
 
-  three-found : (x : Refusal) → misplaced k l i ≡ false → wrong (record-at l i) ≡ true → x ≡ refusal-at 3 position (first + i) → At x ≡ found-at 3 2 k l first position i
+  three-found : (x : Refusal) → misplaced k l i ≡ false → wrong (record-at l i) ≡ true → x ≡ refusal-at 3 position (first + i) → At x ≡ found-at 3 2 (test k l) first position i
   three-found x a b d = rw (looked-is k l first position i, a, b) (ap At d)
 
   pub four-found : (x : Refusal) → (misplaced k l i ≡ false) × (wrong (record-at l i) ≡ false) → disordered k l i ≡ true → x ≡ refusal-at 4 position (first + i)
-      → At x ≡ found-at 3 2 k l first position i
+      → At x ≡ found-at 3 2 (test k l) first position i
   four-found x a c d = rw (looked-is k l first position i, a .0, a .1, c) (ap At d)
 
-  pub nothing-found : (misplaced k l i ≡ false) × (wrong (record-at l i) ≡ false) → disordered k l i ≡ false → Nothing ≡ found-at 3 2 k l first position i
+  pub nothing-found : (misplaced k l i ≡ false) × (wrong (record-at l i) ≡ false) → disordered k l i ≡ false → Nothing ≡ found-at 3 2 (test k l) first position i
   nothing-found a c = rw (looked-is k l first position i, a .0, a .1, c) refl
 
   -- where a record of kind n alone is in its place
@@ -48,10 +48,10 @@ module _ (k : Kind) (l : List ℕ) (first position i : ℕ) where
     abbrev numbered : Parsed → Refusal
     numbered q = refusal-at (unread-number 2 q) position (first + i)
 
-    pub unread-found : OneOf (but n) (tagOf Parsed.the-type p) → (x : Refusal) → x ≡ numbered p → At x ≡ found-at 3 2 k l first position i
+    pub unread-found : OneOf (but n) (tagOf Parsed.the-type p) → (x : Refusal) → x ≡ numbered p → At x ≡ found-at 3 2 (test k l) first position i
     unread-found o x d = go (ℕ-discrete (kind-at l i) n) (wrong (record-at l i)) refl
       where
-        go : Dec (kind-at l i ≡ n) → (b : Bool) → wrong (record-at l i) ≡ b → At x ≡ found-at 3 2 k l first position i
+        go : Dec (kind-at l i ≡ n) → (b : Bool) → wrong (record-at l i) ≡ b → At x ≡ found-at 3 2 (test k l) first position i
         go (no h) b w = two-found x (place ∙ ap not (ne-eqb (kind-at l i) n h)) (d ∙ ap numbered (is ∙ as-other n (record-at l i) h))
         go (yes h) true w =
             three-found x (place ∙ ap not (eq-eqb (kind-at l i) n h)) w
@@ -112,10 +112,10 @@ not-nothing : (q : Parsed) (m : ℕ) (r e : Bool) → q ≡ Node m r e → kind-
 not-nothing q m r e d z = let f : _≡_ {A = ℕ} 1 0 = sym (ap kind-read d) ∙ z in omega arith
 
 module _ (l : List ℕ) (sound : Sound graph l) (first position i : ℕ) (h : i < count l) where
-  pub node-names-none : (p : Parsed) → p ≡ parsed-as 2 (record-at l i) → OneOf (but 2) (tagOf Parsed.the-type p) → Nothing ≡ found-at 2 7 graph l first position i
+  pub node-names-none : (p : Parsed) → p ≡ parsed-as 2 (record-at l i) → OneOf (but 2) (tagOf Parsed.the-type p) → Nothing ≡ found-at 2 7 (test graph l) first position i
   node-names-none p is o = go (node-or-edge l sound i h)
     where
-      go : (kind-at l i ≡ 1) ⊎ (kind-at l i ≡ 2) → Nothing ≡ found-at 2 7 graph l first position i
+      go : (kind-at l i ≡ 1) ⊎ (kind-at l i ≡ 2) → Nothing ≡ found-at 2 7 (test graph l) first position i
       go (inl e) = rw (named-is graph l first position i, e) refl
       go (inr e) = absurd (never 2 p _ (is ∙ sound-edge l sound i h e) refl o)
 
@@ -146,10 +146,10 @@ module _ (l : List ℕ) (sound : Sound graph l) (first position i : ℕ) (h : i 
       from-read : from < N → q ≡ Node (method-at l from) (eqb ((record-at l from) .second) 1) (eqb ((record-at l from) .third) 1)
       from-read b = q-is ∙ ap (λ (t : Bool). cond t Other (parsed-as 1 (record-at l from))) (lt-leb N from b) ∙ sound-at from b
 
-      pub from-past : OneOf (but 1) (tagOf Parsed.the-type q) → (x : Refusal) → x ≡ refusal-at 7 position (first + i) → At x ≡ found-at 2 7 graph l first position i
+      pub from-past : OneOf (but 1) (tagOf Parsed.the-type q) → (x : Refusal) → x ≡ refusal-at 7 position (first + i) → At x ≡ found-at 2 7 (test graph l) first position i
       from-past o x d = go (decLt from N)
         where
-          go : Dec (from < N) → At x ≡ found-at 2 7 graph l first position i
+          go : Dec (from < N) → At x ≡ found-at 2 7 (test graph l) first position i
           go (yes b) = absurd (never 1 q _ (from-read b) refl o)
           go (no b) = rw (named-is graph l first position i, past-is, le-leb N from (omega arith)) (ap At d)
 
@@ -182,19 +182,19 @@ module _ (l : List ℕ) (sound : Sound graph l) (first position i : ℕ) (h : i 
       beside : to < N → method-at l to ≡ m → b ≡ parsed-as 1 (record-at l to)
       beside t d = b-is ∙ (rw (lt-leb N to t, eq-eqb (method-at l to) m d) refl)
 
-      pub to-missing : OneOf (but 1) (tagOf Parsed.the-type b) → (x : Refusal) → x ≡ past-or-apart b → At x ≡ found-at 2 7 graph l first position i
+      pub to-missing : OneOf (but 1) (tagOf Parsed.the-type b) → (x : Refusal) → x ≡ past-or-apart b → At x ≡ found-at 2 7 (test graph l) first position i
       to-missing o x d = go (decLt to N) (ℕ-discrete (method-at l to) m)
         where
-          go : Dec (to < N) → Dec (method-at l to ≡ m) → At x ≡ found-at 2 7 graph l first position i
+          go : Dec (to < N) → Dec (method-at l to ≡ m) → At x ≡ found-at 2 7 (test graph l) first position i
           go (no t) e = rw (named-is graph l first position i, past-is, lt-leb N from (there .0), le-leb N to (omega arith)) (ap At (d ∙ ap past-or-apart (gone t)))
           go (yes t) (no e) =
               rw (named-is graph l first position i, past-to t, crossing-to t, ne-eqb (method-at l to) m e) (ap At (d ∙ ap past-or-apart (apart t e)))
           go (yes t) (yes e) = absurd (never 1 b _ (beside t e ∙ sound-at to t) refl o)
 
-      pub nodes-there : (n : ℕ) (r e : Bool) → b ≡ Node n r e → Nothing ≡ found-at 2 7 graph l first position i
+      pub nodes-there : (n : ℕ) (r e : Bool) → b ≡ Node n r e → Nothing ≡ found-at 2 7 (test graph l) first position i
       nodes-there n r e node = go (decLt to N) (ℕ-discrete (method-at l to) m)
         where
-          go : Dec (to < N) → Dec (method-at l to ≡ m) → Nothing ≡ found-at 2 7 graph l first position i
+          go : Dec (to < N) → Dec (method-at l to ≡ m) → Nothing ≡ found-at 2 7 (test graph l) first position i
           go (no t) d = absurd (not-nothing b n r e node (ap kind-read (gone t)))
           go (yes t) (no d) = absurd (not-nothing b n r e node (ap kind-read (apart t d)))
           go (yes t) (yes d) = rw (named-is graph l first position i, past-to t, crossing-to t, eq-eqb (method-at l to) m d) refl
@@ -206,17 +206,17 @@ module _ (l : List ℕ) (sound : Sound property l) (first position i : ℕ) (h :
   past-row : past property l i ≡ names-past N (record-at l i)
   past-row = rw N-is refl
 
-  pub row-past : OneOf (but 3) (tagOf Parsed.the-type p) → (x : Refusal) → x ≡ refusal-at 7 position (first + i) → At x ≡ found-at 2 7 property l first position i
+  pub row-past : OneOf (but 3) (tagOf Parsed.the-type p) → (x : Refusal) → x ≡ refusal-at 7 position (first + i) → At x ≡ found-at 2 7 (test property l) first position i
   row-past o x d = go (names-past N (record-at l i)) refl
     where
-      go : (b : Bool) → names-past N (record-at l i) ≡ b → At x ≡ found-at 2 7 property l first position i
+      go : (b : Bool) → names-past N (record-at l i) ≡ b → At x ≡ found-at 2 7 (test property l) first position i
       go true e = rw (named-is property l first position i, past-row ∙ e) (ap At d)
       go false e = absurd (never 3 p _ (is ∙ ap (λ (b : Bool). cond b Other (parsed-as 3 (record-at l i))) e ∙ sound-row l sound i h) refl o)
 
-  pub rows-there : (o a b : ℕ) → p ≡ Row o a b → Nothing ≡ found-at 2 7 property l first position i
+  pub rows-there : (o a b : ℕ) → p ≡ Row o a b → Nothing ≡ found-at 2 7 (test property l) first position i
   rows-there o a b row = go (names-past N (record-at l i)) refl
     where
-      go : (t : Bool) → names-past N (record-at l i) ≡ t → Nothing ≡ found-at 2 7 property l first position i
+      go : (t : Bool) → names-past N (record-at l i) ≡ t → Nothing ≡ found-at 2 7 (test property l) first position i
       go false e = rw (named-is property l first position i, past-row ∙ e) refl
       go true e = absurd (nothing (sym (ap kind-read row) ∙ ap kind-read (is ∙ ap (λ (t : Bool). cond t Other (parsed-as 3 (record-at l i))) e)))
         where

@@ -4,7 +4,7 @@ use mathlib.Core.Logic.{_⊎_}
 use mathlib.Core.Bool.{Bool, not, cond, _&&_, _||_, true}
 use mathlib.Core.List.{List, [], _∷_, _++_}
 use mathlib.Core.Option.{Option, none, some}
-use Prim.Native.Nat.{ℕ, suc, _≤_, _<_}
+use Prim.Native.Nat.{ℕ, zero, suc, _≤_, _<_}
 use lib.Dec.{eqb, leb, ltb}
 use lib.ListN.{length, drop, replicate}
 use Rattle.files.specs.Basics.Lexical.{before}
@@ -131,11 +131,14 @@ pub data Lines : Type 1 where
   no-lines : Lines
   line : ℕ → ℕ → (ℕ → Type 0) → Lines → Lines
 
+-- k numbers from n on, of file f, by a table that says at which records each applies
+abbrev pub numbered-lines : (ℕ → ℕ → Type 0) → ℕ → ℕ → ℕ → Lines → Lines
+numbered-lines A f n zero ls = ls
+numbered-lines A f n (suc k) ls = line n f (A n) (numbered-lines A f (suc n) k ls)
+
 -- "each file in argument order, its lowest number among 1..8"
 abbrev pub file-lines : Limits → ℕ → Kind → List ℕ → Lines → Lines
-file-lines L f k l ls =
-    line 1 f (Applies L k l 1) (line 2 f (Applies L k l 2) (line 3 f (Applies L k l 3) (line 4 f (Applies L k l 4)
-    (line 5 f (Applies L k l 5) (line 6 f (Applies L k l 6) (line 7 f (Applies L k l 7) (line 8 f (Applies L k l 8) ls)))))))
+file-lines L f k l ls = numbered-lines (Applies L k l) f 1 8 ls
 
 abbrev pub whole-line : ℕ → Type 0 → Lines → Lines
 whole-line n P ls = line n 0 (λ i. (i ≡ 0) × P) ls
@@ -168,7 +171,7 @@ pub data Entry : Type 0 where
 
 abbrev pub published-order : List Entry
 published-order =
-    of-call 13 ∷ of-each-file (1 ∷ 2 ∷ 3 ∷ 4 ∷ 5 ∷ 6 ∷ 7 ∷ 8 ∷ []) ∷ of-call 3 ∷ of-call 7 ∷ of-graphs-first 9 ∷ of-call 10 ∷ of-call 11 ∷ of-call 12 ∷ []
+    of-call 13 ∷ of-each-file (1 ∷ 2 ∷ 3 ∷ 4 ∷ 5 ∷ 6 ∷ 7 ∷ 8 ∷ []) ∷ of-call 3 ∷ of-call 7 ∷ of-call 14 ∷ of-graphs-first 9 ∷ of-call 10 ∷ of-call 11 ∷ of-call 12 ∷ []
 
 -- where n stands among numbers, or their count
 abbrev pub index-of : ℕ → List ℕ → ℕ

@@ -8,7 +8,7 @@ ghost use lib.ListN.{length};
 ghost use Rattle.files.specs.Record.{record-at, count, parsed-as};
 ghost use Rattle.files.specs.Refusal.{graph, property, nodes-of, method-at};
 ghost use Rattle.files.specs.FileKind.{kind-of};
-ghost use Rattle.files.specs.Checking.{found-at, bound-of, names-past, Sound};
+ghost use Rattle.files.specs.Checking.{test, found-at, bound-of, names-past, Sound};
 ghost use Rattle.files.specs.declared.record.Parsed.the-variants.{Wrong, Other};
 use crate::offence::FileKind;
 use crate::offence::Found;
@@ -51,7 +51,7 @@ fn node_beside(records: &[u8], nodes: usize, g: usize, method: u8) -> Parsed
 // 7 and 8 of an edge: both of its nodes are there, the second beside the first. A node names nothing.
 fn name_nodes(records: &[u8], nodes: usize, i: usize, first: usize, position: u8) -> Found
     requires { ⌜ (Sound graph (now records)) × ((nodes ≡ nodes-of (now records)) × ((i < count (now records)) × (first + i < 18446744073709551616))) ⌝ }
-    ensures { λ r. ⌜ r ≡ found-at 2 7 graph (now (records .entry)) first position i ⌝ }
+    ensures { λ r. ⌜ r ≡ found-at 2 7 (test graph (now (records .entry))) first position i ⌝ }
 {
     let Parsed::Edge { from, to, .. } = parse_edge(records, i) else {
         return Found::Nothing;
@@ -92,7 +92,7 @@ fn row_within(records: &[u8], rows: usize, i: usize) -> Parsed
 // 7 of a row: the rows that it names are there.
 fn name_rows(records: &[u8], rows: usize, i: usize, first: usize, position: u8) -> Found
     requires { ⌜ (Sound property (now records)) × ((rows ≡ count (now records)) × ((i < count (now records)) × (first + i < 18446744073709551616))) ⌝ }
-    ensures { λ r. ⌜ r ≡ found-at 2 7 property (now (records .entry)) first position i ⌝ }
+    ensures { λ r. ⌜ r ≡ found-at 2 7 (test property (now (records .entry))) first position i ⌝ }
 {
     let Parsed::Row { .. } = row_within(records, rows, i) else {
         return Found::At(Refusal::at(7, position, first + i));
@@ -110,7 +110,7 @@ pub(crate) fn name(
     position: u8,
 ) -> Found
     requires { ⌜ (Sound (kind-of kind) (now records)) × ((bound ≡ bound-of (kind-of kind) (now records)) × ((i < count (now records)) × (first + i < 18446744073709551616))) ⌝ }
-    ensures { λ r. ⌜ r ≡ found-at 2 7 (kind-of kind) (now (records .entry)) first position i ⌝ }
+    ensures { λ r. ⌜ r ≡ found-at 2 7 (test (kind-of kind) (now (records .entry))) first position i ⌝ }
 {
     match kind {
         FileKind::Graph => name_nodes(records, bound, i, first, position),

@@ -9,7 +9,7 @@ ghost use Rattle.files.specs.Outcome.{refusal-at};
 ghost use Rattle.files.specs.Record.{kind-at};
 ghost use Rattle.files.specs.Refusal.{graph, property, rules, interface, edge-before, disordered};
 ghost use Rattle.files.specs.FileKind.{kind-of};
-ghost use Rattle.files.specs.Checking.{unread-number, found-at};
+ghost use Rattle.files.specs.Checking.{test, unread-number, found-at};
 use crate::parse::kind_at;
 use crate::parse::parse_edge;
 use crate::parse::parse_interface;
@@ -111,7 +111,7 @@ pub(crate) fn unread(p: Parsed, low: u8, position: u8, record: usize) -> Refusal
 // A record of kind 1 in a graph.
 fn look_node(records: &[u8], i: usize, first: usize, position: u8) -> Found
     requires { ⌜ (6 * i + 6 ≤ length (now records)) × ((first + i < 18446744073709551616) × (kind-at (now records) i ≡ 1)) ⌝ }
-    ensures { λ r. ⌜ r ≡ found-at 3 2 graph (now (records .entry)) first position i ⌝ }
+    ensures { λ r. ⌜ r ≡ found-at 3 2 (test graph (now (records .entry))) first position i ⌝ }
 {
     if edge_before(records, i) {
         return Found::At(Refusal::at(2, position, first + i));
@@ -126,7 +126,7 @@ fn look_node(records: &[u8], i: usize, first: usize, position: u8) -> Found
 // A record of a graph that is no node: an edge, or misplaced.
 fn look_edge(records: &[u8], i: usize, first: usize, position: u8) -> Found
     requires { ⌜ (6 * i + 6 ≤ length (now records)) × ((first + i < 18446744073709551616) × (kind-at (now records) i ≡ 1 → ⊥)) ⌝ }
-    ensures { λ r. ⌜ r ≡ found-at 3 2 graph (now (records .entry)) first position i ⌝ }
+    ensures { λ r. ⌜ r ≡ found-at 3 2 (test graph (now (records .entry))) first position i ⌝ }
 {
     let p = parse_edge(records, i);
     let Parsed::Edge { .. } = p else {
@@ -140,7 +140,7 @@ fn look_edge(records: &[u8], i: usize, first: usize, position: u8) -> Found
 
 fn look_graph(records: &[u8], i: usize, first: usize, position: u8) -> Found
     requires { ⌜ (6 * i + 6 ≤ length (now records)) × (first + i < 18446744073709551616) ⌝ }
-    ensures { λ r. ⌜ r ≡ found-at 3 2 graph (now (records .entry)) first position i ⌝ }
+    ensures { λ r. ⌜ r ≡ found-at 3 2 (test graph (now (records .entry))) first position i ⌝ }
 {
     if kind_at(records, i) == Record::NODE {
         return look_node(records, i, first, position);
@@ -150,7 +150,7 @@ fn look_graph(records: &[u8], i: usize, first: usize, position: u8) -> Found
 
 fn look_row(records: &[u8], i: usize, first: usize, position: u8) -> Found
     requires { ⌜ (6 * i + 6 ≤ length (now records)) × (first + i < 18446744073709551616) ⌝ }
-    ensures { λ r. ⌜ r ≡ found-at 3 2 property (now (records .entry)) first position i ⌝ }
+    ensures { λ r. ⌜ r ≡ found-at 3 2 (test property (now (records .entry))) first position i ⌝ }
 {
     let p = parse_row(records, i);
     let Parsed::Row { .. } = p else {
@@ -161,7 +161,7 @@ fn look_row(records: &[u8], i: usize, first: usize, position: u8) -> Found
 
 fn look_rule(records: &[u8], i: usize, first: usize, position: u8) -> Found
     requires { ⌜ (6 * i + 6 ≤ length (now records)) × (first + i < 18446744073709551616) ⌝ }
-    ensures { λ r. ⌜ r ≡ found-at 3 2 rules (now (records .entry)) first position i ⌝ }
+    ensures { λ r. ⌜ r ≡ found-at 3 2 (test rules (now (records .entry))) first position i ⌝ }
 {
     let p = parse_rule(records, i);
     let Parsed::Rule { .. } = p else {
@@ -176,7 +176,7 @@ fn look_rule(records: &[u8], i: usize, first: usize, position: u8) -> Found
 // An interface file holds one record: a second one is out of place.
 fn look_interface(records: &[u8], i: usize, first: usize, position: u8) -> Found
     requires { ⌜ (6 * i + 6 ≤ length (now records)) × (first + i < 18446744073709551616) ⌝ }
-    ensures { λ r. ⌜ r ≡ found-at 3 2 interface (now (records .entry)) first position i ⌝ }
+    ensures { λ r. ⌜ r ≡ found-at 3 2 (test interface (now (records .entry))) first position i ⌝ }
 {
     if 1 <= i {
         return Found::At(Refusal::at(2, position, first + i));
@@ -191,7 +191,7 @@ fn look_interface(records: &[u8], i: usize, first: usize, position: u8) -> Found
 // Numbers 2 to 4 at record i, which is record `first + i` of the file: the lowest that applies, or nothing.
 pub(crate) fn look(kind: FileKind, records: &[u8], i: usize, first: usize, position: u8) -> Found
     requires { ⌜ (6 * i + 6 ≤ length (now records)) × (first + i < 18446744073709551616) ⌝ }
-    ensures { λ r. ⌜ r ≡ found-at 3 2 (kind-of kind) (now (records .entry)) first position i ⌝ }
+    ensures { λ r. ⌜ r ≡ found-at 3 2 (test (kind-of kind) (now (records .entry))) first position i ⌝ }
 {
     match kind {
         FileKind::Graph => look_graph(records, i, first, position),

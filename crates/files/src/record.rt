@@ -162,6 +162,20 @@ impl Operator {
     pub const BOX_ALL: u8 = 10;
 }
 
+// The steps of a trail's records.
+pub struct Step {}
+
+impl Step {
+    pub const START: u8 = 0;
+
+    pub const INTERNAL: u8 = 1;
+
+    // A call entered, and one passed over.
+    pub const ENTERED: u8 = 2;
+
+    pub const PASSED: u8 = 3;
+}
+
 // How much a file may hold.
 pub struct Limits {
     pub nodes: usize,

@@ -5,7 +5,7 @@ ghost use Prim.Native.Nat.{_+_, _*_, _≤_, _<_};
 ghost use lib.ListN.{length};
 ghost use Rattle.files.specs.Record.{count};
 ghost use Rattle.files.specs.FileKind.{kind-of};
-ghost use Rattle.files.specs.Checking.{lower, lowest, counts, counted, bound-of, Sound};
+ghost use Rattle.files.specs.Checking.{test, lower, lowest, counts, counted, bound-of, Sound};
 use crate::naming::name;
 use crate::offence::FileKind;
 use crate::offence::Found;
@@ -35,7 +35,7 @@ fn lower(found: Found, next: Found) -> Found
 // The lowest of numbers 2 to 4, at its first record.
 pub(crate) fn look_through(kind: FileKind, records: &[u8], first: usize, position: u8) -> Found
     requires { ⌜ first + length (now records) < 18446744073709551616 ⌝ }
-    ensures { λ r. ⌜ r ≡ lowest 3 2 (kind-of kind) (now (records .entry)) first position (count (now (records .entry))) ⌝ }
+    ensures { λ r. ⌜ r ≡ lowest 3 2 (test (kind-of kind) (now (records .entry))) first position (count (now (records .entry))) ⌝ }
 {
     let n = records.len() / Record::LEN;
     let mut found = Found::Nothing;
@@ -57,7 +57,7 @@ pub(crate) fn name_through(
     position: u8,
 ) -> Found
     requires { ⌜ (Sound (kind-of kind) (now records)) × ((bound ≡ bound-of (kind-of kind) (now records)) × (first + length (now records) < 18446744073709551616)) ⌝ }
-    ensures { λ r. ⌜ r ≡ lowest 2 7 (kind-of kind) (now (records .entry)) first position (count (now (records .entry))) ⌝ }
+    ensures { λ r. ⌜ r ≡ lowest 2 7 (test (kind-of kind) (now (records .entry))) first position (count (now (records .entry))) ⌝ }
 {
     let n = records.len() / Record::LEN;
     let mut found = Found::Nothing;
@@ -87,7 +87,7 @@ fn counts(kind: FileKind, records: &[u8], i: usize) -> bool
 }
 
 // How many records number 5 counts apart: nodes of a graph, or-rows of a property. One pass.
-pub fn count(kind: FileKind, records: &[u8]) -> usize
+pub(crate) fn count(kind: FileKind, records: &[u8]) -> usize
     ensures { λ r. ⌜ r ≡ counted (kind-of kind) (now (records .entry)) ⌝ }
 {
     let n = records.len() / Record::LEN;

@@ -21,8 +21,8 @@ use Rattle.files.specs.Graph.{Graph, size, no-edge}
 use Rattle.files.specs.Property.{Row, both, either, row, obliged, Boxed, is-box, aims}
 use Rattle.files.specs.declared.property.PropertyRow.{PropertyRow}
 use Rattle.judging.specs.declared.shape.Shape.{Shape}
-use Rattle.judging.specs.Chains.{last-where}
-use Rattle.judging.specs.Chains.Laws.{last-le, last-passes, last-above, walk-on}
+use Rattle.files.specs.Basics.First.{last-where, last-le, last-passes, last-above}
+use Rattle.judging.specs.Chains.Laws.{walk-on}
 use Rattle.judging.specs.Levels.{level}
 use Rattle.judging.specs.Ranking.{Ready, pair, rank-at, queue-at, Given, given, tail-after, Finding, Grew, RowDone, Done, Found, Ranked, Names}
 use Rattle.judging.specs.Ranking.Stores.{give-grew, give-room}

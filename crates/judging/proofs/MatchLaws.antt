@@ -16,7 +16,8 @@ use Rattle.files.specs.Cells.Laws.{bit-byte, bit-same, bit-other}
 use Rattle.files.specs.Decode.{decode-graph}
 use Rattle.files.specs.Graph.{Graph, size}
 use Rattle.judging.specs.declared.sizes.Sizes.{Sizes}
-use Rattle.judging.specs.Chains.{Outside, last-where}
+use Rattle.files.specs.Basics.First.{last-where}
+use Rattle.judging.specs.Chains.{Outside}
 use Rattle.judging.specs.Refinement.{Both, rel, held, load, edge, follows, comes, labelled-into, In, Within, Lacking, Meets, Preceded, Preceding, LostMet, Asked, Sifted, Refining, Shrank, Contained, LabelMatched, NodeMatched, Leading, Candidates, Took, Matching, Settled}
 use Rattle.judging.specs.Refinement.Files.{first-size, second-size, first-edges, first-flow, second-flow, first-fits, second-fits, first-edges-fit, first-edge-in}
 use Rattle.judging.specs.Refinement.Handing.{looked-up-kept, sifted-near, preceding-by, lost-met, lost-kept, row-dropped, shrank-on, unmet-apart, label-matched, label-none, label-kept, node-kept, order-beside, candidates-met, lacking-apart, leading-by, leading-kept}

@@ -12,20 +12,6 @@ use files::cells::put16;
 use files::encode::put_record;
 use files::record::Record;
 
-// The steps of a trail's records.
-pub(crate) struct Step {}
-
-impl Step {
-    pub const START: u8 = 0;
-
-    pub const INTERNAL: u8 = 1;
-
-    // A call entered, and one passed over.
-    pub const ENTERED: u8 = 2;
-
-    pub const PASSED: u8 = 3;
-}
-
 // Looks at one record from item `head`: unless its place was met, it makes an item. The end of the items after it.
 pub(crate) fn push(
     work: &mut [u8],

@@ -14,7 +14,7 @@ ghost use Rattle.files.specs.Settling.{Settles, WherePassed};
 ghost use Rattle.files.specs.View.{Views};
 ghost use Rattle.judging.specs.Judge.{Strides};
 ghost use Rattle.judging.specs.Refinement.{Both};
-ghost use Rattle.runs.specs.Join.{join};
+ghost use Rattle.files.specs.Join.{join};
 ghost use Rattle.runs.specs.Joining.{joined, joined-answer, join-said, join-first, from-size, moved-bytes};
 use crate::answers::Joined;
 use files::cells::copy_at;

@@ -14,7 +14,7 @@ use Rattle.files.specs.Checking.{nodes-in, checked-by, checked, test, fo
 use Rattle.files.specs.Checking.Reads.{five-agrees}
 use Rattle.files.specs.Outcome.{refusal-at}
 use Rattle.files.specs.Record.{record-at, count, wrong}
-use Rattle.files.specs.Refusal.{Kind, misplaced, disordered, passed, missing, past, crossing, refusal}
+use Rattle.files.specs.Refusal.{Kind, misplaced, disordered, passed, missing, past, crossing, findings, refusal}
 use Rattle.files.specs.Refusal.Laws.{refusal-is, findings-are}
 use Rattle.files.specs.declared.check.Checked.{Checked}
 use Rattle.files.specs.declared.check.Checked.the-variants.{Accepted, Refused}
@@ -30,7 +30,7 @@ unfolding from-one
 from-one-is L k l position = refl
 
 pub from-two-is : (L : Limits) (k : Kind) (l : List ℕ) (first position : ℕ)
-    → from-two L k l first position ≡ unless (lowest 3 2 k l first position (count l)) (from-five L k l first position)
+    → from-two L k l first position ≡ unless (lowest 3 2 (test k l) first position (count l)) (from-five L k l first position)
 unfolding from-two
 from-two-is L k l first position = refl
 
@@ -40,30 +40,30 @@ unfolding from-five
 from-five-is L k l first position = refl
 
 pub from-seven-is : (k : Kind) (l : List ℕ) (first position : ℕ)
-    → from-seven k l first position ≡ unless (lowest 2 7 k l first position (count l)) (Accepted (nodes-in k l) (count l))
+    → from-seven k l first position ≡ unless (lowest 2 7 (test k l) first position (count l)) (Accepted (nodes-in k l) (count l))
 unfolding from-seven
 from-seven-is k l first position = refl
 
 pub looked-is : (k : Kind) (l : List ℕ) (first position i : ℕ)
-    → found-at 3 2 k l first position i
+    → found-at 3 2 (test k l) first position i
     ≡ cond (misplaced k l i) (At (refusal-at 2 position (first + i)))
     (cond (wrong (record-at l i)) (At (refusal-at 3 position (first + i))) (cond (disordered k l i) (At (refusal-at 4 position (first + i))) Nothing))
 unfolding found-at test
 looked-is k l first position i = refl
 
 pub named-is : (k : Kind) (l : List ℕ) (first position i : ℕ)
-    → found-at 2 7 k l first position i ≡ cond (past k l i) (At (refusal-at 7 position (first + i))) (cond (crossing k l i) (At (refusal-at 8 position (first + i))) Nothing)
+    → found-at 2 7 (test k l) first position i ≡ cond (past k l i) (At (refusal-at 7 position (first + i))) (cond (crossing k l i) (At (refusal-at 8 position (first + i))) Nothing)
 unfolding found-at test
 named-is k l first position i = refl
 
-pub lowest-none : (many n : ℕ) (k : Kind) (l : List ℕ) (first position : ℕ) → lowest many n k l first position 0 ≡ Nothing
+pub lowest-none : (many n : ℕ) (t : ℕ → ℕ → Bool) (first position : ℕ) → lowest many n t first position 0 ≡ Nothing
 unfolding lowest
-lowest-none many n k l first position = refl
+lowest-none many n t first position = refl
 
-pub lowest-more : (many n : ℕ) (k : Kind) (l : List ℕ) (first position i : ℕ)
-    → lowest many n k l first position (suc i) ≡ lower (lowest many n k l first position i) (found-at many n k l first position i)
+pub lowest-more : (many n : ℕ) (t : ℕ → ℕ → Bool) (first position i : ℕ)
+    → lowest many n t first position (suc i) ≡ lower (lowest many n t first position i) (found-at many n t first position i)
 unfolding lowest
-lowest-more many n k l first position i = refl
+lowest-more many n t first position i = refl
 
 pub counted-is : (k : Kind) (l : List ℕ) → counted k l ≡ tally (counts k l) (count l)
 unfolding counted
@@ -87,7 +87,7 @@ accepted-counts L k l position n c e = go (refusal L k l) e
 -- ---- the lowest of several numbers is the first of them that finds a record, there
 
 -- what a number finds first, or what the rest finds
-abbrev found-first : ℕ → ℕ → ℕ → Option ℕ → Found → Found
+abbrev pub found-first : ℕ → ℕ → ℕ → Option ℕ → Found → Found
 found-first n first position none rest = rest
 found-first n first position (some i) rest = At (refusal-at n position (first + i))
 
@@ -125,45 +125,57 @@ first-or-later n first position N (some i) false x y z a c e = sym (keeps-first 
 first-or-later n first position N none true x y z a c e = sym (takes-later n position (first + N) y a)
 first-or-later n first position N none false x y z a c e = e
 
-module _ (k : Kind) (l : List ℕ) (first position : ℕ) where
+module _ (t : ℕ → ℕ → Bool) (first position : ℕ) where
   -- of `many` numbers from n on, the first that finds one of N records, there
   scanned : ℕ → ℕ → ℕ → Found
   scanned zero n N = Nothing
-  scanned (suc many) n N = found-first n first position (first-where (test k l n) N) (scanned many (suc n) N)
+  scanned (suc many) n N = found-first n first position (first-where (t n) N) (scanned many (suc n) N)
 
   scanned-least : (many n N : ℕ) → AtLeast n (scanned many n N)
   unfolding scanned
   scanned-least zero n N = tt
-  scanned-least (suc many) n N = found-first-least n first position (first-where (test k l n) N) (scanned many (suc n) N) (scanned-least many (suc n) N)
+  scanned-least (suc many) n N = found-first-least n first position (first-where (t n) N) (scanned many (suc n) N) (scanned-least many (suc n) N)
 
-  found-least : (many n i : ℕ) → AtLeast n (found-at many n k l first position i)
+  found-least : (many n i : ℕ) → AtLeast n (found-at many n t first position i)
   unfolding found-at
   found-least zero n i = tt
-  found-least (suc many) n i = cond-least n (test k l n i) position (first + i) (found-at many (suc n) k l first position i) (found-least many (suc n) i)
+  found-least (suc many) n i = cond-least n (t n i) position (first + i) (found-at many (suc n) t first position i) (found-least many (suc n) i)
 
-  scanned-step : (many n N : ℕ) → scanned many n (suc N) ≡ lower (scanned many n N) (found-at many n k l first position N)
+  scanned-step : (many n N : ℕ) → scanned many n (suc N) ≡ lower (scanned many n N) (found-at many n t first position N)
   unfolding scanned found-at
   scanned-step zero n N = refl
   scanned-step (suc many) n N =
-      first-or-later n first position N (first-where (test k l n) N) (test k l n N) (scanned many (suc n) (suc N)) (scanned many (suc n) N)
-      (found-at many (suc n) k l first position N) (scanned-least many (suc n) N) (found-least many (suc n) N) (scanned-step many (suc n) N)
+      first-or-later n first position N (first-where (t n) N) (t n N) (scanned many (suc n) (suc N)) (scanned many (suc n) N)
+      (found-at many (suc n) t first position N) (scanned-least many (suc n) N) (found-least many (suc n) N) (scanned-step many (suc n) N)
 
   nothing-scanned : (many n : ℕ) → scanned many n 0 ≡ Nothing
   unfolding scanned
   nothing-scanned zero n = refl
   nothing-scanned (suc many) n = nothing-scanned many (suc n)
 
-  lowest-scanned : (many n N : ℕ) → lowest many n k l first position N ≡ scanned many n N
-  lowest-scanned many n zero = lowest-none many n k l first position ∙ sym (nothing-scanned many n)
+  lowest-scanned : (many n N : ℕ) → lowest many n t first position N ≡ scanned many n N
+  lowest-scanned many n zero = lowest-none many n t first position ∙ sym (nothing-scanned many n)
   lowest-scanned many n (suc N) =
-      lowest-more many n k l first position N
-      ∙ ap (λ (x : Found). lower x (found-at many n k l first position N)) (lowest-scanned many n N)
+      lowest-more many n t first position N
+      ∙ ap (λ (x : Found). lower x (found-at many n t first position N)) (lowest-scanned many n N)
       ∙ sym (scanned-step many n N)
 
+  -- of 2 to 4, and of 7 and 8
+  pub lowest-of-three : (N : ℕ) → lowest 3 2 t first position N
+      ≡ found-first 2 first position (first-where (t 2) N) (found-first 3 first position (first-where (t 3) N) (found-first 4 first position (first-where (t 4) N) Nothing))
+  unfolding scanned
+  lowest-of-three N = lowest-scanned 3 2 N
+
+  pub lowest-of-two : (N : ℕ) → lowest 2 7 t first position N
+      ≡ found-first 7 first position (first-where (t 7) N) (found-first 8 first position (first-where (t 8) N) Nothing)
+  unfolding scanned
+  lowest-of-two N = lowest-scanned 2 7 N
+
+module _ (k : Kind) (l : List ℕ) (first position : ℕ) where
   -- where 2 to 4 find nothing, neither 2 nor 3 does
-  pub unfound-sound : lowest 3 2 k l first position (count l) ≡ Nothing → Sound k l
-  unfolding scanned test
-  unfound-sound e = go (first-where (misplaced k l) (count l)) (first-where (λ i. wrong (record-at l i)) (count l)) refl refl (sym (lowest-scanned 3 2 (count l)) ∙ e)
+  pub unfound-sound : lowest 3 2 (test k l) first position (count l) ≡ Nothing → Sound k l
+  unfolding test
+  unfound-sound e = go (first-where (misplaced k l) (count l)) (first-where (λ i. wrong (record-at l i)) (count l)) refl refl (sym (lowest-of-three (test k l) first position (count l)) ∙ e)
     where
       no-find : (n i : ℕ) → At (refusal-at n position (first + i)) ≡ Nothing → ⊥
       no-find n i q = subst is-found q tt
@@ -173,7 +185,7 @@ module _ (k : Kind) (l : List ℕ) (first position : ℕ) where
           is-found (At r) = Unit {0}
 
       go : (a b : Option ℕ) → first-where (misplaced k l) (count l) ≡ a → first-where (λ i. wrong (record-at l i)) (count l) ≡ b
-          → found-first 2 first position a (found-first 3 first position b (scanned 1 4 (count l))) ≡ Nothing → Sound k l
+          → found-first 2 first position a (found-first 3 first position b (found-first 4 first position (first-where (disordered k l) (count l)) Nothing)) ≡ Nothing → Sound k l
       go (some i) b d f q = absurd (no-find 2 i q)
       go none (some i) d f q = absurd (no-find 3 i q)
       go none none d f q = record { none-misplaced = d; none-wrong = f }
@@ -193,58 +205,82 @@ from-fifth L k l = whole (passed L k l) ∷ whole (missing k l) ∷ from-seventh
 abbrev from-fourth : Limits → Kind → List ℕ → List (Option ℕ)
 from-fourth L k l = first-where (disordered k l) (count l) ∷ from-fifth L k l
 
--- a step of the whole file, and one that looks at each record
-whole-step : (k : Kind) (l : List ℕ) (position n : ℕ) (ms : List (Option ℕ)) (rest : Checked) (b : Bool) → (b ≡ false → rest ≡ checked-by k l position (pick (suc n) ms))
-    → cond b (Refused (refusal-at n position 0)) rest ≡ checked-by k l position (pick n (whole b ∷ ms))
-whole-step k l position n ms rest true f = refl
-whole-step k l position n ms rest false f = f refl
+-- what is answered by a file's refusal, where an accepted file is answered so
+abbrev pub answered-by : Checked → ℕ → Option (ℕ × ℕ) → Checked
+answered-by a position none = a
+answered-by a position (some x) = Refused (refusal-at (x .0) position (x .1))
 
-scan-step : (k : Kind) (l : List ℕ) (position n : ℕ) (ms : List (Option ℕ)) (rest : Checked) (x : Found) (m : Option ℕ)
-    → (m ≡ none → unless x rest ≡ checked-by k l position (pick (suc n) ms))
-    → unless (found-first n 0 position m x) rest ≡ checked-by k l position (pick n (m ∷ ms))
-scan-step k l position n ms rest x none f = f refl
-scan-step k l position n ms rest x (some i) f = ap (λ (j : ℕ). Refused (refusal-at n position j)) (zero-add i)
+module _ (a : Checked) (position n : ℕ) (ms : List (Option ℕ)) (rest : Checked) where
+  -- a step of the whole file, and one that looks at each record
+  pub whole-step : (b : Bool) → (b ≡ false → rest ≡ answered-by a position (pick (suc n) ms))
+      → cond b (Refused (refusal-at n position 0)) rest ≡ answered-by a position (pick n (whole b ∷ ms))
+  whole-step true f = refl
+  whole-step false f = f refl
 
-module _ (k : Kind) (l : List ℕ) (sound : Sound k l) where
-  -- the steps from numbers 7 and 5 on, where 2 and 3 find nothing
-  seven-on : (position : ℕ) → from-seven k l 0 position ≡ checked-by k l position (pick 7 (from-seventh k l))
-  unfolding scanned test
-  seven-on position =
+  pub scan-step : (x : Found) (m : Option ℕ) → (m ≡ none → unless x rest ≡ answered-by a position (pick (suc n) ms))
+      → unless (found-first n 0 position m x) rest ≡ answered-by a position (pick n (m ∷ ms))
+  scan-step x none f = f refl
+  scan-step x (some i) f = ap (λ (j : ℕ). Refused (refusal-at n position j)) (zero-add i)
+
+by-same : (k : Kind) (l : List ℕ) (position : ℕ) (o : Option (ℕ × ℕ)) → answered-by (Accepted (nodes-in k l) (count l)) position o ≡ checked-by k l position o
+by-same k l position none = refl
+by-same k l position (some x) = refl
+
+module _ (k : Kind) (l : List ℕ) (position : ℕ) where
+  abbrev accepted : Checked
+  accepted = Accepted (nodes-in k l) (count l)
+
+  abbrev by : Option (ℕ × ℕ) → Checked
+  by = answered-by accepted position
+
+  -- the steps from number 7 on, where 2 and 3 find nothing, and from 5 on
+  seven-on : from-seven k l 0 position ≡ by (pick 7 (from-seventh k l))
+  unfolding test
+  seven-on =
       from-seven-is k l 0 position
-      ∙ ap (λ (x : Found). unless x accepted) (lowest-scanned k l 0 position 2 7 (count l))
-      ∙ scan-step k l position 7 (from-eighth k l) accepted (scanned k l 0 position 1 8 (count l)) (first-where (past k l) (count l))
-      (λ e. scan-step k l position 8 [] accepted Nothing (first-where (crossing k l) (count l)) (λ f. refl))
-    where
-      accepted : Checked
-      accepted = Accepted (nodes-in k l) (count l)
+      ∙ ap (λ (x : Found). unless x accepted) (lowest-of-two (test k l) 0 position (count l))
+      ∙ scan-step accepted position 7 (from-eighth k l) accepted (found-first 8 0 position (first-where (crossing k l) (count l)) Nothing) (first-where (past k l) (count l))
+      (λ e. scan-step accepted position 8 [] accepted Nothing (first-where (crossing k l) (count l)) (λ f. refl))
 
-  five-on : (L : Limits) (position : ℕ) → from-five L k l 0 position ≡ checked-by k l position (pick 5 (from-fifth L k l))
-  five-on L position =
+  five-on : (L : Limits) → Sound k l → from-five L k l 0 position ≡ by (pick 5 (from-fifth L k l))
+  five-on L sound =
       from-five-is L k l 0 position ∙ ap (λ (b : Bool). cond b (Refused (refusal-at 5 position 0)) six) (five-agrees L k l sound)
-      ∙ whole-step k l position 5 (whole (missing k l) ∷ from-seventh k l) six (passed L k l) (λ e. whole-step k l position 6 (from-seventh k l) _ (missing k l) (λ f. seven-on position))
+      ∙ whole-step accepted position 5 (whole (missing k l) ∷ from-seventh k l) six (passed L k l)
+      (λ e. whole-step accepted position 6 (from-seventh k l) (from-seven k l 0 position) (missing k l) (λ f. seven-on))
     where
       six : Checked
       six = cond (missing k l) (Refused (refusal-at 6 position 0)) (from-seven k l 0 position)
 
 -- the steps that the code takes come to the file's refusal
 pub checked-steps : (L : Limits) (k : Kind) (l : List ℕ) (position : ℕ) → from-one L k l position ≡ checked L k l position
-unfolding scanned test
-checked-steps L k l position = one-on ∙ ap (λ (ms : List (Option ℕ)). checked-by k l position (pick 1 ms)) (sym (findings-are L k l)) ∙ ap (checked-by k l position) (sym (refusal-is L k l)) ∙ sym (checked-is L k l position)
+unfolding test
+checked-steps L k l position =
+    one-on
+    ∙ ap (λ (ms : List (Option ℕ)). by k l position (pick 1 ms)) (sym (findings-are L k l))
+    ∙ by-same k l position (pick 1 (findings L k l))
+    ∙ ap (checked-by k l position) (sym (refusal-is L k l))
+    ∙ sym (checked-is L k l position)
   where
+    yes-so : Checked
+    yes-so = Accepted (nodes-in k l) (count l)
+
     thirds : List (Option ℕ)
     thirds = first-where (λ i. wrong (record-at l i)) (count l) ∷ from-fourth L k l
 
     rest : Checked
     rest = from-five L k l 0 position
 
-    two-on : from-two L k l 0 position ≡ checked-by k l position (pick 2 (first-where (misplaced k l) (count l) ∷ thirds))
+    two-on : from-two L k l 0 position ≡ by k l position (pick 2 (first-where (misplaced k l) (count l) ∷ thirds))
     two-on =
         from-two-is L k l 0 position
-        ∙ ap (λ (x : Found). unless x rest) (lowest-scanned k l 0 position 3 2 (count l))
-        ∙ scan-step k l position 2 thirds rest (scanned k l 0 position 2 3 (count l)) (first-where (misplaced k l) (count l))
-        (λ two. scan-step k l position 3 (from-fourth L k l) rest (scanned k l 0 position 1 4 (count l)) (first-where (λ i. wrong (record-at l i)) (count l))
-        (λ three. scan-step k l position 4 (from-fifth L k l) rest Nothing (first-where (disordered k l) (count l))
-        (λ four. five-on k l (record { none-misplaced = two; none-wrong = three }) L position)))
+        ∙ ap (λ (x : Found). unless x rest) (lowest-of-three (test k l) 0 position (count l))
+        ∙ scan-step yes-so position 2 thirds rest (found-first 3 0 position (first-where (λ i. wrong (record-at l i)) (count l)) (found-first 4 0 position (first-where (disordered k l) (count l)) Nothing))
+        (first-where (misplaced k l) (count l))
+        (λ two. scan-step yes-so position 3 (from-fourth L k l) rest (found-first 4 0 position (first-where (disordered k l) (count l)) Nothing) (first-where (λ i. wrong (record-at l i)) (count l))
+        (λ three. scan-step yes-so position 4 (from-fifth L k l) rest Nothing (first-where (disordered k l) (count l))
+        (λ four. five-on k l position L (record { none-misplaced = two; none-wrong = three }))))
 
-    one-on : from-one L k l position ≡ checked-by k l position (pick 1 (whole (not (eqb (length l % 6) 0)) ∷ first-where (misplaced k l) (count l) ∷ thirds))
-    one-on = from-one-is L k l position ∙ whole-step k l position 1 (first-where (misplaced k l) (count l) ∷ thirds) _ (not (eqb (length l % 6) 0)) (λ e. two-on)
+    one-on : from-one L k l position ≡ by k l position (pick 1 (whole (not (eqb (length l % 6) 0)) ∷ first-where (misplaced k l) (count l) ∷ thirds))
+    one-on =
+        from-one-is L k l position
+        ∙ whole-step yes-so position 1 (first-where (misplaced k l) (count l) ∷ thirds) (from-two L k l 0 position) (not (eqb (length l % 6) 0)) (λ e. two-on)

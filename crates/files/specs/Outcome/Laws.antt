@@ -4,15 +4,16 @@ use mathlib.Core.Logic.{_⊎_, inl, inr, _↔_}
 use mathlib.Core.Bool.{Bool, true, false}
 use mathlib.Core.List.{List, [], _∷_, _++_}
 use mathlib.Core.Option.{Option, none, some}
-use Prim.Native.Nat.{ℕ, zero, suc, _≤_, _<_}
+use Prim.Native.Nat.{ℕ, zero, suc, _+_, _≤_, _<_}
+use native.Mathlib.Nat.{eq-or-lt-of-le}
 use native.Mathlib.Decide.{decLt}
 use native.Mathlib.Omega.{arith}
 use lib.ListN.{length, drop}
 use Rattle.files.specs.Basics.First.{pick, Finds, whole-finds, Found}
 use Rattle.files.specs.Basics.Says.{Says, says-lt, says-not, says-and, says-or, says-le}
-use Rattle.files.specs.Outcome.{Said, Outcome, refuses, says, written-of, out-after, Check, check, numbered, file-checks, whole-check, or-next, first-refusal, unless, answered, Lines, no-lines, line, file-lines, whole-line, FirstOf, NoneOf, Matches, refusal-at, out-check, out-line, Graph, no-start, TooLarge, too-large, size, NoStart}
+use Rattle.files.specs.Outcome.{Said, Outcome, refuses, says, written-of, out-after, Check, check, numbered, file-checks, whole-check, or-next, first-refusal, unless, answered, Lines, no-lines, line, file-lines, numbered-lines, whole-line, FirstOf, NoneOf, Matches, refusal-at, out-check, out-line, Graph, no-start, TooLarge, too-large, size, NoStart}
 use Rattle.files.specs.Refusal.{Kind, findings, refusal}
-use Rattle.files.specs.Refusal.Laws.{accepted-iff, found, eight, refusal-is}
+use Rattle.files.specs.Refusal.Laws.{accepted-iff, found, numbers, eight, refusal-is}
 use Rattle.files.specs.Table.{Applies}
 use Rattle.files.specs.declared.record.Limits.{Limits}
 use Rattle.files.specs.declared.refusal.Refusal.{Refusal}
@@ -57,22 +58,17 @@ whole-none-i n P ls f a = (λ j x. f (x .1), a)
 
 -- ---- checks and lines that match
 
-pub files-match : (L : Limits) (f : ℕ) (k : Kind) (l : List ℕ) (cs : List Check) (ls : Lines) → Matches cs ls → Matches (file-checks L f k l cs) (file-lines L f k l ls)
+-- the numbers from n on of any table, whose findings are such
+pub numbered-match : (A : ℕ → ℕ → Type 0) (f n : ℕ) (ms : List (Option ℕ)) (cs : List Check) (ls : Lines) → Found A n ms → Matches cs ls
+    → Matches (numbered n f ms cs) (numbered-lines A f n (length ms) ls)
 unfolding Matches
-files-match L f k l cs ls m = go (findings L k l) (eight L k l) (found L k l)
-  where
-    go : (ms : List (Option ℕ)) → length ms ≡ 8 → Found (Applies L k l) 1 ms → Matches (numbered 1 f ms cs) (file-lines L f k l ls)
-    go [] e a = absurd (omega arith)
-    go (m1 ∷ []) e a = absurd (omega arith)
-    go (m1 ∷ m2 ∷ []) e a = absurd (omega arith)
-    go (m1 ∷ m2 ∷ m3 ∷ []) e a = absurd (omega arith)
-    go (m1 ∷ m2 ∷ m3 ∷ m4 ∷ []) e a = absurd (omega arith)
-    go (m1 ∷ m2 ∷ m3 ∷ m4 ∷ m5 ∷ []) e a = absurd (omega arith)
-    go (m1 ∷ m2 ∷ m3 ∷ m4 ∷ m5 ∷ m6 ∷ []) e a = absurd (omega arith)
-    go (m1 ∷ m2 ∷ m3 ∷ m4 ∷ m5 ∷ m6 ∷ m7 ∷ []) e a = absurd (omega arith)
-    go (m1 ∷ m2 ∷ m3 ∷ m4 ∷ m5 ∷ m6 ∷ m7 ∷ m8 ∷ (x ∷ xs)) e a = absurd (omega arith)
-    go (m1 ∷ m2 ∷ m3 ∷ m4 ∷ m5 ∷ m6 ∷ m7 ∷ m8 ∷ []) e (a1, (a2, (a3, (a4, (a5, (a6, (a7, (a8, t)))))))) =
-        (refl, (refl, (a1, (refl, (refl, (a2, (refl, (refl, (a3, (refl, (refl, (a4, (refl, (refl, (a5, (refl, (refl, (a6, (refl, (refl, (a7, (refl, (refl, (a8, m))))))))))))))))))))))))
+numbered-match A f n [] cs ls a m = m
+numbered-match A f n (o ∷ ms) cs ls a m = (refl, (refl, (a .0, numbered-match A f (suc n) ms cs ls (a .1) m)))
+
+pub files-match : (L : Limits) (f : ℕ) (k : Kind) (l : List ℕ) (cs : List Check) (ls : Lines) → Matches cs ls → Matches (file-checks L f k l cs) (file-lines L f k l ls)
+files-match L f k l cs ls m =
+    subst (λ (n : ℕ). Matches (file-checks L f k l cs) (numbered-lines (Applies L k l) f 1 n ls)) (eight L k l)
+    (numbered-match (Applies L k l) f 1 (findings L k l) cs ls (found L k l) m)
 
 pub match-end : Matches [] no-lines
 unfolding Matches
@@ -185,22 +181,26 @@ module _ (cs : List Check) (ls : Lines) (match : Matches cs ls) (s : Said) where
 
 -- ---- files
 
+-- where the lines of k numbers from n on do not apply, none of these numbers does
+pub numbered-none-e : (A : ℕ → ℕ → Type 0) (f n k : ℕ) (ls : Lines) → NoneOf (numbered-lines A f n k ls) → ((m i : ℕ) → n ≤ m → m < n + k → A m i → ⊥) × NoneOf ls
+unfolding NoneOf
+numbered-none-e A f n zero ls a = (λ m i h l x. absurd (omega arith), a)
+numbered-none-e A f n (suc k) ls a = let r = numbered-none-e A f (suc n) k ls (a .1) in (λ m i h l x. go r m i (eq-or-lt-of-le h) l x, r .1)
+  where
+    go : ((m i : ℕ) → suc n ≤ m → m < suc n + k → A m i → ⊥) × NoneOf ls → (m i : ℕ) → (n ≡ m) ⊎ (n < m) → m < n + suc k → A m i → ⊥
+    go r m i (inl e) l x = a .0 i (subst (λ (q : ℕ). A q i) (sym e) x)
+    go r m i (inr h) l x = r .0 m i h (omega arith) x
+
+pub numbered-none-i : (A : ℕ → ℕ → Type 0) (f n k : ℕ) (ls : Lines) → ((m i : ℕ) → A m i → ⊥) → NoneOf ls → NoneOf (numbered-lines A f n k ls)
+unfolding NoneOf
+numbered-none-i A f n zero ls a rest = rest
+numbered-none-i A f n (suc k) ls a rest = (a n, numbered-none-i A f (suc n) k ls a rest)
+
 -- where a file's lines do not apply the file is accepted
 pub file-accepted : (L : Limits) (f : ℕ) (k : Kind) (l : List ℕ) (ls : Lines) → NoneOf (file-lines L f k l ls) → (refusal L k l ≡ none) × NoneOf ls
-unfolding NoneOf
-file-accepted L f k l ls (a1, (a2, (a3, (a4, (a5, (a6, (a7, (a8, rest)))))))) = (accepted-iff L k l .1 nothing, rest)
-  where
-    nothing : (n i : ℕ) → Applies L k l n i → ⊥
-    nothing zero i x = x
-    nothing (suc zero) i x = a1 i x
-    nothing (suc (suc zero)) i x = a2 i x
-    nothing (suc (suc (suc zero))) i x = a3 i x
-    nothing (suc (suc (suc (suc zero)))) i x = a4 i x
-    nothing (suc (suc (suc (suc (suc zero))))) i x = a5 i x
-    nothing (suc (suc (suc (suc (suc (suc zero)))))) i x = a6 i x
-    nothing (suc (suc (suc (suc (suc (suc (suc zero))))))) i x = a7 i x
-    nothing (suc (suc (suc (suc (suc (suc (suc (suc zero)))))))) i x = a8 i x
-    nothing (suc (suc (suc (suc (suc (suc (suc (suc (suc n))))))))) i x = x
+file-accepted L f k l ls a =
+    let r = numbered-none-e (Applies L k l) f 1 8 ls a in
+    (accepted-iff L k l .1 (λ n i x. let b = numbers L k l n i x in r .0 n i (b .0) (omega (arith, b .1)) x), r .1)
 
 -- a number that comes first and is not that of a line stands in what follows, and the line does not apply
 pub past-line : {A B : Type 0} → (A → ⊥) → A ⊎ B → B
@@ -223,18 +223,22 @@ past-file L h k l ls n f i m x =
 
 -- and where it is accepted its lines do not apply
 pub file-none : (L : Limits) (f : ℕ) (k : Kind) (l : List ℕ) (ls : Lines) → refusal L k l ≡ none → NoneOf ls → NoneOf (file-lines L f k l ls)
-unfolding NoneOf
-file-none L f k l ls e rest = let a = accepted-iff L k l .0 e in (a 1, (a 2, (a 3, (a 4, (a 5, (a 6, (a 7, (a 8, rest))))))))
+file-none L f k l ls e rest = numbered-none-i (Applies L k l) f 1 8 ls (accepted-iff L k l .0 e) rest
 
 -- what a file's checks come to: its refusal, or what follows
 abbrev pub file-or : ℕ → Option (ℕ × ℕ) → Option Refusal → Option Refusal
 file-or f (some x) rest = some (refusal-at (x .0) f (x .1))
 file-or f none rest = rest
 
-numbered-pick : (n f : ℕ) (ms : List (Option ℕ)) (cs : List Check) → first-refusal (numbered n f ms cs) ≡ file-or f (pick n ms) (first-refusal cs)
+pub numbered-pick : (n f : ℕ) (ms : List (Option ℕ)) (cs : List Check) → first-refusal (numbered n f ms cs) ≡ file-or f (pick n ms) (first-refusal cs)
 numbered-pick n f [] cs = refl
 numbered-pick n f (some i ∷ ms) cs = refl
 numbered-pick n f (none ∷ ms) cs = numbered-pick (suc n) f ms cs
+
+-- so they are the outcome, or the checks that follow are
+pub numbered-answers : (n f : ℕ) (ms : List (Option ℕ)) (cs : List Check) (s : Said) (o : Option (ℕ × ℕ)) → pick n ms ≡ o
+    → answered (numbered n f ms cs) s ≡ unless (file-or f o (first-refusal cs)) s
+numbered-answers n f ms cs s o e = ap (λ (x : Option Refusal). unless x s) (numbered-pick n f ms cs ∙ ap (λ (y : Option (ℕ × ℕ)). file-or f y (first-refusal cs)) e)
 
 pub file-first : (L : Limits) (f : ℕ) (k : Kind) (l : List ℕ) (cs : List Check) → first-refusal (file-checks L f k l cs) ≡ file-or f (refusal L k l) (first-refusal cs)
 file-first L f k l cs = numbered-pick 1 f (findings L k l) cs ∙ ap (λ (o : Option (ℕ × ℕ)). file-or f o (first-refusal cs)) (sym (refusal-is L k l))

@@ -29,8 +29,9 @@ use Rattle.maximal.specs.Model.{model}
 use Rattle.maximal.specs.Model.Filed.{model-is-flow, model-is-of}
 use Rattle.maximal.specs.Modelling.Laws.{model-simulates-iff}
 use Rattle.runs.specs.Composing.{Conforms, Side, known, unwritten, gives, Admits, compose-store, compose-work, other-side, compose-graph, compose-sides, compose-verdict, compose-checks, compose-lines, composed, compose-first, compose-said, compose-last}
-use Rattle.runs.specs.Join.{join}
-use Rattle.runs.specs.Join.Laws.{join-flow, join-labels, join-simulates}
+use Rattle.files.specs.Join.{join}
+use Rattle.files.specs.Join.Laws.{join-flow, join-labels}
+use Rattle.runs.specs.Join.{join-simulates}
 use Rattle.runs.specs.Runs.{Clean}
 use Rattle.runs.specs.Runs.Laws.{simulates-bad}
 use Rattle.runs.specs.Watching.{Watches}

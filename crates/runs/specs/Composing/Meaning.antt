@@ -18,8 +18,8 @@ use Rattle.maximal.specs.Modelling.Laws.{model-simulates-iff}
 use Rattle.runs.specs.Answer.{watched-answer, verdict-enum}
 use Rattle.runs.specs.Composing.{Conforms, compose-verdict, compose-checks, compose-lines, composed}
 use Rattle.runs.specs.Composing.Laws.{compose-refused, compose-accepted, compose-own, compose-says, clean-for-all, model-conforms}
-use Rattle.runs.specs.Join.{join}
-use Rattle.runs.specs.Join.Laws.{join-simulates}
+use Rattle.files.specs.Join.{join}
+use Rattle.runs.specs.Join.{join-simulates}
 use Rattle.runs.specs.Runs.{Bad as BadRun, Clean as CleanRuns}
 use Rattle.runs.specs.Runs.Laws.{simulates-bad}
 use Rattle.runs.specs.Watching.{Watches}

@@ -22,8 +22,8 @@ use Rattle.judging.specs.Refinement.Files.{first-size, second-size, first-edges
 use Rattle.judging.specs.Refinement.Files.{from-in, to-in}
 use Rattle.judging.specs.Sheets.Walk.{put-next}
 use Rattle.judging.specs.declared.sizes.Sizes.{Sizes}
-use Rattle.runs.specs.Join.{join, moved}
-use Rattle.runs.specs.Join.Laws.{join-is}
+use Rattle.files.specs.Join.{join, moved}
+use Rattle.files.specs.Join.Laws.{join-is}
 use Rattle.runs.specs.Joining.{moved-bytes}
 
 -- ---- one edge

@@ -18,7 +18,7 @@ use Rattle.files.specs.Sides.{ForeignAt, Shares}
 use Rattle.files.specs.Sides.Laws.{foreign-finds, says-shares, none-foreign}
 use Rattle.files.specs.Sides.OfInterface.{of-foreign}
 use Rattle.files.specs.declared.record.Limits.{Limits}
-use Rattle.runs.specs.Join.Laws.{join-filed, join-of}
+use Rattle.files.specs.Join.Laws.{join-filed, join-of}
 use Rattle.runs.specs.Joining.{join-graph, join-sides, join-said, join-checks, join-lines, joined, Joins, joined-answer}
 use Rattle.files.specs.Outcome.{published}
 use mathlib.Core.Bool.{true}

@@ -15,7 +15,7 @@ use Rattle.files.specs.Outcome.{Said, Outcome, Answer, Answers, answer, refusal
 use Rattle.files.specs.Outcome.Meaning.{Decided, Refuses, Wrote, Enum, Heard, itself, heard-itself, only-verdict, outcome-case, said-iff, refuses-by, wrote-by}
 use Rattle.files.specs.Refusal.{graph, refusal}
 use Rattle.files.specs.declared.record.Limits.{Limits}
-use Rattle.runs.specs.Join.{join}
+use Rattle.files.specs.Join.{join}
 use Rattle.runs.specs.Joining.{joined-answer, join-graph, join-sides, join-said, join-checks, join-lines, joined}
 use Rattle.runs.specs.Joining.Laws.{join-refused, join-own, join-own-second, join-accepted, join-says}
 use Rattle.runs.specs.declared.answers.Joined.{Joined}

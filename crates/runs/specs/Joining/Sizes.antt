@@ -15,8 +15,8 @@ use Rattle.files.specs.declared.record.Limits.{Limits}
 use Rattle.judging.specs.Refinement.{Both}
 use Rattle.judging.specs.Refinement.Files.{first-size, second-size, first-edges, second-edges}
 use Rattle.judging.specs.declared.sizes.Sizes.{Sizes}
-use Rattle.runs.specs.Join.{join}
-use Rattle.runs.specs.Join.Laws.{join-size, join-edges}
+use Rattle.files.specs.Join.{join}
+use Rattle.files.specs.Join.Laws.{join-size, join-edges}
 
 -- the counts of both together are past a limit
 abbrev pub passes-limits : Limits → Sizes → Bool

@@ -26,7 +26,7 @@ use Rattle.files.specs.declared.settle.Settled.the-variants.{Passed}
 use Rattle.judging.specs.Judge.{GraphWithin}
 use Rattle.judging.specs.Refinement.{Both}
 use Rattle.judging.specs.declared.sizes.Sizes.{Sizes}
-use Rattle.runs.specs.Join.{join}
+use Rattle.files.specs.Join.{join}
 use Rattle.runs.specs.Joining.{joined, join-said, join-first, from-size}
 use Rattle.runs.specs.Joining.Sizes.{passes-limits, limits-are, small, nodes-joined, edges-joined, bytes-joined}
 

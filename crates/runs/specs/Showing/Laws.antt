@@ -17,8 +17,8 @@ use Rattle.files.specs.Outcome.Laws.{whole-match, files-match, refused-by, acce
 use Rattle.files.specs.Record.{part, six}
 use Rattle.files.specs.Refusal.{graph, refusal}
 use Rattle.files.specs.declared.record.Limits.{Limits}
-use Rattle.runs.specs.Join.{join}
-use Rattle.runs.specs.Join.Laws.{join-first, join-second, join-size}
+use Rattle.files.specs.Join.{join}
+use Rattle.files.specs.Join.Laws.{join-first, join-second, join-size}
 use Rattle.runs.specs.Showing.{part-said, show-size, show-said, show-checks, show-lines, shown, Shows, shown-answer}
 use Rattle.files.specs.Basics.Tests.{below}
 use Rattle.files.specs.Outcome.{published}

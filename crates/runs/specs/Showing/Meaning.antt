@@ -13,7 +13,7 @@ use Rattle.files.specs.Outcome.Meaning.{Decided, Refuses, Enum, itself, heard-i
 use Rattle.files.specs.Record.{six}
 use Rattle.files.specs.declared.record.Limits.{Limits}
 use Rattle.files.specs.declared.refusal.Refusal.{Refusal}
-use Rattle.runs.specs.Join.{join}
+use Rattle.files.specs.Join.{join}
 use Rattle.runs.specs.Showing.{shown-answer, show-said, show-checks, show-lines, shown}
 use Rattle.runs.specs.Showing.Laws.{show-refused, show-accepted, show-says}
 use Rattle.runs.specs.declared.answers.Shown.{Shown}

@@ -3,7 +3,7 @@ use Prim.Native.Nat.{_≤_, _-_}
 use native.Mathlib.Omega.{arith}
 use Rattle.files.specs.Record.{count}
 use Rattle.files.specs.FileKind.{kind-of}
-use Rattle.files.specs.Checking.{lowest}
+use Rattle.files.specs.Checking.{test, lowest}
 use Rattle.files.specs.Checking.Laws.{lowest-none}
 use Rattle.files.proofs.CheckLaws.{lowest-on}
 use borrow.Author.Needs.{needs}
@@ -11,13 +11,13 @@ use Rattle.files.proofs.scan.look_through.Statement.{statement}
 use Rattle.files.proofs.scan.look_through.Tie as tie
 
 abbrev Inv-loop : tie.InvT-loop
-Inv-loop kind records first position n found₀ i₀ found i = (i ≤ n) × (found ≡ lowest 3 2 (kind-of kind) records first position i)
+Inv-loop kind records first position n found₀ i₀ found i = (i ≤ n) × (found ≡ lowest 3 2 (test (kind-of kind) records) first position i)
 
 abbrev μ-loop : tie.MeasureT-loop
 μ-loop kind records first position n found₀ i₀ found i = n - i
 
 loop-holds : tie.Need-loop-holds Inv-loop μ-loop
-loop-holds c = let a = c .before .args in (omega arith, sym (lowest-none 3 2 (kind-of (a .kind)) (a .records .now) (a .first) (a .position)))
+loop-holds c = let a = c .before .args in (omega arith, sym (lowest-none 3 2 (test (kind-of (a .kind)) (a .records .now)) (a .first) (a .position)))
 
 look-requires : tie.Need-look-requires Inv-loop μ-loop
 look-requires c κs = (omega arith, omega (arith, c .before .before .before .pre))
@@ -37,7 +37,7 @@ loop-again c =
     let a = s .args in
     let loop = c .before .before .before .loop in (
       omega arith,
-      lowest-on 3 2 (kind-of (a .kind)) (a .records .now) (a .first) (a .position) (loop .i) (loop .found) (c .before .look .result) (c .lower .result) (loop .inv .1)
+      lowest-on 3 2 (test (kind-of (a .kind)) (a .records .now)) (a .first) (a .position) (loop .i) (loop .found) (c .before .look .result) (c .lower .result) (loop .inv .1)
           (c .before .look .ensures) (c .lower .ensures),
     )
 
@@ -45,7 +45,7 @@ returns : tie.Need-returns Inv-loop μ-loop
 returns c =
     let a = c .before .before .before .args in
     let e : c .before .loop .i ≡ count (a .records .now) = omega arith in
-    c .before .loop .inv .1 ∙ ap (lowest 3 2 (kind-of (a .kind)) (a .records .now) (a .first) (a .position)) e
+    c .before .loop .inv .1 ∙ ap (lowest 3 2 (test (kind-of (a .kind)) (a .records .now)) (a .first) (a .position)) e
 
 pub look-through-spec : {M : Type 1} → statement M
 look-through-spec =
