@@ -33,6 +33,8 @@ pub mod Decoded
 pub mod Behind
 pub mod Written
 pub mod Steps
+pub mod Looks
+pub mod Names
 pub mod Latest
 pub mod Examples
 
