@@ -45,6 +45,16 @@ pub record PartAt (l : List ℕ) (a : ℕ) (p : Part) : Type 0 where
 abbrev pub Held : List ℕ → ℕ → Part → Type 0
 Held l i p = (p .start ≡ own-start l i) × ((own-start l i ≡ 0 → ⊥) → PartAt l (own-start l i) p)
 
+-- record i lies in the part, which is a sound graph with its nodes counted and ends within the file
+pub record LiesIn (l : List ℕ) (i : ℕ) (p : Part) : Type 0 where
+  pub from-start : p .start ≤ i
+  pub to-end : i < p .end
+  pub end-in : p .end ≤ count l
+  pub is-part : take (6 * p .end - 6 * p .start) (drop (6 * p .start) l) ≡ opened l (p .start)
+  pub part-is-sound : Sound graph (opened l (p .start))
+  pub nodes-are : p .nodes ≡ nodes-of (opened l (p .start))
+  pub number-within : i - p .start < count (opened l (p .start))
+
 -- 5 of record o, if it opens a delivery
 abbrev pub opening-passed : Limits → List ℕ → ℕ → Bool
 opening-passed L l o = opens l o && passed L graph (opened l (suc o))
@@ -144,14 +154,27 @@ module _ (l : List ℕ) (sound : SoundParts l) (i : ℕ) (h : i < count l) (clos
   in-own : i < own-end l (own-start l i)
   in-own = subst (λ (a : ℕ). i < own-end l a) (sym start-own) (omega (arith, own .place-is, own .place-in, end-from l (suc (own .opening))))
 
-  pub own-end-in : own-end l (own-start l i) ≤ count l
+  own-end-in : own-end l (own-start l i) ≤ count l
   own-end-in = end-to l (own-start l i) (omega (arith, start-before))
 
-  pub own-sound : Sound graph (own-part l i)
+  own-sound : Sound graph (own-part l i)
   own-sound = subst (λ (a : ℕ). Sound graph (opened l a)) (sym start-own) (part-sound l sound (own .opening) (omega (arith, own .opening-before)) (own .is-open))
 
-  pub number-in : own-number l i < count (own-part l i)
+  number-in : own-number l i < count (own-part l i)
   number-in = omega (arith, opened-count l (own-start l i) (omega (arith, start-before)), in-own, start-before)
+
+  pub held-within : (p : Part) → Held l i p → LiesIn l i p
+  held-within p (e, f) =
+      let at = f begun in
+      record {
+        from-start = omega (arith, e, start-before);
+        to-end = omega (arith, at .end-at, in-own);
+        end-in = omega (arith, at .end-at, own-end-in);
+        is-part = part-bytes l (p .start) (p .end) (omega (arith, e, at .end-at, start-before, in-own)) (at .end-at ∙ ap (own-end l) (sym e));
+        part-is-sound = subst (λ (a : ℕ). Sound graph (opened l a)) (sym e) own-sound;
+        nodes-are = at .nodes-at ∙ ap (λ (a : ℕ). nodes-of (opened l a)) (sym e);
+        number-within = subst (λ (a : ℕ). i - a < count (opened l a)) (sym e) number-in;
+      }
 
   own-record : record-at (own-part l i) (own-number l i) ≡ record-at l i
   own-record =

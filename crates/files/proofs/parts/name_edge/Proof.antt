@@ -1,14 +1,11 @@
 use mathlib.Core.Path.{_≡_, sym, ap, subst, _∙_}
-use Prim.Native.Nat.{ℕ, _*_, _-_, _<_}
+use Prim.Native.Nat.{ℕ, _-_, _<_}
 use native.Mathlib.Omega.{arith}
 use mathlib.Core.List.{List}
-use lib.ListN.{take, drop}
 use Rattle.files.specs.Record.{count}
 use Rattle.files.specs.Refusal.{graph, nodes-of}
 use Rattle.files.specs.Checking.{Sound}
-use Rattle.files.specs.Deliveries.{own-start, own-end, own-number, opened}
-use Rattle.files.specs.Deliveries.Parts.{end-from}
-use Rattle.files.specs.Deliveries.Names.{begun, start-before, own-end-in, own-sound, number-in, part-bytes, edge-held}
+use Rattle.files.specs.Deliveries.Names.{held-within, edge-held}
 use borrow.Author.Needs.{needs}
 use Rattle.files.proofs.parts.name_edge.Statement.{statement}
 use Rattle.files.proofs.parts.name_edge.Tie as tie
@@ -17,83 +14,53 @@ mul-from : tie.Need-mul-from
 mul-from c =
     let s = c .before .before in
     let a = s .args in
-    let l = a .file .now in
-    let p = s .pre .1 .1 .0 .1 (begun l (s .pre .0) (a .i) (s .pre .1 .0) (s .pre .1 .1 .1 .1)) in
-    let before = start-before l (s .pre .0) (a .i) (s .pre .1 .0) (s .pre .1 .1 .1 .1) in
-    let ends = own-end-in l (s .pre .0) (a .i) (s .pre .1 .0) (s .pre .1 .1 .1 .1) in
-    let at = number-in l (s .pre .0) (a .i) (s .pre .1 .0) (s .pre .1 .1 .1 .1) in
-    omega (arith, s .pre .1 .0, s .pre .1 .1 .0 .0, p .end-at, before, ends, end-from l (own-start l (a .i)))
+    let w = held-within (a .file .now) (s .pre .0) (a .i) (s .pre .1 .0) (s .pre .1 .1 .1 .1) (a .part) (s .pre .1 .1 .0) in
+    omega (arith, s .pre .1 .0, w .from-start, w .to-end, w .end-in)
 
 mul-to : tie.Need-mul-to
 mul-to c =
     let s = c .before .before .before in
     let a = s .args in
-    let l = a .file .now in
-    let p = s .pre .1 .1 .0 .1 (begun l (s .pre .0) (a .i) (s .pre .1 .0) (s .pre .1 .1 .1 .1)) in
-    let before = start-before l (s .pre .0) (a .i) (s .pre .1 .0) (s .pre .1 .1 .1 .1) in
-    let ends = own-end-in l (s .pre .0) (a .i) (s .pre .1 .0) (s .pre .1 .1 .1 .1) in
-    let at = number-in l (s .pre .0) (a .i) (s .pre .1 .0) (s .pre .1 .1 .1 .1) in
-    omega (arith, s .pre .1 .0, s .pre .1 .1 .0 .0, p .end-at, before, ends, end-from l (own-start l (a .i)))
+    let w = held-within (a .file .now) (s .pre .0) (a .i) (s .pre .1 .0) (s .pre .1 .1 .1 .1) (a .part) (s .pre .1 .1 .0) in
+    omega (arith, s .pre .1 .0, w .from-start, w .to-end, w .end-in)
 
 sub-name-nodes : tie.Need-sub-name-nodes
 sub-name-nodes c =
     let s = c .before .before .before in
     let a = s .args in
-    let l = a .file .now in
-    let p = s .pre .1 .1 .0 .1 (begun l (s .pre .0) (a .i) (s .pre .1 .0) (s .pre .1 .1 .1 .1)) in
-    let before = start-before l (s .pre .0) (a .i) (s .pre .1 .0) (s .pre .1 .1 .1 .1) in
-    let ends = own-end-in l (s .pre .0) (a .i) (s .pre .1 .0) (s .pre .1 .1 .1 .1) in
-    let at = number-in l (s .pre .0) (a .i) (s .pre .1 .0) (s .pre .1 .1 .1 .1) in
-    omega (arith, s .pre .1 .0, s .pre .1 .1 .0 .0, p .end-at, before, ends, end-from l (own-start l (a .i)))
+    let w = held-within (a .file .now) (s .pre .0) (a .i) (s .pre .1 .0) (s .pre .1 .1 .1 .1) (a .part) (s .pre .1 .1 .0) in
+    omega (arith, s .pre .1 .0, w .from-start, w .to-end, w .end-in)
 
 part-name-nodes-start : tie.Need-part-name-nodes-start
 part-name-nodes-start c =
     let s = c .before .before .before in
     let a = s .args in
-    let l = a .file .now in
-    let p = s .pre .1 .1 .0 .1 (begun l (s .pre .0) (a .i) (s .pre .1 .0) (s .pre .1 .1 .1 .1)) in
-    let before = start-before l (s .pre .0) (a .i) (s .pre .1 .0) (s .pre .1 .1 .1 .1) in
-    let ends = own-end-in l (s .pre .0) (a .i) (s .pre .1 .0) (s .pre .1 .1 .1 .1) in
-    let at = number-in l (s .pre .0) (a .i) (s .pre .1 .0) (s .pre .1 .1 .1 .1) in
-    omega (arith, s .pre .1 .0, s .pre .1 .1 .0 .0, p .end-at, before, ends, end-from l (own-start l (a .i)))
+    let w = held-within (a .file .now) (s .pre .0) (a .i) (s .pre .1 .0) (s .pre .1 .1 .1 .1) (a .part) (s .pre .1 .1 .0) in
+    omega (arith, s .pre .1 .0, w .from-start, w .to-end, w .end-in)
 
 part-name-nodes-end : tie.Need-part-name-nodes-end
 part-name-nodes-end c =
     let s = c .before .before .before in
     let a = s .args in
-    let l = a .file .now in
-    let p = s .pre .1 .1 .0 .1 (begun l (s .pre .0) (a .i) (s .pre .1 .0) (s .pre .1 .1 .1 .1)) in
-    let before = start-before l (s .pre .0) (a .i) (s .pre .1 .0) (s .pre .1 .1 .1 .1) in
-    let ends = own-end-in l (s .pre .0) (a .i) (s .pre .1 .0) (s .pre .1 .1 .1 .1) in
-    let at = number-in l (s .pre .0) (a .i) (s .pre .1 .0) (s .pre .1 .1 .1 .1) in
-    omega (arith, s .pre .1 .0, s .pre .1 .1 .0 .0, p .end-at, before, ends, end-from l (own-start l (a .i)))
+    let w = held-within (a .file .now) (s .pre .0) (a .i) (s .pre .1 .0) (s .pre .1 .1 .1 .1) (a .part) (s .pre .1 .1 .0) in
+    omega (arith, s .pre .1 .0, w .from-start, w .to-end, w .end-in)
 
 sub-name-nodes-2 : tie.Need-sub-name-nodes-2
 sub-name-nodes-2 c =
     let s = c .before .before .before .before .before in
     let a = s .args in
-    let l = a .file .now in
-    let p = s .pre .1 .1 .0 .1 (begun l (s .pre .0) (a .i) (s .pre .1 .0) (s .pre .1 .1 .1 .1)) in
-    let before = start-before l (s .pre .0) (a .i) (s .pre .1 .0) (s .pre .1 .1 .1 .1) in
-    let ends = own-end-in l (s .pre .0) (a .i) (s .pre .1 .0) (s .pre .1 .1 .1 .1) in
-    let at = number-in l (s .pre .0) (a .i) (s .pre .1 .0) (s .pre .1 .1 .1 .1) in
-    omega (arith, s .pre .1 .0, s .pre .1 .1 .0 .0, p .end-at, before, ends, end-from l (own-start l (a .i)))
+    let w = held-within (a .file .now) (s .pre .0) (a .i) (s .pre .1 .0) (s .pre .1 .1 .1 .1) (a .part) (s .pre .1 .1 .0) in
+    omega (arith, s .pre .1 .0, w .from-start, w .to-end, w .end-in)
 
 name-nodes-requires : tie.Need-name-nodes-requires
 name-nodes-requires c κs =
     let s = c .before .before .before .before .before in
     let a = s .args in
-    let l = a .file .now in
-    let p = s .pre .1 .1 .0 .1 (begun l (s .pre .0) (a .i) (s .pre .1 .0) (s .pre .1 .1 .1 .1)) in
-    let before = start-before l (s .pre .0) (a .i) (s .pre .1 .0) (s .pre .1 .1 .1 .1) in
-    let ends = own-end-in l (s .pre .0) (a .i) (s .pre .1 .0) (s .pre .1 .1 .1 .1) in
-    let at = number-in l (s .pre .0) (a .i) (s .pre .1 .0) (s .pre .1 .1 .1 .1) in
-    let q = part-bytes l (a .part .start) (a .part .end) (omega (arith, s .pre .1 .1 .0 .0, p .end-at, end-from l (own-start l (a .i)))) (p .end-at ∙ ap (own-end l) (sym (s .pre .1 .1 .0 .0))) in
-    let r = q ∙ ap (opened l) (s .pre .1 .1 .0 .0) in (
-      subst (Sound graph) (sym r) (own-sound l (s .pre .0) (a .i) (s .pre .1 .0) (s .pre .1 .1 .1 .1)),
+    let w = held-within (a .file .now) (s .pre .0) (a .i) (s .pre .1 .0) (s .pre .1 .1 .1 .1) (a .part) (s .pre .1 .1 .0) in (
+      subst (Sound graph) (sym (w .is-part)) (w .part-is-sound),
       (
-        p .nodes-at ∙ ap nodes-of (sym r),
-        (subst (λ (m : List ℕ). a .i - a .part .start < count m) (sym r) (subst (λ (n : ℕ). a .i - n < count (opened l (own-start l (a .i)))) (sym (s .pre .1 .1 .0 .0)) at), omega (arith, s .pre .1 .1 .0 .0, before)),
+        w .nodes-are ∙ ap nodes-of (sym (w .is-part)),
+        (subst (λ (m : List ℕ). a .i - a .part .start < count m) (sym (w .is-part)) (w .number-within), omega (arith, w .from-start)),
       ),
     )
 
@@ -101,13 +68,8 @@ returns : tie.Need-returns
 returns c =
     let s = c .before .before .before .before .before .before in
     let a = s .args in
-    let l = a .file .now in
-    let p = s .pre .1 .1 .0 .1 (begun l (s .pre .0) (a .i) (s .pre .1 .0) (s .pre .1 .1 .1 .1)) in
-    let before = start-before l (s .pre .0) (a .i) (s .pre .1 .0) (s .pre .1 .1 .1 .1) in
-    let ends = own-end-in l (s .pre .0) (a .i) (s .pre .1 .0) (s .pre .1 .1 .1 .1) in
-    let at = number-in l (s .pre .0) (a .i) (s .pre .1 .0) (s .pre .1 .1 .1 .1) in
-    let q = part-bytes l (a .part .start) (a .part .end) (omega (arith, s .pre .1 .1 .0 .0, p .end-at, end-from l (own-start l (a .i)))) (p .end-at ∙ ap (own-end l) (sym (s .pre .1 .1 .0 .0))) in
-    c .name-nodes .ensures ∙ edge-held l (s .pre .0) (a .i) (s .pre .1 .0) (s .pre .1 .1 .1 .1) (s .pre .1 .1 .1 .0) (a .position) (a .part) (s .pre .1 .1 .0) _ q
+    let w = held-within (a .file .now) (s .pre .0) (a .i) (s .pre .1 .0) (s .pre .1 .1 .1 .1) (a .part) (s .pre .1 .1 .0) in
+    c .name-nodes .ensures ∙ edge-held (a .file .now) (s .pre .0) (a .i) (s .pre .1 .0) (s .pre .1 .1 .1 .1) (s .pre .1 .1 .1 .0) (a .position) (a .part) (s .pre .1 .1 .0) _ (w .is-part)
 
 pub name-edge-spec : {M : Type 1} → statement M
 name-edge-spec =
