@@ -5,7 +5,7 @@ ghost use Prim.Native.Nat.{_+_, _≤_, _<_};
 ghost use Rattle.files.specs.Record.{count, kind-at};
 ghost use Rattle.files.specs.Refusal.{graph, passed};
 ghost use Rattle.files.specs.Checking.{found-at, lowest};
-ghost use Rattle.files.specs.Deliveries.{own-start, own-end, opened, delivery-passed};
+ghost use Rattle.files.specs.Deliveries.{own-end, opened, delivery-passed};
 ghost use Rattle.files.specs.Deliveries.Names.{PartAt, Held, SoundParts, opening-passed};
 ghost use Rattle.files.specs.Deliveries.Steps.{delivery-test};
 use crate::check::over;

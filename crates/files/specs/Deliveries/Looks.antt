@@ -7,16 +7,16 @@ use Prim.Native.Nat.{ℕ, zero, suc, _+_, _-_, _≤_, _<_}
 use native.Mathlib.Nat.{zero-add}
 use native.Mathlib.Omega.{arith}
 use lib.Dec.{eqb}
-use borrow.Author.Tests.{eq-eqb, ne-eqb}
+use borrow.Author.Tests.{ne-eqb}
 use Rattle.files.specs.Basics.Lexical.{before}
 use Rattle.files.specs.Checking.{test, found-at}
 use Rattle.files.specs.Checking.Laws.{looked-is}
 use Rattle.files.specs.Deliveries.{opens, own-start, own-end, opened, own-part, own-number, Unopened, delivery-misplaced, opening-wrong, delivery-wrong, delivery-disordered}
-use Rattle.files.specs.Deliveries.Parts.{opened-record, owned, Owned, start-is, end-to}
+use Rattle.files.specs.Deliveries.Parts.{opened-record, owned, Owned, start-is}
 use Rattle.files.specs.Deliveries.Steps.{delivery-test, delivery-looked-is}
 use Rattle.files.specs.Outcome.{refusal-at}
 use Rattle.files.specs.Record.{record-at, count, kind-at, wrong}
-use Rattle.files.specs.Refusal.{graph, of-kind, edge-before, misplaced, disordered, edge-key}
+use Rattle.files.specs.Refusal.{graph, misplaced, disordered, edge-key}
 use Rattle.files.specs.declared.deliveries.Opening.{Opening}
 use Rattle.files.specs.declared.deliveries.Opening.the-variants.{Of, Wrong}
 use Rattle.files.specs.declared.offence.Found.{Found}

@@ -4,26 +4,26 @@ use mathlib.Core.Logic.{_⊎_, inl, inr}
 use mathlib.Core.Bool.{Bool, true, false, not, cond, or-false, _&&_, _||_}
 use mathlib.Core.List.{List}
 use mathlib.Core.Option.{Option, none, some}
-use Prim.Native.Nat.{ℕ, zero, suc, _+_, _-_, _*_, _≤_, _<_}
+use Prim.Native.Nat.{ℕ, suc, _+_, _-_, _*_, _≤_, _<_}
 use native.Mathlib.Nat.{zero-add}
 use native.Mathlib.Decide.{ℕ-discrete}
 use native.Mathlib.Numerals.{add-one}
 use native.Mathlib.Omega.{arith}
 use lib.Dec.{T, not-T, leb, ltb, eqb}
-use lib.ListN.{length, take, drop}
+use lib.ListN.{take, drop}
 use borrow.Author.Tests.{eq-eqb, ne-eqb}
 use Rattle.files.specs.Basics.First.{first-where, first-finds, first-never, finds-unique}
-use Rattle.files.specs.Basics.Least.{least, least-is}
+use Rattle.files.specs.Basics.Least.{least-is}
 use Rattle.files.specs.Basics.Tests.{and-i, or-l, or-r, any, upto}
-use Rattle.files.specs.Checking.{test, found-at, lowest, Sound, counted, over, over-with}
+use Rattle.files.specs.Checking.{test, found-at, lowest, Sound, over-with}
 use Rattle.files.specs.Checking.Laws.{found-first, counted-is, named-is}
 use Rattle.files.specs.Checking.Reads.{five-agrees}
-use Rattle.files.specs.Deliveries.{opens, own-start, own-end, opened, own-part, own-number, own-method, Unopened, delivery-misplaced, opening-wrong, delivery-wrong, delivery-disordered, delivery-past, foreign-node, delivery-crossing, delivery-passed}
+use Rattle.files.specs.Deliveries.{opens, own-start, own-end, opened, own-part, own-number, own-method, Unopened, delivery-misplaced, delivery-wrong, delivery-disordered, delivery-past, foreign-node, delivery-crossing}
 use Rattle.files.specs.Deliveries.Parts.{open-e, open-i, part-is, number-is, closed-is, end-to, end-from, opened-count, opened-record, owned, Owned, start-is, start-opens, start-stays}
 use Rattle.files.specs.Deliveries.Steps.{delivery-test, delivery-named-is, delivery-lowest-is}
 use Rattle.files.specs.Outcome.{refusal-at}
 use Rattle.files.specs.Record.{record-at, count, kind-at, wrong}
-use Rattle.files.specs.Refusal.{graph, of-kind, nodes-of, method-at, misplaced, passed, past, crossing}
+use Rattle.files.specs.Refusal.{graph, nodes-of, method-at, misplaced, passed, past, crossing}
 use Rattle.files.specs.declared.offence.Found.{Found}
 use Rattle.files.specs.declared.offence.Found.the-variants.{Nothing, At}
 use Rattle.files.specs.declared.parts.Part.{Part}
@@ -195,14 +195,14 @@ module _ (l : List ℕ) (sound : SoundParts l) (i : ℕ) (h : i < count l) (clos
     node-past : delivery-past l i ≡ false
     node-past =
         let beyond : Bool = leb (nodes-of (own-part l i)) ((record-at (own-part l i) (own-number l i)) .first)
-            || leb (nodes-of (own-part l i)) ((record-at (own-part l i) (own-number l i)) .third) in
+        || leb (nodes-of (own-part l i)) ((record-at (own-part l i) (own-number l i)) .third) in
         ap (λ (c : Bool). not (opens l i) && (c && beyond)) no-edge-here ∙ no-and (not (opens l i))
 
     node-crossing : delivery-crossing l i ≡ not (eqb a b)
     node-crossing =
         let edge : Record = record-at (own-part l i) (own-number l i) in
         let between : Bool = ltb (edge .first) (nodes-of (own-part l i)) && (ltb (edge .third) (nodes-of (own-part l i))
-            && not (eqb (method-at (own-part l i) (edge .third)) (method-at (own-part l i) (edge .first)))) in
+        && not (eqb (method-at (own-part l i) (edge .third)) (method-at (own-part l i) (edge .first)))) in
         ap₂ (λ (c d : Bool). not c && ((d && between) || foreign-node l i)) shut no-edge-here
         ∙ ap (λ (c : Bool). c && not (eqb ((record-at l i) .first) (own-method l i))) (eq-eqb (kind-at l i) 1 one)
         ∙ ap₂ (λ (x y : ℕ). not (eqb x y)) (sym a-is) (sym b-is)

@@ -1,7 +1,6 @@
 use mathlib.Core.Path.{_≡_, refl, sym, ap, _∙_}
 use Prim.Native.Nat.{_≤_, _-_}
 use native.Mathlib.Omega.{arith}
-use native.Mathlib.Numerals.{add-one}
 use Rattle.files.specs.Record.{count}
 use Rattle.files.specs.Checking.{lowest}
 use Rattle.files.specs.Checking.Laws.{lowest-none}

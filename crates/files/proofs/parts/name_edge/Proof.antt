@@ -1,4 +1,4 @@
-use mathlib.Core.Path.{_≡_, sym, ap, subst, _∙_}
+use mathlib.Core.Path.{sym, ap, subst, _∙_}
 use Prim.Native.Nat.{ℕ, _-_, _<_}
 use native.Mathlib.Omega.{arith}
 use mathlib.Core.List.{List}
@@ -6,7 +6,6 @@ use Rattle.files.specs.Record.{count}
 use Rattle.files.specs.Refusal.{graph, nodes-of}
 use Rattle.files.specs.Checking.{Sound}
 use Rattle.files.specs.Deliveries.Names.{held-within, edge-held}
-use borrow.Author.Needs.{needs}
 use Rattle.files.proofs.parts.name_edge.Statement.{statement}
 use Rattle.files.proofs.parts.name_edge.Tie as tie
 

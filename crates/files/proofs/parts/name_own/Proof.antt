@@ -1,7 +1,7 @@
 use mathlib.Core.Path.{_≡_, ap, _∙_}
 use Prim.Native.Nat.{ℕ, _-_, _≤_}
 use native.Mathlib.Omega.{arith}
-use Rattle.files.specs.Record.{record-at, kind-at}
+use Rattle.files.specs.Record.{record-at}
 use Rattle.files.specs.declared.record.Record.{Record}
 use Rattle.files.specs.Deliveries.Names.{begun, start-before, node-own, node-foreign}
 use borrow.Author.Needs.{needs}

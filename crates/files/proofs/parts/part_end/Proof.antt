@@ -1,9 +1,8 @@
 use mathlib.Core.Path.{_≡_, sym, _∙_}
 use Prim.Native.Nat.{ℕ, _≤_, _<_, _-_}
 use native.Mathlib.Omega.{arith}
-use Rattle.files.specs.Record.{kind-at, count}
+use Rattle.files.specs.Record.{kind-at}
 use Rattle.files.specs.Deliveries.Names.{end-is, none-more}
-use borrow.Author.Needs.{needs}
 use Rattle.files.proofs.parts.part_end.Statement.{statement}
 use Rattle.files.proofs.parts.part_end.Tie as tie
 

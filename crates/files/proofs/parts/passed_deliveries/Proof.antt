@@ -4,7 +4,6 @@ use native.Mathlib.Omega.{arith}
 use Rattle.files.specs.Basics.Tests.{any, upto}
 use Rattle.files.specs.Record.{count}
 use Rattle.files.specs.Deliveries.Names.{opening-passed, passed-more}
-use borrow.Author.Needs.{needs}
 use Rattle.files.proofs.parts.passed_deliveries.Statement.{statement}
 use Rattle.files.proofs.parts.passed_deliveries.Tie as tie
 

@@ -52,8 +52,7 @@ returns-4 : tie.Need-returns-4
 returns-4 c =
     let s = c .before .before .before .before .before in
     let a = s .before .before .before .before .args in
-    later-kept (a .file .now) (a .method) (a .kept) (a .i)
-    (
+    later-kept (a .file .now) (a .method) (a .kept) (a .i) (
       sym (s .before .before .kind-at .ensures) ∙ same-as (s .before .before .kind-at .result) 6 (s .before .if1 .left),
       sym (ap (λ (r : Record). r .first) (s .read .ensures)) ∙ same-as (s .read .result .first) (a .method) (c .before .before .before .if2 .left),
       omega (arith, c .if3 .left, ap (λ (r : Record). r .second) (s .read .ensures), c .before .before .kept-revision .ensures),

@@ -1,10 +1,8 @@
 use mathlib.Core.Path.{_≡_, refl, ap, _∙_}
 use Prim.Native.Nat.{_≤_, _-_}
 use native.Mathlib.Omega.{arith}
-use native.Mathlib.Numerals.{add-one}
 use Rattle.files.specs.Record.{count}
 use Rattle.files.specs.Deliveries.Latest.{latest, latest-within, latest-more}
-use borrow.Author.Needs.{needs}
 use Rattle.files.proofs.standing.latest_opening.Statement.{statement}
 use Rattle.files.proofs.standing.latest_opening.Tie as tie
 
