@@ -36,6 +36,7 @@ pub mod Steps
 pub mod Looks
 pub mod Names
 pub mod Latest
+pub mod Met
 pub mod Examples
 
 -- ---- the openings
