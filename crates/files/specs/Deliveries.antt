@@ -33,7 +33,10 @@ pub mod Decoded
 pub mod Behind
 pub mod Written
 pub mod Steps
+pub mod Looks
+pub mod Names
 pub mod Latest
+pub mod Met
 pub mod Examples
 
 -- ---- the openings

@@ -48,7 +48,7 @@ fn nodes(kind: FileKind, apart: usize) -> usize
 }
 
 // 5: a limit is passed, by n records of which so many are counted apart. Where no kind is out of place, all records of a graph but the nodes are edges.
-fn over(limits: Limits, kind: FileKind, apart: usize, n: usize) -> bool
+pub(crate) fn over(limits: Limits, kind: FileKind, apart: usize, n: usize) -> bool
     requires { ⌜ apart ≤ n ⌝ }
     ensures { λ r. ⌜ r ≡ over-with limits (kind-of kind) apart n ⌝ }
 {

@@ -49,7 +49,13 @@ fn node_beside(records: &[u8], nodes: usize, g: usize, method: u8) -> Parsed
 }
 
 // 7 and 8 of an edge: both of its nodes are there, the second beside the first. A node names nothing.
-fn name_nodes(records: &[u8], nodes: usize, i: usize, first: usize, position: u8) -> Found
+pub(crate) fn name_nodes(
+    records: &[u8],
+    nodes: usize,
+    i: usize,
+    first: usize,
+    position: u8,
+) -> Found
     requires { ⌜ (Sound graph (now records)) × ((nodes ≡ nodes-of (now records)) × ((i < count (now records)) × (first + i < 18446744073709551616))) ⌝ }
     ensures { λ r. ⌜ r ≡ found-at 2 7 (test graph (now (records .entry))) first position i ⌝ }
 {

@@ -138,7 +138,7 @@ fn look_edge(records: &[u8], i: usize, first: usize, position: u8) -> Found
     Found::Nothing
 }
 
-fn look_graph(records: &[u8], i: usize, first: usize, position: u8) -> Found
+pub(crate) fn look_graph(records: &[u8], i: usize, first: usize, position: u8) -> Found
     requires { ⌜ (6 * i + 6 ≤ length (now records)) × (first + i < 18446744073709551616) ⌝ }
     ensures { λ r. ⌜ r ≡ found-at 3 2 (test graph (now (records .entry))) first position i ⌝ }
 {

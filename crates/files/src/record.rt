@@ -28,6 +28,9 @@ impl Record {
 
     pub const INTERFACE: u8 = 5;
 
+    // Opens a delivery.
+    pub const OPENING: u8 = 6;
+
     pub fn node(method: u8, returns: bool, entry: bool) -> Self
         ensures { λ r. ⌜ r ≡ node-record method returns entry ⌝ }
     {

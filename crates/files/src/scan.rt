@@ -16,7 +16,7 @@ use crate::record::Operator;
 use crate::record::Record;
 
 // The one of the lower number, the earlier where they have the same.
-fn lower(found: Found, next: Found) -> Found
+pub(crate) fn lower(found: Found, next: Found) -> Found
     ensures { λ r. ⌜ r ≡ lower found next ⌝ }
 {
     let Found::At(later) = next else {

@@ -5,11 +5,10 @@ use mathlib.Core.Bool.{Bool, true, false, not, cond}
 use mathlib.Core.List.{List}
 use mathlib.Core.Option.{Option, none, some}
 use Prim.Native.Nat.{ℕ, _+_, _*_, _-_, _/_, _%_, _≤_, _<_}
-use native.Mathlib.Decide.{decLt}
 use native.Mathlib.Numerals.{add-one}
 use native.Mathlib.Omega.{arith}
 use lib.Dec.{eqb}
-use lib.ListN.{length, getD, replicate, getD-replicate, List·getD-eq-default}
+use lib.ListN.{length, getD, replicate}
 use borrow.Rule.Slice.PartMut.{midOf, putMid}
 use borrow.Author.Tests.{ne-eqb}
 use Rattle.files.specs.Basics.Lists.{index-e}
@@ -62,14 +61,6 @@ pub row-names : (u : PropertyRow) (v : Row) (i n r : ℕ) → u ≡ row-held v �
 row-names u v i n r is e = e ∙ ap (λ (y : PropertyRow). operand-of (y .operator) (y .a) (y .b) i n) is ∙ operand-is v i n
 
 -- ---- bytes
-
--- every byte of a list of zeros is zero, and so is what is read past its end
-pub zero-byte : (w : List ℕ) → w ≡ replicate (length w) 0 → (q : ℕ) → getD w q 0 ≡ 0
-zero-byte w e q = go (decLt q (length w))
-  where
-    go : Dec (q < length w) → getD w q 0 ≡ 0
-    go (yes h) = ap (λ (l : List ℕ). getD l q 0) e ∙ getD-replicate {A = ℕ} (length w) q 0 0 h
-    go (no h) = List·getD-eq-default w 0 (omega arith)
 
 -- a byte outside two parts that were written, one after the other
 pub outside-both : (a b c d m n : ℕ) (w₀ w w′ : List ℕ) → m ≤ a → b ≤ n → m ≤ c → d ≤ n → Outside a b w₀ w → Outside c d w w′ → Outside m n w₀ w′

@@ -1,17 +1,14 @@
--- For the code that clears a part of its buffer, the k bytes from a on: the buffer's length and the bytes outside the part stay, bytes inside are 0, and no bit of theirs stands.
+-- For the code that clears a part of its buffer, the k bytes from a on: the buffer's length and the bytes outside the part stay, and bytes inside are 0.
 use mathlib.Core.Path.{_≡_, sym, ap, subst, _∙_}
 use mathlib.Core.Logic.{_⊎_}
-use mathlib.Core.Bool.{false}
 use mathlib.Core.List.{List, _++_, append-assoc}
-use Prim.Native.Nat.{ℕ, _+_, _-_, _/_, _%_, _^_, _≤_, _<_}
-use native.Mathlib.Nat.{zero-div}
+use Prim.Native.Nat.{ℕ, _+_, _-_, _≤_, _<_}
 use native.Mathlib.Omega.{arith}
-use lib.Dec.{eqb}
 use lib.ListN.{length, getD, take, drop, replicate, length-drop, length-replicate, getD-replicate}
 use lib.Seq.{drop-drop, length-take-le}
 use borrow.Rule.Slice.PartMut.{midOf, putMid, same-len-mid}
-use Rattle.files.specs.Cells.{has-bit, put-at}
-use Rattle.files.specs.Cells.Laws.{at-inside, at-outside, has-bit-is, put-at-is}
+use Rattle.files.specs.Cells.{put-at}
+use Rattle.files.specs.Cells.Laws.{at-inside, at-outside, put-at-is}
 use Rattle.judging.specs.Chains.{Outside}
 
 -- a part put back is a run stored
@@ -52,7 +49,3 @@ module _ (a k : ℕ) (w ys : List ℕ) (zeros : ys ≡ replicate (length (midOf 
         ∙ at-inside w a ys (q - a) (omega (arith, part-length)) (omega (arith, part-length))
         ∙ ap (λ (m : List ℕ). getD m (q - a) 0) zeros
         ∙ getD-replicate {A = ℕ} (length (midOf a k w)) (q - a) 0 0 (omega (arith, mid-length))
-
--- a bit of a byte that is zero
-pub zero-bit : (w : List ℕ) (base h : ℕ) → getD w (base + h / 8) 0 ≡ 0 → has-bit w base h ≡ false
-zero-bit w base h e = has-bit-is w base h ∙ ap (λ (x : ℕ). eqb (x / 2 ^ (h % 8) % 2) 1) e ∙ ap (λ (x : ℕ). eqb (x % 2) 1) (zero-div (2 ^ (h % 8)))

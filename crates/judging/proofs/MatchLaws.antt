@@ -12,7 +12,7 @@ use lib.Dec.{T, eqb→eq, ltb}
 use lib.ListN.{length, replicate}
 use Rattle.files.specs.Basics.Tests.{or-e, or-l, or-r, eq-eqb}
 use Rattle.files.specs.Cells.{cell, has-bit, put-bit}
-use Rattle.files.specs.Cells.Laws.{bit-byte, bit-same, bit-other}
+use Rattle.files.specs.Cells.Laws.{zero-byte, zero-bit, bit-byte, bit-same, bit-other}
 use Rattle.files.specs.Decode.{decode-graph}
 use Rattle.files.specs.Graph.{Graph, size}
 use Rattle.judging.specs.declared.sizes.Sizes.{Sizes}
@@ -25,8 +25,6 @@ use Rattle.judging.specs.Refinement.Taking.{took, matching-on, matching-
 use Rattle.judging.specs.Simulation.{related}
 use Rattle.judging.specs.Simulation.Laws.{related-e}
 use Rattle.judging.specs.Words.{Left, left-turn, left-none}
-use Rattle.judging.proofs.ChainLaws.{zero-byte}
-use Rattle.judging.proofs.ClearedLaws.{zero-bit}
 use Rattle.judging.proofs.LevelLaws.{Walk, walk-start, walk-item, walk-turn, walk-less}
 
 -- a row without a bit

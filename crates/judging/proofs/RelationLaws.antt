@@ -12,7 +12,7 @@ use Rattle.files.specs.Access.{GraphFile, node-held, edge-held}
 use Rattle.files.specs.Basics.Lists.{index-e}
 use Rattle.files.specs.Basics.Tests.{and-l, and-r, and-i, one}
 use Rattle.files.specs.Cells.{has-bit, put-bit}
-use Rattle.files.specs.Cells.Laws.{bit-byte, cell-agree}
+use Rattle.files.specs.Cells.Laws.{zero-bit, bit-byte, cell-agree}
 use Rattle.files.specs.Decode.{decode-graph}
 use Rattle.files.specs.Decode.Graphs.{decoded-size, decoded-filed}
 use Rattle.files.specs.Graph.{Graph, Node, node, no-node}
@@ -27,7 +27,6 @@ use Rattle.judging.specs.Refinement.Files.{first-size, second-size, firs
 use Rattle.judging.specs.Refinement.Preparing.{put-beside, kinds-none, kinds-more, kind-is, Putting, putting-none, putting-more, putting-end}
 use Rattle.judging.specs.Simulation.{alike}
 use Rattle.judging.specs.Simulation.Laws.{alike-i, related-e, related-simulation}
-use Rattle.judging.proofs.ClearedLaws.{zero-bit}
 
 -- ---- the kind of a node
 

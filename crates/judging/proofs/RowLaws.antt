@@ -12,12 +12,10 @@ use lib.Dec.{T, ltb, ltb→lt, lt→ltb, T-not}
 use lib.ListN.{length, getD, replicate, getD-replicate}
 use Rattle.files.specs.Basics.Tests.{and-l, and-r, and-i, same-test, T-eq}
 use Rattle.files.specs.Cells.{has-bit, put-bit}
-use Rattle.files.specs.Cells.Laws.{bit-same, bit-other}
+use Rattle.files.specs.Cells.Laws.{zero-byte, zero-bit, bit-same, bit-other}
 use Rattle.judging.specs.Chains.{Outside}
 use Rattle.judging.specs.Refinement.{Chosen}
 use Rattle.judging.specs.Refinement.Rows.{Bytes, lit, lit-or, lit-and, lit-not, lit-zero, some-lit, joined, joined-e, joined-i, row-lit, byte-lit, row-bits}
-use Rattle.judging.proofs.ChainLaws.{zero-byte}
-use Rattle.judging.proofs.ClearedLaws.{zero-bit}
 
 -- a bit of a row that stands by itself
 pub own-lit : (l : List ℕ) (h : ℕ) → has-bit l 0 h ≡ lit (getD l (h / 8) 0) (h % 8)

@@ -1,6 +1,6 @@
 //! Damaged files: what the checks of a file must refuse by the right number.
 
-use crate::generate::{interface, label, rules, valid, Kind, Random, Size, LIMITS};
+use crate::generate::{interface, label, method, rules, valid, Kind, Random, Size, LIMITS};
 use crate::graphs::scattered;
 use crate::properties::{any_rows, many_ors};
 use second::record::{kind, RECORD_LEN};
@@ -23,7 +23,7 @@ pub fn damaged(random: &mut Random, kind: Kind, size: Size) -> Vec<u8> {
 }
 
 /// One to three bytes become any value, often a small one.
-fn change_bytes(random: &mut Random, bytes: &mut [u8]) {
+pub(crate) fn change_bytes(random: &mut Random, bytes: &mut [u8]) {
     for _ in 0..1 + random.below(3) {
         if !bytes.is_empty() {
             let at = random.below(bytes.len());
@@ -41,7 +41,7 @@ pub(crate) fn swap_records(random: &mut Random, bytes: &mut [u8]) {
 }
 
 /// A record once more, behind itself or anywhere.
-fn repeat_record(random: &mut Random, bytes: &mut Vec<u8>) {
+pub(crate) fn repeat_record(random: &mut Random, bytes: &mut Vec<u8>) {
     let count = bytes.len() / RECORD_LEN;
     if count > 0 {
         let from = random.below(count);
@@ -70,8 +70,10 @@ fn past_a_limit(random: &mut Random, kind: Kind) -> Vec<u8> {
 
 /// A record of some kind, at some place.
 fn mix_kinds(random: &mut Random, bytes: &mut Vec<u8>) {
-    let kind = random.pick(&Kind::ALL);
-    let other = valid(random, kind, Size::Small);
+    let other = match random.below(Kind::ALL.len() + 1) {
+        0 => vec![kind::OPENING, method(random), 1, 0, 0, 0],
+        kind => valid(random, Kind::ALL[kind - 1], Size::Small),
+    };
     let record = other.into_iter().take(RECORD_LEN);
     let at = random.below(bytes.len() / RECORD_LEN + 1) * RECORD_LEN;
     bytes.splice(at..at, record);

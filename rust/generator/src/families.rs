@@ -74,7 +74,7 @@ fn numbering(random: &mut Random, nodes: usize) -> Vec<u8> {
     match random.below(3) {
         0 => {}
         1 => numbers.reverse(),
-        _ => (1..nodes).for_each(|last| numbers.swap(last, random.below(last + 1))),
+        _ => random.shuffle(&mut numbers),
     }
     numbers
 }

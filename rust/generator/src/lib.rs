@@ -3,6 +3,7 @@
 mod composed;
 pub mod conforming;
 mod damage;
+pub mod deliveries;
 pub mod extremes;
 pub mod families;
 pub mod generate;

@@ -40,7 +40,7 @@ pub fn sides_at_the_limits(random: &mut Random) -> Sides {
     ])
 }
 
-fn about(random: &mut Random, limit: usize) -> usize {
+pub(crate) fn about(random: &mut Random, limit: usize) -> usize {
     limit - 4 + random.below(9)
 }
 

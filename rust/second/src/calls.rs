@@ -1,5 +1,6 @@
 //! The public calls: their refusals in the published order, then what they say.
 
+use crate::deliveries::{check_deliveries, has_repeated_revision, standing_within, Delivery};
 use crate::files::{check_graph, check_interface, check_property, check_rules, Fault};
 use crate::graph::Graph;
 use crate::join::joined_within;
@@ -148,7 +149,7 @@ pub fn compose(
     lent: [(usize, usize); 2],
 ) -> Outcome {
     outcome(|| {
-        lent.into_iter().try_for_each(|(work_len, room)| check_work(work_len, room))?;
+        check_lent(lent)?;
         let known_interface = in_file(1, check_interface(sides.known_interface))?;
         let known = in_file(2, check_graph(sides.known_graph, limits))?;
         let other_interface = in_file(3, check_interface(sides.other_interface))?;
@@ -161,6 +162,32 @@ pub fn compose(
         let model = small(maximal_model(limits, &other_interface, &rows))?;
         let graph = small(joined_within(limits, &known, &model))?;
         say_runs(&graph, &rules, start, out_len)
+    })
+}
+
+/// Assembling: the graph of the deliveries that stand.
+pub fn assemble(limits: &Limits, deliveries: &[u8], out_len: usize) -> Outcome {
+    outcome(|| {
+        let deliveries = in_file(1, check_deliveries(deliveries, limits))?;
+        let graph = standing_graph(limits, &deliveries)?;
+        say(POSITIVE, sizes(&graph), graph.bytes(), out_len)
+    })
+}
+
+/// Judging deliveries: does the graph of those that stand satisfy the property?
+pub fn judge_deliveries(
+    limits: &Limits,
+    deliveries: &[u8],
+    property: &[u8],
+    out_len: usize,
+    lent: [(usize, usize); 2],
+) -> Outcome {
+    outcome(|| {
+        check_lent(lent)?;
+        let deliveries = in_file(1, check_deliveries(deliveries, limits))?;
+        let rows = in_file(2, check_property(property, limits))?;
+        let graph = standing_graph(limits, &deliveries)?;
+        say_records(fault_sheet(&graph, &rows), out_len)
     })
 }
 
@@ -183,6 +210,11 @@ fn check(condition: bool, number: u8) -> Result<(), Refusal> {
 
 fn check_work(work_len: usize, room: usize) -> Result<(), Refusal> {
     check(work_len >= room, number::SHORT_WORK)
+}
+
+/// Each buffer by its length and the published one.
+fn check_lent(lent: [(usize, usize); 2]) -> Result<(), Refusal> {
+    lent.into_iter().try_for_each(|(work_len, room)| check_work(work_len, room))
 }
 
 fn check_start(start: u8) -> Result<usize, Refusal> {
@@ -211,6 +243,11 @@ fn check_provided(interface: &Interface, start: usize) -> Result<(), Refusal> {
 /// A graph that is not there because it would pass the limits is refused.
 fn small(graph: Option<Graph>) -> Result<Graph, Refusal> {
     graph.ok_or(Refusal::of_call(number::TOO_LARGE))
+}
+
+fn standing_graph(limits: &Limits, deliveries: &[Delivery]) -> Result<Graph, Refusal> {
+    check(!has_repeated_revision(deliveries), number::REPEATED_REVISION)?;
+    small(standing_within(limits, deliveries))
 }
 
 fn sizes(graph: &Graph) -> Vec<u64> {

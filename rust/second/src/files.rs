@@ -10,19 +10,34 @@ pub type Fault = (u8, usize);
 
 /// Checks a file of nodes followed by edges.
 pub fn check_graph(bytes: &[u8], limits: &Limits) -> Result<Graph, Fault> {
-    let records = split(bytes)?;
+    let (nodes, edges) = check_nodes_and_edges(split(bytes)?, 0, limits, |_| true)?;
+    Ok(Graph::new(nodes, edges))
+}
+
+/// Checks nodes followed by edges between them; `start` is the number of the first of these records
+/// in the file. A node that is not `expected` there is of a foreign method.
+pub(crate) fn check_nodes_and_edges(
+    records: &[Record],
+    start: usize,
+    limits: &Limits,
+    expected: impl Fn(&Node) -> bool,
+) -> Result<(Vec<Node>, Vec<Edge>), Fault> {
     let count = records.iter().take_while(|record| record[0] == kind::NODE).count();
     let (node_records, edge_records) = records.split_at(count);
-    check_all(edge_records, count, number::KIND, |record| record[0] == kind::EDGE)?;
-    let nodes = parse(node_records, 0, Node::from_record)?;
-    let edges = parse(edge_records, count, Edge::from_record)?;
-    check_order(&edges, count, |edge| *edge)?;
-    check_limit(nodes.len() <= limits.nodes && edges.len() <= limits.edges)?;
-    check_all(&edges, count, number::PAST_THE_LAST, |edge| edge.from < count && edge.to < count)?;
-    check_all(&edges, count, number::BETWEEN_METHODS, |edge| {
+    let first_edge = start + count;
+    check_all(edge_records, first_edge, number::KIND, |record| record[0] == kind::EDGE)?;
+    let nodes = parse(node_records, start, Node::from_record)?;
+    let edges = parse(edge_records, first_edge, Edge::from_record)?;
+    check_order(&edges, first_edge, |edge| *edge)?;
+    check_limit(limits.allow(nodes.len(), edges.len()))?;
+    check_all(&edges, first_edge, number::PAST_THE_LAST, |edge| {
+        edge.from < count && edge.to < count
+    })?;
+    check_all(&nodes, start, number::BETWEEN_METHODS, expected)?;
+    check_all(&edges, first_edge, number::BETWEEN_METHODS, |edge| {
         nodes[edge.from].method == nodes[edge.to].method
     })?;
-    Ok(Graph::new(nodes, edges))
+    Ok((nodes, edges))
 }
 
 /// Checks a file of rows.
@@ -66,7 +81,7 @@ fn uniform<T>(
     parse(records, 0, from_record)
 }
 
-fn split(bytes: &[u8]) -> Result<&[Record], Fault> {
+pub(crate) fn split(bytes: &[u8]) -> Result<&[Record], Fault> {
     match bytes.as_chunks::<RECORD_LEN>() {
         (records, []) => Ok(records),
         _ => Err((number::LENGTH, 0)),

@@ -1,14 +1,13 @@
 //! Joining two flow graphs.
 
 use crate::graph::Graph;
-use crate::record::{Edge, Limits};
+use crate::record::Limits;
 
 /// Both graphs in one; `None` when this passes the limits.
 pub(crate) fn joined_within(limits: &Limits, first: &Graph, second: &Graph) -> Option<Graph> {
     let nodes = first.nodes.len() + second.nodes.len();
     let edges = first.edges.len() + second.edges.len();
-    let fits = nodes <= limits.nodes && edges <= limits.edges;
-    fits.then(|| joined(first, second))
+    limits.allow(nodes, edges).then(|| joined(first, second))
 }
 
 /// Both graphs in one, the second's nodes after the first's. The edges are then in order: all
@@ -16,11 +15,7 @@ pub(crate) fn joined_within(limits: &Limits, first: &Graph, second: &Graph) -> O
 pub fn joined(first: &Graph, second: &Graph) -> Graph {
     let shift = first.nodes.len();
     let nodes = [first.nodes.as_slice(), &second.nodes].concat();
-    let moved = second.edges.iter().map(|edge| Edge {
-        from: edge.from + shift,
-        label: edge.label,
-        to: edge.to + shift,
-    });
+    let moved = second.edges.iter().map(|edge| edge.moved(shift));
     let edges = first.edges.iter().copied().chain(moved).collect();
     Graph::new(nodes, edges)
 }

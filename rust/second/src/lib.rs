@@ -1,7 +1,8 @@
 //! A checker of flow graphs: judging properties, comparing by simulation, maximal models, joining,
-//! and watching runs with monitors over calls and returns.
+//! watching runs with monitors over calls and returns, and graphs that arrive in deliveries.
 
 mod calls;
+mod deliveries;
 pub mod files;
 pub mod graph;
 mod join;
@@ -21,7 +22,7 @@ mod support;
 mod trail;
 pub mod unlimited;
 
-pub use calls::{compare, compose, join, judge, model, show, watch};
+pub use calls::{assemble, compare, compose, join, judge, judge_deliveries, model, show, watch};
 pub use record::Limits;
 pub use refusal::Refusal;
 

@@ -1,4 +1,4 @@
-//! The five kinds of six-byte records, their fields and the limits on their number.
+//! The six kinds of six-byte records, their fields and the limits on their number.
 
 /// Length in bytes of every record.
 pub const RECORD_LEN: usize = 6;
@@ -13,6 +13,7 @@ pub mod kind {
     pub const ROW: u8 = 3;
     pub const RULE: u8 = 4;
     pub const INTERFACE: u8 = 5;
+    pub const OPENING: u8 = 6;
 }
 
 /// Second byte of a row.
@@ -53,6 +54,11 @@ pub struct Limits {
 impl Limits {
     /// The published limits.
     pub const DESK: Limits = Limits { nodes: 256, edges: 4096, rows: 32, ors: 12 };
+
+    /// Whether a graph may have so many nodes and edges.
+    pub(crate) fn allow(&self, nodes: usize, edges: usize) -> bool {
+        nodes <= self.nodes && edges <= self.edges
+    }
 }
 
 #[derive(Clone, Copy, Debug, PartialEq, Eq)]
@@ -106,6 +112,14 @@ pub struct Interface {
     pub required: u8,
 }
 
+/// Opens a delivery: what follows are the nodes and edges of one method, in one revision.
+#[derive(Clone, Copy, Debug, PartialEq, Eq, Hash)]
+pub(crate) struct Opening {
+    pub method: usize,
+    /// From 1 on.
+    pub revision: u8,
+}
+
 fn flag(byte: u8) -> Option<bool> {
     match byte {
         0 => Some(false),
@@ -152,6 +166,11 @@ impl Edge {
             return None;
         };
         Some(Edge { from: usize::from(from), label: below(LABELS, label)?, to: usize::from(to) })
+    }
+
+    /// The edge where so many nodes stand before those that it joins.
+    pub(crate) fn moved(&self, before: usize) -> Edge {
+        Edge { from: self.from + before, label: self.label, to: self.to + before }
     }
 }
 
@@ -255,5 +274,14 @@ impl Interface {
             provided: self.provided | other.provided,
             required: self.required | other.required,
         }
+    }
+}
+
+impl Opening {
+    pub(crate) fn from_record(record: &Record) -> Option<Opening> {
+        let [kind::OPENING, number, revision @ 1..=255, 0, 0, 0] = *record else {
+            return None;
+        };
+        Some(Opening { method: method(number)?, revision })
     }
 }

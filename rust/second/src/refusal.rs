@@ -15,6 +15,7 @@ pub mod number {
     pub const TOO_LARGE: u8 = 11;
     pub const SHORT_OUTPUT: u8 = 12;
     pub const SHORT_WORK: u8 = 13;
+    pub const REPEATED_REVISION: u8 = 14;
 }
 
 /// A refusal with its place: the file's position from 1 and the first offending record from 0.

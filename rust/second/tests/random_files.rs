@@ -46,47 +46,6 @@ fn file_faults(kind: Kind, records: &[&[u8]]) -> Vec<Fault> {
     faults
 }
 
-fn in_range(record: &[u8]) -> bool {
-    let method = |m| (1..=8).contains(&m);
-    let zero = |from: usize| record[from..].iter().all(|&byte| byte == 0);
-    match (record[0], record[1]) {
-        (1, m) => method(m) && record[2] < 2 && record[3] < 2 && zero(4),
-        (2, _) => record[2] < 9 && zero(4),
-        (3, 1 | 2 | 5 | 6) => zero(2),
-        (3, 3 | 4) => method(record[2]) && zero(3),
-        (3, 7 | 8) => zero(4),
-        (3, 9) => record[2] < 9 && zero(4),
-        (3, 10) => zero(3),
-        (4, state) => {
-            let event = record[2] == 1 || record[2] == 2;
-            state < 7 && event && method(record[3]) && method(record[4]) && record[5] < 8
-        }
-        (5, _) => zero(3),
-        _ => false,
-    }
-}
-
-/// Whether two neighbours of an ordered kind are out of order.
-fn is_after(record: &[u8], next: &[u8]) -> bool {
-    let key = if record[0] == 2 { 1..4 } else { 1..5 };
-    record[0] == next[0] && [2, 4].contains(&next[0]) && record[key.clone()] >= next[key]
-}
-
-/// 7 or 8, if the record names what it must not.
-fn misled(nodes: &[&[u8]], rows: usize, record: &[u8]) -> Option<u8> {
-    let (a, b) = (usize::from(record[2]), usize::from(record[3]));
-    match (record[0], record[1]) {
-        (2, from) => match (nodes.get(usize::from(from)), nodes.get(b)) {
-            (Some(from), Some(to)) => (from[1] != to[1]).then_some(8),
-            _ => Some(7),
-        },
-        (3, 7 | 8) => (a.max(b) >= rows).then_some(7),
-        (3, 9) => (b >= rows).then_some(7),
-        (3, 10) => (a >= rows).then_some(7),
-        _ => None,
-    }
-}
-
 #[test]
 fn refusal_is_the_least_of_all_faults() {
     let mut random = Random::new(7);

@@ -1,16 +1,16 @@
 -- Laws of stores, over every width: what is read back of the same cell, another cell, another region and a byte outside; the same of bits and runs. Then each definition as the code writes it.
 use mathlib.Core.Path.{_≡_, refl, sym, ap, ap₂, _∙_}
 use mathlib.Core.Logic.{_⊎_, inl, inr}
-use mathlib.Core.Bool.{Bool, true}
+use mathlib.Core.Bool.{Bool, true, false}
 use mathlib.Core.List.{List, _++_, append-assoc}
 use Prim.Native.Nat.{ℕ, zero, suc, _+_, _*_, _-_, _/_, _%_, _^_, _≤_, _<_}
-use native.Mathlib.Nat.{eq-or-lt-of-le, mul-suc, mul-le-mul-left, pow-suc, mod-eq-of-lt, one-mul, zero-add}
+use native.Mathlib.Nat.{eq-or-lt-of-le, mul-suc, mul-le-mul-left, pow-suc, mod-eq-of-lt, one-mul, zero-add, zero-div}
 use native.Mathlib.Numerals.{add-one}
 use native.Mathlib.Decide.{ℕ-discrete, decLt}
 use native.Mathlib.Omega.{arith}
 use lib.Bits.{bitOr, bitAnd, or-shr, or-mod, and-shr, and-mod, or-zero-r, and-mask, or-add-and}
 use lib.Dec.{eqb, eqb→eq, eqb-refl, not-T}
-use lib.ListN.{length, getD, set, take, drop, length-set, length-append, List·getD-append}
+use lib.ListN.{length, getD, set, take, drop, length-set, length-append, replicate, getD-replicate, List·getD-append, List·getD-eq-default}
 use lib.Pow.{shl-exact}
 use lib.Seq.{getD-set-same, getD-set-other, set-out, getD-take, getD-drop, getD-append-add, length-take-le, sets-eq, length-sets, paste, paste-suc, take-length, take-at, drop-append-add, drop-drop}
 use Rattle.files.specs.Basics.Tests.{one, one-true, one-false, all, all-e, upto, upto-i}
@@ -247,6 +247,18 @@ put-cell-four l base i v =
 pub has-bit-is : (l : List ℕ) (base h : ℕ) → has-bit l base h ≡ eqb (getD l (base + h / 8) 0 / 2 ^ (h % 8) % 2) 1
 unfolding has-bit
 has-bit-is l base h = refl
+
+-- every byte of a list of zeros is zero, and so is what is read past its end
+pub zero-byte : (w : List ℕ) → w ≡ replicate (length w) 0 → (q : ℕ) → getD w q 0 ≡ 0
+zero-byte w e q = go (decLt q (length w))
+  where
+    go : Dec (q < length w) → getD w q 0 ≡ 0
+    go (yes h) = ap (λ (l : List ℕ). getD l q 0) e ∙ getD-replicate {A = ℕ} (length w) q 0 0 h
+    go (no h) = List·getD-eq-default w 0 (omega arith)
+
+-- a bit of a byte that is zero
+pub zero-bit : (w : List ℕ) (base h : ℕ) → getD w (base + h / 8) 0 ≡ 0 → has-bit w base h ≡ false
+zero-bit w base h e = has-bit-is w base h ∙ ap (λ (x : ℕ). eqb (x / 2 ^ (h % 8) % 2) 1) e ∙ ap (λ (x : ℕ). eqb (x % 2) 1) (zero-div (2 ^ (h % 8)))
 
 -- the mask of bit k, as the code shifts it
 pub weight : (k : ℕ) → k < 8 → 1 * 2 ^ k % 256 ≡ 2 ^ k

@@ -44,17 +44,29 @@ pub from-seven-is : (k : Kind) (l : List ℕ) (first position : ℕ)
 unfolding from-seven
 from-seven-is k l first position = refl
 
+-- three numbers from 2 on, and two from 7 on, of any test
+pub found-of-three : (t : ℕ → ℕ → Bool) (first position i : ℕ)
+    → found-at 3 2 t first position i
+    ≡ cond (t 2 i) (At (refusal-at 2 position (first + i))) (cond (t 3 i) (At (refusal-at 3 position (first + i))) (cond (t 4 i) (At (refusal-at 4 position (first + i))) Nothing))
+unfolding found-at
+found-of-three t first position i = refl
+
+pub found-of-two : (t : ℕ → ℕ → Bool) (first position i : ℕ)
+    → found-at 2 7 t first position i ≡ cond (t 7 i) (At (refusal-at 7 position (first + i))) (cond (t 8 i) (At (refusal-at 8 position (first + i))) Nothing)
+unfolding found-at
+found-of-two t first position i = refl
+
 pub looked-is : (k : Kind) (l : List ℕ) (first position i : ℕ)
     → found-at 3 2 (test k l) first position i
     ≡ cond (misplaced k l i) (At (refusal-at 2 position (first + i)))
     (cond (wrong (record-at l i)) (At (refusal-at 3 position (first + i))) (cond (disordered k l i) (At (refusal-at 4 position (first + i))) Nothing))
-unfolding found-at test
-looked-is k l first position i = refl
+unfolding test
+looked-is k l first position i = found-of-three (test k l) first position i
 
 pub named-is : (k : Kind) (l : List ℕ) (first position i : ℕ)
     → found-at 2 7 (test k l) first position i ≡ cond (past k l i) (At (refusal-at 7 position (first + i))) (cond (crossing k l i) (At (refusal-at 8 position (first + i))) Nothing)
-unfolding found-at test
-named-is k l first position i = refl
+unfolding test
+named-is k l first position i = found-of-two (test k l) first position i
 
 pub lowest-none : (many n : ℕ) (t : ℕ → ℕ → Bool) (first position : ℕ) → lowest many n t first position 0 ≡ Nothing
 unfolding lowest

@@ -3,12 +3,12 @@ use mathlib.Core.Path.{_≡_, refl, sym, ap, _∙_}
 use mathlib.Core.Bool.{Bool, not, cond}
 use mathlib.Core.List.{List, [], _∷_}
 use mathlib.Core.Option.{Option, none}
-use Prim.Native.Nat.{ℕ, _%_}
+use Prim.Native.Nat.{ℕ, _+_, _%_}
 use lib.Dec.{eqb}
 use lib.ListN.{length}
 use Rattle.files.specs.Basics.First.{first-where, whole, pick}
-use Rattle.files.specs.Checking.{lowest, unless}
-use Rattle.files.specs.Checking.Laws.{answered-by, found-first, whole-step, scan-step, lowest-of-three, lowest-of-two}
+use Rattle.files.specs.Checking.{found-at, lowest, unless}
+use Rattle.files.specs.Checking.Laws.{found-of-three, found-of-two, answered-by, found-first, whole-step, scan-step, lowest-of-three, lowest-of-two}
 use Rattle.files.specs.Deliveries.{delivery-misplaced, delivery-wrong, delivery-disordered, delivery-passed, delivery-past, delivery-crossing, delivery-refusal}
 use Rattle.files.specs.Deliveries.Refused.{delivery-refusal-is, delivery-findings-are}
 use Rattle.files.specs.Outcome.{refusal-at}
@@ -16,7 +16,7 @@ use Rattle.files.specs.Record.{record-at, count}
 use Rattle.files.specs.declared.check.Checked.{Checked}
 use Rattle.files.specs.declared.check.Checked.the-variants.{Accepted, Refused}
 use Rattle.files.specs.declared.offence.Found.{Found}
-use Rattle.files.specs.declared.offence.Found.the-variants.{Nothing}
+use Rattle.files.specs.declared.offence.Found.the-variants.{Nothing, At}
 use Rattle.files.specs.declared.record.Limits.{Limits}
 
 -- ---- what checking answers, by the file's refusal
@@ -39,6 +39,25 @@ pub delivery-test : List ℕ → ℕ → ℕ → Bool
 delivery-test l n i =
     cond (eqb n 2) (delivery-misplaced l i) (cond (eqb n 3) (delivery-wrong (record-at l i)) (cond (eqb n 4) (delivery-disordered l i)
     (cond (eqb n 7) (delivery-past l i) (delivery-crossing l i))))
+
+pub delivery-looked-is : (l : List ℕ) (position i : ℕ)
+    → found-at 3 2 (delivery-test l) 0 position i
+    ≡ cond (delivery-misplaced l i) (At (refusal-at 2 position (0 + i)))
+    (cond (delivery-wrong (record-at l i)) (At (refusal-at 3 position (0 + i))) (cond (delivery-disordered l i) (At (refusal-at 4 position (0 + i))) Nothing))
+unfolding delivery-test
+delivery-looked-is l position i = found-of-three (delivery-test l) 0 position i
+
+pub delivery-named-is : (l : List ℕ) (position i : ℕ)
+    → found-at 2 7 (delivery-test l) 0 position i ≡ cond (delivery-past l i) (At (refusal-at 7 position (0 + i))) (cond (delivery-crossing l i) (At (refusal-at 8 position (0 + i))) Nothing)
+unfolding delivery-test
+delivery-named-is l position i = found-of-two (delivery-test l) 0 position i
+
+pub delivery-lowest-is : (l : List ℕ) (position N : ℕ)
+    → lowest 3 2 (delivery-test l) 0 position N
+    ≡ found-first 2 0 position (first-where (delivery-misplaced l) N)
+    (found-first 3 0 position (first-where (λ i. delivery-wrong (record-at l i)) N) (found-first 4 0 position (first-where (delivery-disordered l) N) Nothing))
+unfolding delivery-test
+delivery-lowest-is l position N = lowest-of-three (delivery-test l) 0 position N
 
 module _ (L : Limits) (l : List ℕ) (position : ℕ) where
   abbrev accepted : Checked

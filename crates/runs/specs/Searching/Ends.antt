@@ -2,12 +2,12 @@
 -- or where no item is left.
 use mathlib.Core.Path.{_≡_, refl, sym, ap, subst, _∙_}
 use mathlib.Core.Logic.{_⊎_, inl, inr}
-use mathlib.Core.Bool.{false, not}
+use mathlib.Core.Bool.{not}
 use mathlib.Core.List.{List, [], List·Memᴰ, List·Memᴰ·not-nil, append-nil}
-use Prim.Native.Nat.{ℕ, suc, _+_, _*_, _/_, _%_, _^_, _≤_, _<_}
+use Prim.Native.Nat.{ℕ, suc, _+_, _*_, _/_, _≤_, _<_}
 use native.Mathlib.Nat.{eq-or-lt-of-le, le-of-suc-le-suc}
 use native.Mathlib.Omega.{arith}
-use lib.Dec.{T, eqb}
+use lib.Dec.{T}
 use lib.ListN.{length, getD}
 use Rattle.files.specs.Access.{first-edge}
 use Rattle.files.specs.Basics.Lexical.{Before}
@@ -16,11 +16,10 @@ use Rattle.files.specs.Basics.Order.{Ascends, span-ascends}
 use Rattle.files.specs.Basics.Shortest.{To, there}
 use Rattle.files.specs.Basics.Tests.{decide}
 use Rattle.files.specs.Cells.{has-bit}
-use Rattle.files.specs.Cells.Laws.{has-bit-is}
+use Rattle.files.specs.Cells.Laws.{zero-bit}
 use Rattle.files.specs.Decode.{key}
 use Rattle.files.specs.Graph.{Graph, Edge, size, node, Flow}
 use Rattle.files.specs.Rules.{Monitor, Event}
-use Rattle.maximal.specs.Masks.Laws.{member-none}
 use Rattle.runs.specs.Forward.{Met, Back, at-start, onward, UpTo, turned, fewer-due, next-item, all-met, best-found, turned-path, path-turned}
 use Rattle.runs.specs.Prepared.{Tables}
 use Rattle.runs.specs.Runs.{Bad}
@@ -70,10 +69,7 @@ module _ (G : Graph) (mon : Monitor) (m : ℕ) where
 
   module _ (w : List ℕ) (room : 46949 ≤ length w) (tables : Tables G mon w) (zeros : (q : ℕ) → 46684 ≤ q → getD w q 0 ≡ 0) where
     no-bit : (base h : ℕ) → 46684 ≤ base → T (has-bit w base h) → ⊥
-    no-bit base h b t = subst T (has-bit-is w base h ∙ ap (λ (x : ℕ). eqb (x / 2 ^ (h % 8) % 2) 1) (zeros (base + h / 8) (omega arith)) ∙ zero-bit (h % 8)) t
-      where
-        zero-bit : (k : ℕ) → eqb (0 / 2 ^ k % 2) 1 ≡ false
-        zero-bit k = member-none k
+    no-bit base h b t = subst T (zero-bit w base h (zeros (base + h / 8) (omega arith))) t
 
     only-start : (x : Where) (rs : List Rec) → Back (leaving G mon m) end trail-rec-bytes before x rs → UpTo (leaving G mon m) end trail-rec-bytes [] rs
     only-start x rs at-start = inr refl

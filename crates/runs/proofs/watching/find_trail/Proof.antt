@@ -5,7 +5,7 @@ use native.Mathlib.Omega.{arith}
 use lib.ListN.{replicate}
 use Rattle.files.specs.Decode.{decode-graph, decode-rules}
 use Rattle.files.specs.Rules.{watch}
-use Rattle.judging.proofs.ChainLaws.{zero-byte}
+use Rattle.files.specs.Cells.Laws.{zero-byte}
 use Rattle.runs.specs.Worklist.Loops.{table-yields}
 use borrow.Author.Needs.{needs}
 use Rattle.runs.proofs.watching.find_trail.Statement.{statement}
