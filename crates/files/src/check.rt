@@ -134,7 +134,7 @@ fn check_records(limits: Limits, file: &[u8], position: u8) -> Checked
 }
 
 // Checks a whole file of this kind, which stands at a position among a call's files.
-pub fn check(kind: FileKind, file: &[u8], position: u8, limits: Limits) -> Checked
+pub(crate) fn check(kind: FileKind, file: &[u8], position: u8, limits: Limits) -> Checked
     ensures { λ r. ⌜ r ≡ checked limits (kind-of kind) (now (file .entry)) position ⌝ }
 {
     if !(file.len() % Record::LEN == 0) {

@@ -1,7 +1,7 @@
 // The record of six bytes, whatever its kind: its constants, its constructors, and what it reads as.
 ghost use mathlib.Core.Path.{_≡_};
 ghost use mathlib.Core.List.{[], _∷_};
-ghost use Rattle.files.specs.Record.{six, node-record, edge-record, row-record, rule-record, interface-record};
+ghost use Rattle.files.specs.Record.{six, node-record, edge-record};
 ghost use Rattle.files.specs.Limits.{desk};
 
 // The six bytes of a record, in file order.
@@ -57,45 +57,6 @@ impl Record {
         }
     }
 
-    pub fn row(operator: u8, a: u8, b: u8) -> Self
-        ensures { λ r. ⌜ r ≡ row-record operator a b ⌝ }
-    {
-        Record {
-            kind: Record::ROW,
-            first: operator,
-            second: a,
-            third: b,
-            fourth: 0,
-            fifth: 0,
-        }
-    }
-
-    pub fn rule(state: u8, event: u8, m1: u8, m2: u8, next: u8) -> Self
-        ensures { λ r. ⌜ r ≡ rule-record state event m1 m2 next ⌝ }
-    {
-        Record {
-            kind: Record::RULE,
-            first: state,
-            second: event,
-            third: m1,
-            fourth: m2,
-            fifth: next,
-        }
-    }
-
-    pub fn interface(provided: u8, required: u8) -> Self
-        ensures { λ r. ⌜ r ≡ interface-record provided required ⌝ }
-    {
-        Record {
-            kind: Record::INTERFACE,
-            first: provided,
-            second: required,
-            third: 0,
-            fourth: 0,
-            fifth: 0,
-        }
-    }
-
     // A record of a fault sheet, which has no kind: a node and a row, and its two causes.
     pub fn fault(node: u8, row: u8, node1: u8, row1: u8, node2: u8, row2: u8) -> Self
         ensures { λ r. ⌜ six r ≡ node ∷ row ∷ node1 ∷ row1 ∷ node2 ∷ row2 ∷ [] ⌝ }
@@ -122,20 +83,6 @@ impl Record {
             fourth: reached,
             fifth: next,
         }
-    }
-
-    // As bytes, in file order.
-    pub fn bytes(self) -> [u8; Record::LEN]
-        ensures { λ r. ⌜ r ≡ six self ⌝ }
-    {
-        [
-            self.kind,
-            self.first,
-            self.second,
-            self.third,
-            self.fourth,
-            self.fifth,
-        ]
     }
 }
 

@@ -9,7 +9,7 @@ pub struct Refusal {
 }
 
 impl Refusal {
-    pub fn at(number: u8, file: u8, record: usize) -> Self
+    pub(crate) fn at(number: u8, file: u8, record: usize) -> Self
         ensures { λ r. ⌜ r ≡ refusal-at number file «record» ⌝ }
     {
         Refusal {

@@ -132,7 +132,7 @@ fn obliged_rows(property: &[u8], n: usize, r: usize, label: u8) -> u32
 }
 
 // What all rows of a set do. The highest row not yet asked is taken next.
-pub fn asked(property: &[u8], n: usize, set: u32, label: u8) -> u32
+pub(crate) fn asked(property: &[u8], n: usize, set: u32, label: u8) -> u32
     requires { ⌜ (PropertyFile (now property)) × ((n ≡ count (now property)) × ((n ≤ 32) × (set < 2 ^ n))) ⌝ }
     ensures { λ t. ⌜ t ≡ asked-of (decode-property (now (property .entry))) set label ⌝ }
 {
