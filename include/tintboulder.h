@@ -72,7 +72,21 @@ struct tintboulder_answer tintboulder_compose(const uint8_t *known_interface, si
                                               const uint8_t *rules, size_t rules_length, uint8_t start, uint8_t *out, size_t out_length, uint8_t *store,
                                               size_t store_length, uint8_t *work, size_t work_length);
 
-/* The least length of the work buffer of a call: 1 judge, 2 compare, 3 model, 6 watch, 7 compose; 8 is that of compose's store; 0 for other numbers. */
+/* The graph of a file of deliveries: each opens with a record of kind 6 and has the nodes and edges of one method, numbered from 0 within it; of each method the
+   highest revision stands, and the methods ascend. Verdict 1: written; first is the number of the standing graph's nodes, second that of its edges, and its graph file,
+   6 bytes for each of both, is written to out. Two deliveries of one method with equal revisions are refused by 14, a standing graph past the limits by 11, both with
+   file 0 and record 0. No work buffer is lent. */
+struct tintboulder_answer tintboulder_assemble(const uint8_t *deliveries, size_t deliveries_length, uint8_t *out, size_t out_length);
+
+/* Does the standing graph of the deliveries satisfy the property? Verdict 1: it holds. Verdict 2: it fails; first is the number of records of the fault sheet, which is
+   written to out, in the standing graph's numbers. Deliveries and property are refused as files 1 and 2, then the deliveries by 14 and 11 as above. store and work are
+   both scratch as work above, of at least tintboulder_work(10) and tintboulder_work(9) bytes. */
+struct tintboulder_answer tintboulder_judge_deliveries(const uint8_t *deliveries, size_t deliveries_length, const uint8_t *property, size_t property_length,
+                                                       uint8_t *out, size_t out_length, uint8_t *store, size_t store_length, uint8_t *work,
+                                                       size_t work_length);
+
+/* The least length of the work buffer of a call: 1 judge, 2 compare, 3 model, 6 watch, 7 compose, 9 judge_deliveries; 8 is that of compose's store, 10 that of
+   judge_deliveries' store; 0 for other numbers. */
 uint64_t tintboulder_work(uint64_t call);
 
 #ifdef __cplusplus

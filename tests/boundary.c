@@ -1,5 +1,5 @@
-/* The header against the static library: one accepted and one refused file of each kind; judging, comparing, modelling, joining, showing, watching and the composed
-   verdict, with the buffers they are lent. Exits with the number of answers that are wrong. */
+/* The header against the static library: one accepted and one refused file of each kind; judging, comparing, modelling, joining, showing, watching, the composed
+   verdict, and assembling and judging deliveries, with the buffers they are lent. Exits with the number of answers that are wrong. */
 #include "../include/tintboulder.h"
 
 #include <string.h>
@@ -169,33 +169,44 @@ static int wrong_watching(void)
         + !watches(1, 12, room - 1, 0, 13) + (tintboulder_work(6) != room);
 }
 
-/* Bytes lent to the composed verdict. */
+/* Bytes lent to a call that takes an output, a store and a work buffer, and what they are lent of. */
 struct lent {
     size_t out, store, work;
 };
+static uint8_t whole_out[MOST_OUT], whole_store[MOST_WORK], whole_work[MOST_WORK];
+
+static void fill_all(void)
+{
+    memset(whole_out, 7, MOST_OUT);
+    memset(whole_store, 7, MOST_WORK);
+    memset(whole_work, 7, MOST_WORK);
+}
+
+/* After such a call: the answer's numbers, the records that verdict 2 writes or no change in the output, and zeros or no change in store and work. */
+static int leaves(struct tintboulder_answer a, struct lent lent, uint32_t verdict, uint32_t number, const uint8_t *records, size_t length)
+{
+    const uint64_t count[4] = {length / 6, 0, 0, 0};
+    int writes = verdict == 2;
+    return gives(a, verdict, number, writes ? count : no_values, whole_out, records, writes ? length : 0) && cleared(whole_store, lent.store, number)
+        && cleared(whole_work, lent.work, number);
+}
 
 /* No call of method 1, now or after internal steps; and no demand at all. */
 static const uint8_t no_call[] = {3, 7, 1, 2, 0, 0, 3, 9, 1, 3, 0, 0, 3, 9, 0, 0, 0, 0, 3, 2, 0, 0, 0, 0};
 static const uint8_t anything[] = {3, 1, 0, 0, 0, 0};
 
-/* The composed verdict of method 1, which calls method 2 again and again, where method 2 is not written and its call of 1 is bad: the answer's numbers, the trail or no
-   change in out, and zeros or no change in store and work. */
+/* The composed verdict of method 1, which calls method 2 again and again, where method 2 is not written and its call of 1 is bad. */
 static int composes(const uint8_t *property, size_t length, uint8_t start, struct lent lent, uint32_t verdict, uint32_t number)
 {
     static const uint8_t known[] = {5, 1, 2, 0, 0, 0}, other[] = {5, 2, 1, 0, 0, 0};
     static const uint8_t graph[] = {1, 1, 0, 1, 0, 0, 2, 0, 2, 0, 0, 0};
     static const uint8_t rules[] = {4, 0, 1, 2, 1, 7};
     static const uint8_t trail[] = {0, 0, 0, 0, 0, 0, 0, 0, 2, 2, 2, 0, 2, 0, 2, 1, 0, 7};
-    static const uint64_t records[4] = {sizeof trail / 6, 0, 0, 0};
-    static uint8_t out[MOST_OUT], store[MOST_WORK], work[MOST_WORK];
     struct tintboulder_answer a;
-    memset(out, 7, MOST_OUT);
-    memset(store, 7, MOST_WORK);
-    memset(work, 7, MOST_WORK);
-    a = tintboulder_compose(known, sizeof known, graph, sizeof graph, other, sizeof other, property, length, rules, sizeof rules, start, out, lent.out, store,
-                            lent.store, work, lent.work);
-    return gives(a, verdict, number, verdict == 2 ? records : no_values, out, trail, verdict == 2 ? sizeof trail : 0) && cleared(store, lent.store, number)
-        && cleared(work, lent.work, number);
+    fill_all();
+    a = tintboulder_compose(known, sizeof known, graph, sizeof graph, other, sizeof other, property, length, rules, sizeof rules, start, whole_out, lent.out,
+                            whole_store, lent.store, whole_work, lent.work);
+    return leaves(a, lent, verdict, number, trail, sizeof trail);
 }
 
 /* Clean by the property, and without it bad with three records; then the refusals by 3 and 10, for the start method, by 12, and by 13 for each of both buffers. */
@@ -206,6 +217,48 @@ static int wrong_composing(void)
     return !composes(no_call, sizeof no_call, 1, whole, 1, 0) + !composes(anything, n, 1, whole, 2, 0) + !composes(anything, n, 9, whole, 0, 3)
         + !composes(anything, n, 3, whole, 0, 10) + !composes(anything, n, 1, short_out, 0, 12) + !composes(anything, n, 1, short_store, 0, 13)
         + !composes(anything, n, 1, short_work, 0, 13) + (tintboulder_work(7) != whole.work) + (tintboulder_work(8) != whole.store);
+}
+
+/* Method 2, then two revisions of method 1, the higher one first; and one delivery twice. */
+static const uint8_t deliveries[] = {6, 2, 3, 0, 0, 0, 1, 2, 0, 1, 0, 0, 2, 0, 0, 0, 0, 0, 6, 1, 9, 0, 0, 0, 1, 1, 0, 1, 0, 0, 6, 1, 8, 0, 0, 0, 1, 1, 1, 1, 0, 0};
+static const uint8_t repeated[] = {6, 1, 1, 0, 0, 0, 6, 1, 1, 0, 0, 0};
+
+/* The standing graph, and of no byte an empty one; then an equal revision, a foreign node beside it, and an output that is a byte too short. */
+static int wrong_assembling(void)
+{
+    static const uint8_t standing[] = {1, 1, 0, 1, 0, 0, 1, 2, 0, 1, 0, 0, 2, 1, 0, 1, 0, 0};
+    static const uint8_t foreign[] = {6, 1, 1, 0, 0, 0, 6, 1, 1, 0, 0, 0, 1, 2, 0, 0, 0, 0};
+    static const uint64_t counts[4] = {2, 1, 0, 0}, at_node[4] = {1, 2, 0, 0};
+    uint8_t out[MOST_OUT];
+    int wrong = 0;
+    memset(out, 7, MOST_OUT);
+    wrong += !gives(tintboulder_assemble(NULL, 0, NULL, 0), 1, 0, no_values, out, standing, 0);
+    wrong += !gives(tintboulder_assemble(repeated, sizeof repeated, out, MOST_OUT), 0, 14, no_values, out, standing, 0);
+    wrong += !gives(tintboulder_assemble(foreign, sizeof foreign, out, MOST_OUT), 0, 8, at_node, out, standing, 0);
+    wrong += !gives(tintboulder_assemble(deliveries, sizeof deliveries, out, sizeof standing - 1), 0, 12, no_values, out, standing, 0);
+    wrong += !gives(tintboulder_assemble(deliveries, sizeof deliveries, out, sizeof standing + 2), 1, 0, counts, out, standing, sizeof standing);
+    return wrong;
+}
+
+/* Judging these deliveries by "in method 1". */
+static int judges(const uint8_t *file, size_t length, struct lent lent, uint32_t verdict, uint32_t number)
+{
+    static const uint8_t in_one[] = {3, 3, 1, 0, 0, 0};
+    static const uint8_t sheet[] = {1, 0, 0, 255, 0, 255};
+    struct tintboulder_answer a;
+    fill_all();
+    a = tintboulder_judge_deliveries(file, length, in_one, sizeof in_one, whole_out, lent.out, whole_store, lent.store, whole_work, lent.work);
+    return leaves(a, lent, verdict, number, sheet, sizeof sheet);
+}
+
+/* Fails at method 2's node, and holds where only method 1 is delivered; then the refusals by 14, by 12, and by 13 for each of both buffers. */
+static int wrong_judging_deliveries(void)
+{
+    static const struct lent whole = {8, 26112, 41664}, short_out = {5, 26112, 41664}, short_store = {6, 26111, 41664}, short_work = {6, 26112, 41663};
+    const size_t n = sizeof deliveries;
+    return !judges(deliveries, n, whole, 2, 0) + !judges(deliveries + 18, n - 18, whole, 1, 0) + !judges(repeated, sizeof repeated, whole, 0, 14)
+        + !judges(deliveries, n, short_out, 0, 12) + !judges(deliveries, n, short_store, 0, 13) + !judges(deliveries, n, short_work, 0, 13)
+        + (tintboulder_work(9) != whole.work) + (tintboulder_work(10) != whole.store);
 }
 
 /* A null pointer with length 0 is an empty slice: an empty graph is accepted, an empty property refused by 6; no room for a sheet is 12, no work buffer 13. */
@@ -244,6 +297,8 @@ int main(void)
     wrong += wrong_showing();
     wrong += wrong_watching();
     wrong += wrong_composing();
-    wrong += tintboulder_work(0) != 0;
+    wrong += wrong_assembling();
+    wrong += wrong_judging_deliveries();
+    wrong += (tintboulder_work(0) != 0) + (tintboulder_work(11) != 0);
     return wrong;
 }

@@ -1,10 +1,11 @@
-// The seven calls on files by name: argument 2 is the first file. `at` is the argument that names the output file, or 0.
+// The calls on files by name: argument 2 is the first file. `at` is the argument that names the output file, or 0.
 ghost use mathlib.Core.Path.{_≡_};
 ghost use lib.ListN.{length};
 use crate::arguments::number;
 use crate::load::load;
 use crate::load::load_two;
 use crate::refusals::say_refused;
+use crate::results::say_assembled;
 use crate::results::say_compared;
 use crate::results::say_joined;
 use crate::results::say_judged;
@@ -25,6 +26,12 @@ fn judge_buffer() -> [u8; Shape::ROOM]
     ensures { λ r. ⌜ 41664 ≡ length r ⌝ }
 {
     [0; Shape::ROOM]
+}
+
+fn store_buffer() -> [u8; Shape::STORE]
+    ensures { λ r. ⌜ 26112 ≡ length r ⌝ }
+{
+    [0; Shape::STORE]
 }
 
 fn compare_buffer() -> [u8; Sizes::ROOM]
@@ -58,6 +65,33 @@ pub fn judge(stdout: &mut [u8; BUFFERED], at: usize) {
             &graph[..graph_end],
             &property[..property_end],
             &mut out,
+            &mut work,
+        );
+        say_judged(stdout, answer, &out, &property[..property_end], at);
+    }
+}
+
+// The graph of the deliveries that stand, of a file that is loaded.
+pub fn assemble(stdout: &mut [u8; BUFFERED], deliveries: &[u8], at: usize) {
+    let mut out = io::large_buffer();
+    let answer = files::assemble(deliveries, &mut out);
+    say_assembled(stdout, answer, &out, at);
+}
+
+// That graph judged by the property, which is the file after the deliveries.
+pub fn judge_deliveries(stdout: &mut [u8; BUFFERED], deliveries: &[u8], at: usize) {
+    let mut property = io::large_buffer();
+    let p = load(stdout, 3, &mut property);
+    if p.ok {
+        let mut out = io::large_buffer();
+        let mut store = store_buffer();
+        let mut work = judge_buffer();
+        let property_end = p.length;
+        let answer = judging::judge_deliveries(
+            deliveries,
+            &property[..property_end],
+            &mut out,
+            &mut store,
             &mut work,
         );
         say_judged(stdout, answer, &out, &property[..property_end], at);

@@ -2,7 +2,7 @@
 use printing::say;
 use printing::stdout::BUFFERED;
 
-// The seven calls.
+// The calls on graphs.
 fn say_calls(stdout: &mut [u8; BUFFERED]) {
     say(
         stdout,
@@ -34,6 +34,18 @@ fn say_calls(stdout: &mut [u8; BUFFERED]) {
     );
 }
 
+// The calls on deliveries.
+fn say_deliveries(stdout: &mut [u8; BUFFERED]) {
+    say(
+        stdout,
+        b"checker assemble DELIVERIES                                 the graph of the deliveries that stand\n",
+    );
+    say(
+        stdout,
+        b"checker judge-deliveries DELIVERIES PROPERTY                does that graph satisfy the property?\n",
+    );
+}
+
 // Listings and pictures.
 fn say_views(stdout: &mut [u8; BUFFERED]) {
     say(
@@ -58,8 +70,22 @@ fn say_views(stdout: &mut [u8; BUFFERED]) {
     );
 }
 
+// What a delivery is, and how long a file may be.
+fn say_files(stdout: &mut [u8; BUFFERED]) {
+    say(
+        stdout,
+        b"\nA delivery is a record 6, method, revision 1 to 255, 0, 0, 0, then that method's nodes and edges, its nodes numbered from 0. A file of deliveries holds any number of them;\n",
+    );
+    say(
+        stdout,
+        b"for each method the highest revision stands, and a sheet has the numbers of the graph that assemble writes. A file of deliveries, and one for text or pack, is read up to\n",
+    );
+    say(stdout, b"6,670,800 bytes, every other up to 65,536.\n");
+}
+
 pub fn say_help(stdout: &mut [u8; BUFFERED]) {
     say_calls(stdout);
+    say_deliveries(stdout);
     say_views(stdout);
     say(stdout, b"\n");
     say(
@@ -70,4 +96,5 @@ pub fn say_help(stdout: &mut [u8; BUFFERED]) {
         stdout,
         b"graph, record or trail follow as decimals, a record a line, in a sheet, relation or trail with a note behind a #; with -o FILE as the last two\narguments their bytes go to FILE instead.\n",
     );
+    say_files(stdout);
 }

@@ -15,6 +15,7 @@ mod dot;
 mod help;
 mod lit;
 mod load;
+mod long;
 mod notes;
 mod pack;
 mod ranges;
@@ -93,16 +94,26 @@ fn less(count: usize, words: usize) -> usize {
     if count < words { 0 } else { count - words }
 }
 
-fn run_on_listings(stdout: &mut [u8; BUFFERED], given: usize, at: usize) -> bool {
-    if is_word(1, b"text") {
+fn run_on_deliveries(stdout: &mut [u8; BUFFERED], given: usize, at: usize) -> bool {
+    if is_word(1, b"assemble") {
         if takes(stdout, given, 1) {
-            text::text(stdout);
+            long::run(stdout, at);
         }
         return true;
     }
-    if is_word(1, b"pack") {
+    if is_word(1, b"judge-deliveries") {
+        if takes(stdout, given, 2) {
+            long::run(stdout, at);
+        }
+        return true;
+    }
+    false
+}
+
+fn run_on_listings(stdout: &mut [u8; BUFFERED], given: usize, at: usize) -> bool {
+    if is_word(1, b"text") | is_word(1, b"pack") {
         if takes(stdout, given, 1) {
-            pack::pack(stdout, at);
+            long::run(stdout, at);
         }
         return true;
     }
@@ -152,6 +163,9 @@ fn run(stdout: &mut [u8; BUFFERED]) {
         return;
     }
     if run_on_sides(stdout, given, at) {
+        return;
+    }
+    if run_on_deliveries(stdout, given, at) {
         return;
     }
     if run_on_listings(stdout, given, at) {

@@ -2,7 +2,6 @@
 // nothing.
 use crate::arguments::is_digit;
 use crate::arguments::longer;
-use crate::load::load;
 use crate::load::save;
 use printing::at_most;
 use printing::end_of;
@@ -10,8 +9,8 @@ use printing::say;
 use printing::say_number;
 use printing::stdout::BUFFERED;
 
-// Lines are counted up to this.
-const MOST: usize = 100000;
+// Lines are counted up to this: more than the longest listing that is read has.
+const MOST: usize = 10000000;
 
 // Where the reading of a listing stands: so many bytes are written, on this line, inside a comment, inside a decimal of this value, and all was right so far.
 pub struct Packing {
@@ -87,7 +86,8 @@ fn step(p: Packing, b: u8, out: &mut [u8]) -> Packing {
     wrong(p)
 }
 
-fn pack_all(listing: &[u8], out: &mut [u8]) -> Packing {
+// A byte takes the place of a part of the listing that is read: it is written at the end of its decimal, and every decimal before it has a digit and a byte behind it.
+fn pack_all(listing: &mut [u8]) -> Packing {
     let mut p = Packing {
         bytes: 0,
         line: 1,
@@ -98,11 +98,12 @@ fn pack_all(listing: &[u8], out: &mut [u8]) -> Packing {
     };
     let mut i = 0;
     while i < listing.len() {
-        let w = step(p, listing[i], out);
+        let b = listing[i];
+        let w = step(p, b, listing);
         p = w;
         i += 1;
     }
-    ended(p, out)
+    ended(p, listing)
 }
 
 fn give(stdout: &mut [u8; BUFFERED], out: &[u8], p: Packing, at: usize) {
@@ -120,13 +121,8 @@ fn give(stdout: &mut [u8; BUFFERED], out: &[u8], p: Packing, at: usize) {
     }
 }
 
-pub fn pack(stdout: &mut [u8; BUFFERED], at: usize) {
-    let mut listing = io::large_buffer();
-    let f = load(stdout, 2, &mut listing);
-    if f.ok {
-        let end = f.length;
-        let mut out = io::large_buffer();
-        let p = pack_all(&listing[..end], &mut out);
-        give(stdout, &out, p, at);
-    }
+// The listing is spent: its bytes stand where it stood.
+pub fn pack(stdout: &mut [u8; BUFFERED], listing: &mut [u8], at: usize) {
+    let p = pack_all(listing);
+    give(stdout, listing, p, at);
 }

@@ -23,7 +23,10 @@ fn say_record_fault(stdout: &mut [u8; BUFFERED], number: u8) {
         say(stdout, b"node or row number past the last");
     }
     if number == 8 {
-        say(stdout, b"edge between two methods");
+        say(
+            stdout,
+            b"edge between two methods, or node of another method than its delivery's",
+        );
     }
     if number == 9 {
         say(stdout, b"graph not of its interface");
@@ -69,7 +72,7 @@ fn say_call_fault(stdout: &mut [u8; BUFFERED], number: u8) {
     if number == 11 {
         say(
             stdout,
-            b"model or joined graph would pass 256 nodes or 4,096 edges",
+            b"model, joined or standing graph would pass 256 nodes or 4,096 edges",
         );
     }
     if number == 12 {
@@ -77,6 +80,9 @@ fn say_call_fault(stdout: &mut [u8; BUFFERED], number: u8) {
     }
     if number == 13 {
         say(stdout, b"work buffer shorter than published");
+    }
+    if number == 14 {
+        say(stdout, b"two deliveries of one method with equal revision");
     }
 }
 

@@ -5,6 +5,7 @@ use crate::notes::say_relation;
 use crate::notes::say_sheet;
 use crate::notes::say_trail;
 use crate::refusals::say_refused;
+use files::answers::Assembled;
 use files::encode::LINE;
 use files::record::Record;
 use judging::answers::Compared;
@@ -120,14 +121,24 @@ pub fn say_compared(
     }
 }
 
+// A graph of which nothing is told but its counts.
+fn say_written(stdout: &mut [u8; BUFFERED], out: &[u8], nodes: usize, edges: usize, at: usize) {
+    say_counts(stdout, nodes, edges);
+    say(stdout, b"\n");
+    give_graph(stdout, out, nodes, edges, at);
+}
+
 pub fn say_modelled(stdout: &mut [u8; BUFFERED], answer: Modelled, out: &[u8], at: usize) {
     match answer {
-        Modelled::Written(nodes, edges) => {
-            say_counts(stdout, nodes, edges);
-            say(stdout, b"\n");
-            give_graph(stdout, out, nodes, edges, at);
-        }
+        Modelled::Written(nodes, edges) => say_written(stdout, out, nodes, edges, at),
         Modelled::Refused(r) => say_refused(stdout, r),
+    }
+}
+
+pub fn say_assembled(stdout: &mut [u8; BUFFERED], answer: Assembled, out: &[u8], at: usize) {
+    match answer {
+        Assembled::Written { nodes, edges } => say_written(stdout, out, nodes, edges, at),
+        Assembled::Refused(r) => say_refused(stdout, r),
     }
 }
 

@@ -1,7 +1,6 @@
 // `checker text`: a file as a readable listing. A record is its six decimals, then after a # what it says; `checker pack` reads such a listing back.
 ghost use Prim.Native.Nat.{_+_, _*_, _≤_};
 ghost use lib.ListN.{length};
-use crate::load::load;
 use files::record::Operator;
 use files::record::Record;
 use printing::say;
@@ -27,6 +26,11 @@ fn say_node(stdout: &mut [u8; BUFFERED], i: usize, method: u8, returns: u8, entr
     say_field(stdout, method);
     say_flag(stdout, returns, b", return");
     say_flag(stdout, entry, b", entry");
+}
+
+fn say_opening(stdout: &mut [u8; BUFFERED], method: u8, revision: u8) {
+    say_about(stdout, b"delivery of method", method);
+    say_about(stdout, b", revision", revision);
 }
 
 fn say_edge(stdout: &mut [u8; BUFFERED], from: u8, label: u8, to: u8) {
@@ -134,7 +138,7 @@ fn say_interface(stdout: &mut [u8; BUFFERED], provided: u8, required: u8) {
     say_methods(stdout, required);
 }
 
-// What record i says, whose six bytes these are.
+// What a record says, whose six bytes these are, and which is record i behind the last opening.
 fn say_meaning(stdout: &mut [u8; BUFFERED], i: usize, r: &[u8])
     requires { ⌜ 6 ≤ length (now r) ⌝ }
 {
@@ -145,6 +149,7 @@ fn say_meaning(stdout: &mut [u8; BUFFERED], i: usize, r: &[u8])
         Record::ROW => say_row(stdout, i, r[1], r[2], r[3]),
         Record::RULE => say_rule(stdout, r[1], r[2], r[3], r[4], r[5]),
         Record::INTERFACE => say_interface(stdout, r[1], r[2]),
+        Record::OPENING => say_opening(stdout, r[1], r[2]),
         _ => say(stdout, b"no record of this kind"),
     }
 }
@@ -172,13 +177,19 @@ pub fn say_record(stdout: &mut [u8; BUFFERED], file: &[u8], i: usize)
     say(stdout, b" # ");
 }
 
-fn say_line(stdout: &mut [u8; BUFFERED], file: &[u8], i: usize)
-    requires { ⌜ 6 * i + 6 ≤ length (now file) ⌝ }
+// The line of record i, the k-th behind the last opening. Answers the k of the next record: a delivery numbers its nodes from 0.
+fn say_line(stdout: &mut [u8; BUFFERED], file: &[u8], i: usize, k: usize) -> usize
+    requires { ⌜ (6 * i + 6 ≤ length (now file)) × (k ≤ i) ⌝ }
+    ensures { λ r. ⌜ r ≤ i + 1 ⌝ }
 {
     let p = Record::LEN * i;
     say_record(stdout, file, i);
-    say_meaning(stdout, i, &file[p..p + Record::LEN]);
+    say_meaning(stdout, k, &file[p..p + Record::LEN]);
     say(stdout, b"\n");
+    if file[p] == Record::OPENING {
+        return 0;
+    }
+    k + 1
 }
 
 // The bytes after the last whole record.
@@ -190,21 +201,13 @@ fn say_rest(stdout: &mut [u8; BUFFERED], file: &[u8]) {
     }
 }
 
-fn list(stdout: &mut [u8; BUFFERED], file: &[u8]) {
+pub fn list(stdout: &mut [u8; BUFFERED], file: &[u8]) {
     let end = file.len() / Record::LEN;
+    let mut k = 0;
     let mut i = 0;
     while i < end {
-        say_line(stdout, file, i);
+        k = say_line(stdout, file, i, k);
         i += 1;
     }
     say_rest(stdout, file);
-}
-
-pub fn text(stdout: &mut [u8; BUFFERED]) {
-    let mut file = io::large_buffer();
-    let f = load(stdout, 2, &mut file);
-    if f.ok {
-        let end = f.length;
-        list(stdout, &file[..end]);
-    }
 }

@@ -1,4 +1,5 @@
 // The line of each call's answer, and what it wrote as decimals.
+use files::answers::Assembled;
 use files::check::Checked;
 use files::refusal::Refusal;
 use judging::answers::Compared;
@@ -67,16 +68,29 @@ pub(crate) fn say_compared(stdout: &mut [u8; BUFFERED], answer: Compared, out: &
     }
 }
 
+// A graph of so many nodes and edges that stands in the output.
+fn say_written(stdout: &mut [u8; BUFFERED], nodes: usize, edges: usize, out: &[u8]) {
+    say(stdout, b": written");
+    say_number(stdout, nodes as u64);
+    say_number(stdout, edges as u64);
+    say(stdout, b"\n");
+    say_graph(stdout, out, nodes, edges);
+}
+
 pub(crate) fn say_modelled(stdout: &mut [u8; BUFFERED], answer: Modelled, out: &[u8]) {
     match answer {
-        Modelled::Written(nodes, edges) => {
-            say(stdout, b": written");
-            say_number(stdout, nodes as u64);
-            say_number(stdout, edges as u64);
-            say(stdout, b"\n");
-            say_graph(stdout, out, nodes, edges);
-        }
+        Modelled::Written(nodes, edges) => say_written(stdout, nodes, edges, out),
         Modelled::Refused(r) => {
+            say_refused(stdout, r);
+            say(stdout, b"\n");
+        }
+    }
+}
+
+pub(crate) fn say_assembled(stdout: &mut [u8; BUFFERED], answer: Assembled, out: &[u8]) {
+    match answer {
+        Assembled::Written { nodes, edges } => say_written(stdout, nodes, edges, out),
+        Assembled::Refused(r) => {
             say_refused(stdout, r);
             say(stdout, b"\n");
         }

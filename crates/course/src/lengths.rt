@@ -16,7 +16,7 @@ pub(crate) fn two_bytes(example: &[u8], i: usize) -> usize
     wide(example[i]) + 256 * wide(example[i + 1])
 }
 
-// The published length of the call that a letter names, where the flag is 1.
+// The published length of the work buffer of the call that a letter names, or of the store that d is lent; 0 where the flag is 0.
 pub(crate) fn work_length(letter: u8, flag: u8) -> usize
     ensures { λ r. ⌜ r ≤ 165152 ⌝ }
 {
@@ -25,6 +25,9 @@ pub(crate) fn work_length(letter: u8, flag: u8) -> usize
     }
     if letter == b'j' {
         return Shape::ROOM;
+    }
+    if letter == b'd' {
+        return Shape::STORE;
     }
     if letter == b'm' {
         return Places::ROOM;

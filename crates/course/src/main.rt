@@ -1,8 +1,11 @@
 // Runs the examples of data/ through the proved code, one after the other as the arguments name them. The first letter of a name tells what its file is: a graph,
 // property, rule or interface file is checked, and its line has `accepted`, nodes and records, or `refused`, number, file and record; `judge`, `compare` and
 // `model` name a call on two files, `join` (by its second letter) one on two sides, `show` one on two graphs and a number, `watch` one on three files and a
-// start method and `compose` (by its fifth letter) one on five, and the verdict's line is followed by the records or the relation's lines that it wrote.
+// start method, `compose` (by its fifth letter) one on five, `assemble` one on deliveries and `deliveries` one on them and a property, and the verdict's line is
+// followed by the records or the relation's lines that it wrote.
 use crate::answers::say_checked;
+use crate::deliveries::assemble_standing;
+use crate::deliveries::judge_standing;
 use crate::pairs::call;
 use crate::pairs::check;
 use crate::sides::join_sides;
@@ -15,6 +18,7 @@ use printing::stdout::flush;
 use printing::stdout::stdout;
 
 mod answers;
+mod deliveries;
 mod lengths;
 mod pairs;
 mod sides;
@@ -22,6 +26,39 @@ mod watched;
 
 // Room for the longest example: 257 nodes or 4,097 edges with their nodes.
 const LONGEST: usize = 60000;
+
+// Runs an example by the first, second and fifth letter of its name.
+fn run(stdout: &mut [u8; BUFFERED], first: u8, second: u8, fifth: u8, file: &[u8]) {
+    if (first == b'j') & (second == b'o') {
+        join_sides(stdout, file);
+        return;
+    }
+    if first == b's' {
+        show_node(stdout, file);
+        return;
+    }
+    if first == b'w' {
+        watch_runs(stdout, file);
+        return;
+    }
+    if (first == b'c') & (fifth == b'o') {
+        compose_sides(stdout, file);
+        return;
+    }
+    if first == b'a' {
+        assemble_standing(stdout, file);
+        return;
+    }
+    if first == b'd' {
+        judge_standing(stdout, file);
+        return;
+    }
+    if (first == b'j') | (first == b'c') | (first == b'm') {
+        call(stdout, first, file);
+        return;
+    }
+    say_checked(stdout, check(first, file));
+}
 
 // The example that argument i names.
 fn one(stdout: &mut [u8; BUFFERED], i: usize) {
@@ -36,27 +73,7 @@ fn one(stdout: &mut [u8; BUFFERED], i: usize) {
     let n = io::read_full(fd, &mut file);
     libc::close(fd);
     say(stdout, &name[..length]);
-    if (name[0] == b'j') & (name[1] == b'o') {
-        join_sides(stdout, &file[..n]);
-        return;
-    }
-    if name[0] == b's' {
-        show_node(stdout, &file[..n]);
-        return;
-    }
-    if name[0] == b'w' {
-        watch_runs(stdout, &file[..n]);
-        return;
-    }
-    if (name[0] == b'c') & (name[4] == b'o') {
-        compose_sides(stdout, &file[..n]);
-        return;
-    }
-    if (name[0] == b'j') | (name[0] == b'c') | (name[0] == b'm') {
-        call(stdout, name[0], &file[..n]);
-        return;
-    }
-    say_checked(stdout, check(name[0], &file[..n]));
+    run(stdout, name[0], name[1], name[4], &file[..n]);
 }
 
 fn main() {

@@ -11,6 +11,7 @@ use Rattle.files.specs.declared.refusal.Refusal.{Refusal}
 use Rattle.files.specs.Outcome.{Outcome, refuses, says, refusal-at, answer, out-after, work-after}
 use Rattle.files.specs.Outcome as outcome
 use Rattle.judging.specs.Compare.{compare-room}
+use Rattle.judging.specs.Delivered.{deliveries-store}
 use Rattle.judging.specs.Judge.{judge-room}
 use Rattle.maximal.specs.Modelling.{model-room}
 use Rattle.runs.specs.Composing.{compose-store, compose-work}
@@ -58,7 +59,8 @@ abbrev pub fitting : ℕ → Outcome → Outcome
 fitting out (refuses r) = refuses r
 fitting out (says s) = cond (ltb out (length (s .written))) (refuses (refusal-at 12 0 0)) (says s)
 
--- the published length of a call's work buffer, by the call's number; 8 is the composed verdict's `store`
+-- the published length of a call's work buffer, by the call's number; 8 is the composed verdict's `store`, 9 is judging deliveries, 10 its `store`
 abbrev pub work-lengths : ℕ → ℕ
 work-lengths call =
-    cond (eqb call 1) judge-room (cond (eqb call 2) compare-room (cond (eqb call 3) model-room (cond (eqb call 6) watch-room (cond (eqb call 7) compose-work (cond (eqb call 8) compose-store 0)))))
+    cond (eqb call 1) judge-room (cond (eqb call 2) compare-room (cond (eqb call 3) model-room (cond (eqb call 6) watch-room (cond (eqb call 7) compose-work
+    (cond (eqb call 8) compose-store (cond (eqb call 9) judge-room (cond (eqb call 10) deliveries-store 0)))))))

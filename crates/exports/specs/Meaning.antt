@@ -4,11 +4,17 @@ use mathlib.Core.Path.{_≡_, refl, sym, ap, subst, _∙_}
 use mathlib.Core.List.{List, [], _∷_}
 use Prim.Native.Nat.{ℕ}
 use lib.ListN.{length}
+use Rattle.files.specs.Assemble.{assembled-outcome, assembled-answer}
+use Rattle.files.specs.Assemble.Meaning.{AssembleMeans, assembled-of, assemble-case, assemble-tells}
 use Rattle.files.specs.Limits.{desk}
 use Rattle.files.specs.Outcome as outcome
 use Rattle.files.specs.Outcome.Meaning.{Heard}
+use Rattle.files.specs.declared.answers.Assembled.{Assembled}
+use Rattle.files.specs.declared.answers.Assembled.the-variants as assembled-variants
 use Rattle.judging.specs.Compare.{compared, compared-answer}
 use Rattle.judging.specs.Compare.Meaning.{CompareMeans, compared-of, compare-case, compare-tells}
+use Rattle.judging.specs.Delivered.{delivered}
+use Rattle.judging.specs.Delivered.Meaning.{DeliveredMeans, delivered-case, delivered-tells}
 use Rattle.judging.specs.Judge.{judged, judged-answer}
 use Rattle.judging.specs.Judge.Meaning.{JudgeMeans, judged-of, judge-case, judge-tells}
 use Rattle.judging.specs.declared.answers.Compared.{Compared}
@@ -75,6 +81,17 @@ modelled-heard = record { hear = λ a. modelled-of (as-answer a); hears = back }
     back (modelled-variants.Written n e) = refl
     back (modelled-variants.Refused x) = refl
 
+-- assembling: verdict 1 written, with nodes and edges
+abbrev pub assembled-numbers : Assembled → Answer
+assembled-numbers c = answer-numbers (assembled-answer c)
+
+assembled-heard : Heard assembled-numbers
+assembled-heard = record { hear = λ a. assembled-of (as-answer a); hears = back }
+  where
+    back : (c : Assembled) → assembled-of (as-answer (assembled-numbers c)) ≡ c
+    back (assembled-variants.Written n e) = refl
+    back (assembled-variants.Refused x) = refl
+
 -- joining: verdict 1 written, with nodes, edges, provided and required methods
 abbrev pub joined-numbers : Joined → Answer
 joined-numbers c = answer-numbers (joined-answer c)
@@ -120,6 +137,20 @@ model-exported i p out work out′ work′ a gives =
     let c = model-case desk i p (length out) (length work) in
     subst (ModelMeans modelled-numbers desk i p out work out′ work′) (sym (gives .numbers-are ∙ ap answer-numbers (sym (c .1))))
     (model-tells modelled-numbers modelled-heard desk i p out work out′ work′ (c .0) (record { answers = record { answer-is = c .1; out-is = gives .out-is }; work-is = gives .work-is }))
+
+pub assemble-exported : (l out out′ : List ℕ) (a : Answer) → GivesOut (assembled-outcome desk l (length out)) out out′ a → AssembleMeans assembled-numbers desk l out out′ a
+assemble-exported l out out′ a gives =
+    let c = assemble-case desk l (length out) in
+    subst (AssembleMeans assembled-numbers desk l out out′) (sym (gives .numbers-are ∙ ap answer-numbers (sym (c .1))))
+    (assemble-tells assembled-numbers assembled-heard desk l out out′ (c .0) (record { answer-is = c .1; out-is = gives .out-is }))
+
+pub delivered-exported : (l p out store work out′ store′ work′ : List ℕ) (a : Answer)
+    → GivesBoth (delivered desk l p (length out) (length store) (length work)) out store work out′ store′ work′ a → DeliveredMeans judged-numbers desk l p out store work out′ store′ work′ a
+delivered-exported l p out store work out′ store′ work′ a gives =
+    let c = delivered-case desk l p (length out) (length store) (length work) in
+    subst (DeliveredMeans judged-numbers desk l p out store work out′ store′ work′) (sym (gives .numbers-are ∙ ap answer-numbers (sym (c .1))))
+    (delivered-tells judged-numbers judged-heard desk l p out store work out′ store′ work′ (c .0)
+    (record { answers = record { answer-is = c .1; out-is = gives .out-is }; store-is = gives .store-is; work-is = gives .work-is }))
 
 pub join-exported : (i1 g1 i2 g2 out out′ : List ℕ) (a : Answer) → GivesOut (joined desk i1 g1 i2 g2 (length out)) out out′ a
     → JoinMeans joined-numbers desk i1 g1 i2 g2 out out′ a

@@ -2,11 +2,13 @@
 ghost use mathlib.Core.Path.{_≡_};
 ghost use Rattle.files.specs.Limits.{desk};
 ghost use Rattle.files.specs.Refusal.{graph, property, rules, interface};
+ghost use Rattle.files.specs.Assemble.{assembled-outcome, assembled-answer};
 ghost use Rattle.files.specs.Checking.{checked};
 ghost use Rattle.files.specs.Outcome.{says};
 ghost use lib.ListN.{length};
 ghost use Rattle.judging.specs.Judge.{judged, judged-answer};
 ghost use Rattle.judging.specs.Compare.{compared, compared-answer};
+ghost use Rattle.judging.specs.Delivered.{delivered};
 ghost use Rattle.maximal.specs.Modelling.{modelled, modelled-answer};
 ghost use Rattle.runs.specs.Composing.{composed};
 ghost use Rattle.runs.specs.Joining.{joined, joined-answer};
@@ -14,6 +16,7 @@ ghost use Rattle.runs.specs.Showing.{shown, part-said};
 ghost use Rattle.runs.specs.Answer.{watched-answer};
 ghost use Rattle.runs.specs.Watching.{watched};
 ghost use Rattle.exports.specs.Boundary.{refused-numbers, checked-numbers, answer-numbers, Gives, GivesBoth, GivesOut, fitting, work-lengths};
+use files::answers::Assembled;
 use files::cells::copy_at;
 use files::check::Checked;
 use files::record::Limits;
@@ -206,6 +209,44 @@ pub extern "C" fn tintboulder_model(
     modelled_answer(maximal::model(interface, property, out, work))
 }
 
+fn assembled_answer(a: Assembled) -> Answer
+    ensures { λ r. ⌜ r ≡ answer-numbers (assembled-answer a) ⌝ }
+{
+    match a {
+        Assembled::Written { nodes, edges } => Answer {
+            verdict: 1,
+            number: 0,
+            first: nodes as u64,
+            second: edges as u64,
+            third: 0,
+            fourth: 0,
+        },
+        Assembled::Refused(r) => refused(r),
+    }
+}
+
+// Assembles a file of deliveries: verdict 1 written, with nodes and edges of the standing graph; its graph file is written to `out`.
+#[no_mangle]
+pub extern "C" fn tintboulder_assemble(deliveries: &[u8], out: &mut [u8]) -> Answer
+    ensures { λ a. ⌜ GivesOut (assembled-outcome desk (now (deliveries .entry)) (length (now (out .entry)))) (now (out .entry)) (now (out .exit)) a ⌝ }
+{
+    assembled_answer(files::assemble(deliveries, out))
+}
+
+// Judges the standing graph of a file of deliveries against a property: as `tintboulder_judge`, the fault sheet in the standing graph's numbers.
+#[no_mangle]
+pub extern "C" fn tintboulder_judge_deliveries(
+    deliveries: &[u8],
+    property: &[u8],
+    out: &mut [u8],
+    store: &mut [u8],
+    work: &mut [u8],
+) -> Answer
+    ensures { λ a. ⌜ GivesBoth (delivered desk (now (deliveries .entry)) (now (property .entry)) (length (now (out .entry))) (length (now (store .entry))) (length (now (work .entry)))) (now (out .entry)) (now (store .entry)) (now (work .entry)) (now (out .exit)) (now (store .exit)) (now (work .exit)) a ⌝ }
+{
+    judged_answer(judging::judge_deliveries(deliveries, property, out, store, work))
+}
+
 fn joined_answer(j: Joined) -> Answer
     ensures { λ a. ⌜ a ≡ answer-numbers (joined-answer j) ⌝ }
 {
@@ -343,7 +384,7 @@ pub extern "C" fn tintboulder_compose(
     ))
 }
 
-// The published length of a call's work buffer: 1 is judge, 2 compare, 3 model, 6 watch, 7 compose, 8 compose's store; 0 for other numbers.
+// The published length of a call's work buffer: 1 is judge, 2 compare, 3 model, 6 watch, 7 compose, 8 compose's store, 9 judge_deliveries, 10 its store; 0 for other numbers.
 #[no_mangle]
 pub extern "C" fn tintboulder_work(call: u64) -> u64
     ensures { λ n. ⌜ n ≡ work-lengths call ⌝ }
@@ -365,6 +406,12 @@ pub extern "C" fn tintboulder_work(call: u64) -> u64
     }
     if call == 8 {
         return Regions::ROOM as u64;
+    }
+    if call == 9 {
+        return Shape::ROOM as u64;
+    }
+    if call == 10 {
+        return Shape::STORE as u64;
     }
     0
 }

@@ -6,6 +6,7 @@ use lib.Bits.{bitOr}
 use lib.Dec.{eqb}
 use lib.ListN.{length, getD, set, take, drop}
 pub mod Laws
+pub mod Wrote
 
 -- the number of n bytes from p on, low byte first
 pub little : List ℕ → ℕ → ℕ → ℕ

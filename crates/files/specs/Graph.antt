@@ -4,6 +4,7 @@ use mathlib.Core.Bool.{Bool, false}
 use mathlib.Core.List.{List, List·Memᴰ}
 use Prim.Native.Nat.{ℕ, _<_}
 use lib.ListN.{length, getD}
+pub mod Ends
 
 -- "method 1..8, return 0/1, entry 0/1"
 pub record Node : Type 0 where

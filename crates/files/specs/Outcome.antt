@@ -18,6 +18,7 @@ use Rattle.files.specs.Decode.{graph-bytes}
 pub mod Calls
 pub mod Laws
 pub mod Ends
+pub mod Counted
 pub mod Order
 pub mod Meaning
 

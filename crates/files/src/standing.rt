@@ -1,12 +1,11 @@
-// 14 of a file of deliveries, and which of them stand. States of `repeats` that it tells 14, and of `latest_opening` that it is the opening kept by one pass over the file, which
-// `latest-stands` says is that of the highest revision.
+// 14 of a file of deliveries, and which of them stand. States of `repeats` that it tells 14, and of `latest_openings` that it has, for each method, the opening kept by one pass
+// over the file, which `latest-stands` says is that of the highest revision.
 ghost use mathlib.Core.Path.{_≡_};
-ghost use mathlib.Core.Bool.{cond};
 ghost use Prim.Native.Nat.{_+_, _≤_, _<_};
 ghost use lib.ListN.{length};
 ghost use Rattle.files.specs.Record.{count};
 ghost use Rattle.files.specs.Deliveries.{decode-deliveries, repeated};
-ghost use Rattle.files.specs.Deliveries.Latest.{kept-revision, later-opening, latest};
+ghost use Rattle.files.specs.Deliveries.Latest.{kept-revision, Latest};
 ghost use Rattle.files.specs.Deliveries.Met.{issue-at, IssuesIn, meets, met-next};
 use crate::cells::has_bit;
 use crate::cells::put_bit;
@@ -16,6 +15,9 @@ use crate::record::Record;
 
 // A bit for each method from 0 to 8 and each revision.
 const ISSUES: usize = 288;
+
+// A place for each method from 0 to 8.
+pub const METHODS: usize = 9;
 
 // The method and the revision of the delivery that record i opens, in one number.
 fn issue_at(file: &[u8], i: usize) -> usize
@@ -69,33 +71,32 @@ fn kept_revision(file: &[u8], kept: usize) -> u8
     opening.second
 }
 
-// What is kept of a method after record i.
-fn later_of(file: &[u8], method: u8, kept: usize, i: usize) -> usize
-    requires { ⌜ (i < count (now file)) × (kept ≤ i) ⌝ }
-    ensures { λ r. ⌜ r ≡ cond (later-opening (now (file .entry)) method kept i) (i + 1) kept ⌝ }
+// Keeps record i, if it opens a delivery of a higher revision than the one kept of its method.
+fn keep_later(file: &[u8], kept: &mut [usize; METHODS], i: usize)
+    requires { ⌜ (i < count (now file)) × ((IssuesIn (now file)) × (Latest (now file) (now kept) i)) ⌝ }
+    ensures { λ _. ⌜ Latest (now (file .entry)) (now (kept .exit)) (i + 1) ⌝ }
 {
     if !(kind_at(file, i) == Record::OPENING) {
-        return kept;
+        return;
     }
     let opening = read(file, i);
-    if !(opening.first == method) {
-        return kept;
+    let method = opening.first as usize;
+    if opening.second <= kept_revision(file, kept[method]) {
+        return;
     }
-    if opening.second <= kept_revision(file, kept) {
-        return kept;
-    }
-    i + 1
+    kept[method] = i + 1;
 }
 
-// The opening of a method's delivery that stands, as its record + 1; 0 where none does.
-pub(crate) fn latest_opening(file: &[u8], method: u8) -> usize
-    ensures { λ r. ⌜ r ≡ latest (now (file .entry)) method (count (now (file .entry))) ⌝ }
+// The openings of the deliveries that stand, by method, each as its record + 1; 0 where none does.
+pub fn latest_openings(file: &[u8]) -> [usize; METHODS]
+    requires { ⌜ IssuesIn (now file) ⌝ }
+    ensures { λ r. ⌜ Latest (now (file .entry)) r (count (now (file .entry))) ⌝ }
 {
     let n = file.len() / Record::LEN;
-    let mut kept = 0;
+    let mut kept = [0usize; METHODS];
     let mut i = 0;
     while i < n {
-        kept = later_of(file, method, kept, i);
+        keep_later(file, &mut kept, i);
         i += 1;
     }
     kept

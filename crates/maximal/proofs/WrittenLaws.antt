@@ -4,17 +4,17 @@ use mathlib.Core.Bool.{Bool, true, false}
 use mathlib.Core.List.{List, [], _∷_, _++_, append-nil}
 use Prim.Native.Nat.{ℕ, zero, suc, _+_, _*_, _/_, _%_, _≤_, _<_}
 use native.Mathlib.Decide.{ℕ-discrete}
-use native.Mathlib.Nat.{add-zero}
 use native.Mathlib.Numerals.{add-one}
 use native.Mathlib.Omega.{arith}
 use lib.Dec.{eqb}
-use lib.ListN.{length, take, drop, length-append, take-append-drop}
+use lib.ListN.{length, drop}
 use borrow.Author.Tests.{eq-eqb, ne-eqb}
 use Rattle.files.specs.Basics.Lists.{put, keep, each, each-append, span}
 use Rattle.files.specs.Basics.Tables.{tally}
 use Rattle.files.specs.Basics.Tests.{one}
 use Rattle.files.specs.Cells.{put-at}
-use Rattle.files.specs.Cells.Laws.{put-at-is, put-front, put-after}
+use Rattle.files.specs.Cells.Laws.{put-front, put-after}
+use Rattle.files.specs.Cells.Wrote.{Wrote, wrote-more}
 use Rattle.files.specs.Decode.{graph-bytes}
 use Rattle.files.specs.Interface.{Interface}
 use Rattle.files.specs.Property.{Row, Property}
@@ -45,32 +45,6 @@ climbs f up n (suc m) h = go (climbs f up n m) (ℕ-discrete n (suc m))
     go : (n ≤ m → f n ≤ f m) → Dec (n ≡ suc m) → f n ≤ f (suc m)
     go g (yes e) = omega (arith, ap f e)
     go g (no d) = omega (arith, up m, g (omega arith))
-
--- ---- records, written one after another
-
--- the bytes xs stand in `out` from record `at` on up to record `end`, and all else is as it was
-pub record Wrote (out₀ out : List ℕ) (at end : ℕ) (xs : List ℕ) : Type 0 where
-  pub as-long : length out ≡ length out₀
-  pub bytes : out ≡ put-at out₀ (6 * at) xs
-  pub up-to : 6 * end ≡ 6 * at + length xs
-
-pub wrote-none : (out : List ℕ) (at : ℕ) → Wrote out out at at []
-wrote-none out at = record {
-  as-long = refl;
-  bytes = sym (put-at-is out p [] ∙ ap (λ (k : ℕ). take p out ++ [] ++ drop k out) (add-zero p) ∙ ap (λ (r : List ℕ). r ++ drop p out) (append-nil (take p out)) ∙ take-append-drop p out);
-  up-to = omega arith;
-}
-  where
-    p : ℕ
-    p = 6 * at
-
-pub wrote-more : (out₀ out out′ : List ℕ) (at end end′ : ℕ) (xs ys zs : List ℕ) → 6 * at ≤ length out₀ → zs ≡ xs ++ ys → Wrote out₀ out at end xs
-    → out′ ≡ put-at out (6 * end) ys → length out′ ≡ length out → 6 * end′ ≡ 6 * end + length ys → Wrote out₀ out′ at end′ zs
-wrote-more out₀ out out′ at end end′ xs ys zs h e x a b d = record {
-  as-long = b ∙ x .as-long;
-  bytes = a ∙ ap₂ (λ (m : List ℕ) (k : ℕ). put-at m k ys) (x .bytes) (x .up-to) ∙ put-after out₀ (6 * at) xs ys h ∙ ap (put-at out₀ (6 * at)) (sym e);
-  up-to = omega (arith, d, x .up-to, ap length e, length-append xs ys);
-}
 
 module _ (w : List ℕ) where
   -- ---- nodes

@@ -1,27 +1,23 @@
 // Joining two sides: all refusals in the published order, then the joined graph's bytes. States to the layer above that the answer and the output are those of
 // the definition `joined`, for any limits within the strides of node numbers.
 ghost use mathlib.Core.Path.{_≡_};
-ghost use Prim.Native.Nat.{_+_, _-_, _*_, _≤_, _<_};
+ghost use Prim.Native.Nat.{_+_, _*_, _≤_};
 ghost use lib.ListN.{length};
-ghost use Rattle.files.specs.Access.{GraphFile, InterfaceFile};
-ghost use Rattle.files.specs.Basics.Lists.{each, span};
+ghost use Rattle.files.specs.Access.{InterfaceFile};
 ghost use Rattle.files.specs.Cells.{put-at};
 ghost use Rattle.files.specs.Decode.{decode-graph, graph-bytes};
 ghost use Rattle.files.specs.Outcome.{Answers, answered};
-ghost use Rattle.files.specs.Record.{count};
-ghost use Rattle.files.specs.Refusal.{nodes-of};
 ghost use Rattle.files.specs.Settling.{Settles, WherePassed};
 ghost use Rattle.files.specs.View.{Views};
 ghost use Rattle.judging.specs.Judge.{Strides};
 ghost use Rattle.judging.specs.Refinement.{Both};
 ghost use Rattle.files.specs.Join.{join};
-ghost use Rattle.runs.specs.Joining.{joined, joined-answer, join-said, join-first, from-size, moved-bytes};
+ghost use Rattle.runs.specs.Joining.{joined, joined-answer, join-said, join-first, from-size};
 use crate::answers::Joined;
 use files::cells::copy_at;
-use files::encode::put_record;
-use files::graph::edge_at;
 use files::interface::provided_methods;
 use files::interface::required_methods;
+use files::moved::write_all_moved;
 use files::offence::FileKind;
 use files::record::Limits;
 use files::record::Record;
@@ -34,37 +30,6 @@ use files::settle::then_own;
 use files::view::ViewedBoth;
 use judging::sizes::Sizes;
 
-// Node v of the second graph, counted on from the first's n nodes.
-fn moved_node(n: usize, v: usize) -> u8
-    requires { ⌜ n + v < 256 ⌝ }
-    ensures { λ r. ⌜ r ≡ n + v ⌝ }
-{
-    (n + v) as u8
-}
-
-// Writes edge j of the second graph, with its nodes counted on from the first's, as record `at`.
-fn write_moved(graph2: &[u8], s: Sizes, out: &mut [u8], at: usize, j: usize)
-    requires { ⌜ (GraphFile (now graph2)) × ((s .second .nodes ≡ nodes-of (now graph2)) × ((s .second .edges ≡ count (now graph2) - nodes-of (now graph2)) × ((s .first .nodes + s .second .nodes ≤ 256) × ((j < s .second .edges) × (6 * at + 6 ≤ length (now out)))))) ⌝ }
-    ensures { λ _. ⌜ now (out .exit) ≡ put-at (now (out .entry)) (6 * at) (moved-bytes (s .first .nodes) (decode-graph (now (graph2 .entry))) j) ⌝ }
-{
-    let e = edge_at(graph2, s.second.nodes, j);
-    let from = moved_node(s.first.nodes, e.from);
-    let to = moved_node(s.first.nodes, e.to);
-    put_record(out, at, Record::edge(from, e.label, to));
-}
-
-// Writes the second graph's edges from record `first` on.
-fn write_all_moved(graph2: &[u8], s: Sizes, out: &mut [u8], first: usize)
-    requires { ⌜ (GraphFile (now graph2)) × ((s .second .nodes ≡ nodes-of (now graph2)) × ((s .second .edges ≡ count (now graph2) - nodes-of (now graph2)) × ((s .first .nodes + s .second .nodes ≤ 256) × (6 * (first + s .second .edges) ≤ length (now out))))) ⌝ }
-    ensures { λ _. ⌜ now (out .exit) ≡ put-at (now (out .entry)) (6 * first) (each (moved-bytes (s .first .nodes) (decode-graph (now (graph2 .entry)))) (span 0 (s .second .edges))) ⌝ }
-{
-    let mut j = 0;
-    while j < s.second.edges {
-        write_moved(graph2, s, out, first + j, j);
-        j += 1;
-    }
-}
-
 // Writes the joined graph: the first graph's nodes, the second's, the first's edges, the second's moved.
 pub(crate) fn write_join(graph1: &[u8], graph2: &[u8], s: Sizes, out: &mut [u8])
     requires { ⌜ (Both s (now graph1) (now graph2)) × ((s .first .nodes + s .second .nodes ≤ 256) × (6 * (s .first .nodes + s .second .nodes + s .first .edges + s .second .edges) ≤ length (now out))) ⌝ }
@@ -76,12 +41,8 @@ pub(crate) fn write_join(graph1: &[u8], graph2: &[u8], s: Sizes, out: &mut [u8])
     copy_at(out, 0, &graph1[..cut1]);
     copy_at(out, cut1, &graph2[..cut2]);
     copy_at(out, cut1 + cut2, &graph1[cut1..end1]);
-    write_all_moved(
-        graph2,
-        s,
-        out,
-        s.first.nodes + s.second.nodes + s.first.edges,
-    );
+    let end = s.first.nodes + s.second.nodes + s.first.edges;
+    write_all_moved(graph2, s.second, s.first.nodes, out, end);
 }
 
 // 11 and 12, then the joined graph and its answer.

@@ -4,6 +4,7 @@
 //! With `random`, a seed and a count, the worst ratios on so many random inputs of each call.
 
 mod compose;
+mod deliveries;
 mod growth;
 mod inputs;
 mod join;
@@ -20,8 +21,8 @@ use std::{env, io};
 
 const NOTE: &str = "\
 Median of batches in turn, warm, one thread, the same bytes.
-proved: the output is as long as the result, work buffers as published; the call clears each of them whole, and the time includes that. Joining and showing
-have none, the composed verdict has two.
+proved: the output is as long as the result, work buffers as published; the call clears each of them whole, and the time includes that. Joining, showing and
+assembling have none, the composed verdict and judging deliveries have two.
 second: takes its memory from the allocator in every call and clears nothing afterwards.
 clearing: filling work buffers of the same lengths with zeros, once, and nothing else. rest: the ratio without it.";
 
@@ -42,14 +43,17 @@ fn main() -> io::Result<()> {
 
 /// All calls, or those of that name, on the inputs whose name has this part.
 fn print_calls(name: Option<&str>, part: &str) -> io::Result<()> {
-    let judging = (compare::judge::CALL, judge::inputs()?);
-    let comparing = (compare::simulation::CALL, simulation::inputs()?);
-    let modelling = (compare::model::CALL, model::inputs()?);
-    let joining = (compare::join::CALL, join::inputs());
-    let showing = (compare::show::CALL, show::inputs());
-    let watching = (compare::watch::CALL, watch::inputs());
-    let composing = (compare::compose::CALL, compose::inputs()?);
-    let calls = [judging, comparing, modelling, joining, showing, watching, composing];
+    let calls = [
+        (compare::judge::CALL, judge::inputs()?),
+        (compare::simulation::CALL, simulation::inputs()?),
+        (compare::model::CALL, model::inputs()?),
+        (compare::join::CALL, join::inputs()),
+        (compare::show::CALL, show::inputs()),
+        (compare::watch::CALL, watch::inputs()),
+        (compare::compose::CALL, compose::inputs()?),
+        (compare::deliveries::ASSEMBLE, deliveries::assembled()),
+        (compare::deliveries::JUDGE, deliveries::judged()),
+    ];
     for (call, rows) in calls {
         if name.is_some_and(|name| name != call.name) {
             continue;

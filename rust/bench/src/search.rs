@@ -62,6 +62,8 @@ pub fn print(seed: u64, count: usize) {
         compare::show::CALL,
         compare::watch::CALL,
         compare::compose::CALL,
+        compare::deliveries::ASSEMBLE,
+        compare::deliveries::JUDGE,
     ];
     for call in calls {
         let Found { all, verdicts, rest, seconds } = search(&call, &mut Random::new(seed), count);

@@ -5,6 +5,7 @@ pub mod case;
 pub mod checks;
 mod claims;
 pub mod compose;
+pub mod deliveries;
 pub mod join;
 pub mod judge;
 mod minimal;
@@ -12,6 +13,7 @@ pub mod model;
 mod report;
 pub mod show;
 pub mod simulation;
+mod standing;
 pub mod tally;
 pub mod watch;
 
@@ -28,6 +30,8 @@ const CALLS: &[Call] = &[
     show::CALL,
     watch::CALL,
     compose::CALL,
+    deliveries::ASSEMBLE,
+    deliveries::JUDGE,
 ];
 
 /// Prints a line for each call, or ends with the report of a difference.

@@ -1,6 +1,6 @@
 //! The table of a run: how often each verdict was said and each refusal was given.
 
-const REFUSALS: usize = 13;
+const REFUSALS: usize = 14;
 
 #[derive(Default)]
 pub struct Tally {
@@ -44,6 +44,12 @@ pub struct Checked {
     pub past_the_limits: u64,
     /// Properties that were judged again with nine boxes in place of one over every label.
     pub written_out: u64,
+    /// Deliveries that were appended to a file and left it accepted.
+    pub appended: u64,
+    /// Those of them that stand.
+    pub standing: u64,
+    /// Standing graphs that were judged as graph files.
+    pub assembled: u64,
 }
 
 fn line(call: &str, said: [String; 3], refused: impl Iterator<Item = String>) -> String {

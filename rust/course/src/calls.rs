@@ -3,6 +3,7 @@
 
 use crate::cases::Case;
 use crate::Example;
+use second::Outcome;
 
 #[derive(Clone, Copy)]
 pub struct Call<'a> {
@@ -49,4 +50,15 @@ pub fn of_pairs(
 pub fn decimals(bytes: &[u8], to_a_line: usize) -> String {
     let line = |part: &[u8]| part.iter().map(u8::to_string).collect::<Vec<_>>().join(" ") + "\n";
     bytes.chunks(to_a_line).map(line).collect()
+}
+
+/// What the program prints of a call that writes a graph.
+pub fn written_lines(name: &str, said: Outcome) -> String {
+    match said {
+        Outcome::Refused(r) => format!("{name}: refused {} {} {}\n", r.number, r.file, r.record),
+        Outcome::Said { values, written, .. } => {
+            let values: String = values.iter().map(|value| format!(" {value}")).collect();
+            format!("{name}: written{values}\n{}", decimals(&written, 6))
+        }
+    }
 }

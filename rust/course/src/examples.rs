@@ -19,6 +19,7 @@ pub fn small() -> Vec<Example> {
     all.extend(graphs());
     all.extend(others());
     all.extend(of_any_label());
+    all.extend(openings());
     all
 }
 
@@ -75,6 +76,12 @@ fn of_any_label() -> Vec<Example> {
         // More than there may be "or" rows.
         example("property-13-any-rows", &[any_label(0); 13]),
     ]
+}
+
+/// An opening stands in a file of deliveries only.
+fn openings() -> Vec<Example> {
+    let kinds = ["graph", "property", "rules", "interface"];
+    kinds.map(|kind| example(&format!("{kind}-opening"), &[[6, 1, 1, 0, 0, 0]])).into()
 }
 
 pub fn at_the_limits() -> Vec<Example> {

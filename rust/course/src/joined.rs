@@ -1,12 +1,12 @@
 //! Examples of joining: the limits and refusals of the paper, and each known side of a case study with each written other side. A call is one file that the program
 //! reads: the lengths of the first three files and of the output, two bytes each, low byte first, then the four files.
 
-use crate::calls::decimals;
+use crate::calls::written_lines;
 use crate::cases::Case;
 use crate::examples::with_edges;
 use crate::Example;
+use second::join;
 use second::record::Limits;
-use second::{join, Outcome};
 
 type Record = [u8; 6];
 const ENTRY: Record = [1, 1, 0, 1, 0, 0];
@@ -98,11 +98,5 @@ pub fn lines(name: &str, bytes: &[u8]) -> String {
     let (interface1, rest) = bytes[HEADER..].split_at(number(0));
     let (graph1, rest) = rest.split_at(number(2));
     let (interface2, graph2) = rest.split_at(number(4));
-    match join(&Limits::DESK, interface1, graph1, interface2, graph2, number(6)) {
-        Outcome::Refused(r) => format!("{name}: refused {} {} {}\n", r.number, r.file, r.record),
-        Outcome::Said { values, written, .. } => {
-            let values: String = values.iter().map(|value| format!(" {value}")).collect();
-            format!("{name}: written{values}\n{}", decimals(&written, 6))
-        }
-    }
+    written_lines(name, join(&Limits::DESK, interface1, graph1, interface2, graph2, number(6)))
 }

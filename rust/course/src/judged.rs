@@ -89,7 +89,13 @@ pub fn of_cases(cases: &[Case]) -> Vec<Example> {
 /// What the program prints of a call, as the second implementation has it.
 pub fn lines(name: &str, call: &Call) -> String {
     let work_len = if call.lends_work { ROOM } else { 0 };
-    match judge(&Limits::DESK, call.first, call.second, call.out_len, work_len, ROOM) {
+    let out_len = call.out_len;
+    verdict_lines(name, judge(&Limits::DESK, call.first, call.second, out_len, work_len, ROOM))
+}
+
+/// What the program prints of a verdict on a property.
+pub fn verdict_lines(name: &str, said: Outcome) -> String {
+    match said {
         Outcome::Refused(r) => format!("{name}: refused {} {} {}\n", r.number, r.file, r.record),
         Outcome::Said { verdict: 1, .. } => format!("{name}: holds\n"),
         Outcome::Said { values, written, .. } => {

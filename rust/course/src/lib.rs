@@ -4,6 +4,7 @@ mod calls;
 mod cases;
 mod compared;
 mod composed;
+mod delivered;
 mod examples;
 mod joined;
 mod judged;
@@ -60,6 +61,11 @@ pub fn examples() -> io::Result<Vec<Example>> {
     all.extend(composed::at_the_limits());
     all.extend(composed::of_lent_buffers());
     all.extend(composed::of_cases(&cases));
+    all.extend(delivered::of_the_paper());
+    all.extend(delivered::of_refusals());
+    all.extend(delivered::at_the_limits());
+    all.extend(delivered::of_lent_buffers());
+    all.extend(delivered::of_judging());
     Ok(all)
 }
 
@@ -96,6 +102,12 @@ pub fn line(example: &Example) -> String {
     }
     if name.starts_with("compose-") {
         return composed::lines(name, bytes);
+    }
+    if name.starts_with("assemble-") {
+        return delivered::assembled_lines(name, bytes);
+    }
+    if name.starts_with("deliveries-") {
+        return delivered::judged_lines(name, bytes);
     }
     let nodes = match name.as_bytes().first() {
         Some(b'g') => check_graph(bytes, &Limits::DESK).map(|graph| graph.nodes.len()),

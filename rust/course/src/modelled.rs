@@ -1,11 +1,11 @@
 //! Examples of modelling: those of the paper and of operator 10, its refusals, and every interface of a case study with every property of that case.
 
-use crate::calls::{decimals, example, of_pairs, Call};
+use crate::calls::{example, of_pairs, written_lines, Call};
 use crate::cases::Case;
 use crate::examples::any_label;
 use crate::Example;
+use second::model;
 use second::record::Limits;
-use second::{model, Outcome};
 
 /// The published length of modelling's work buffer.
 const ROOM: usize = 103_456;
@@ -112,10 +112,5 @@ pub fn of_cases(cases: &[Case]) -> Vec<Example> {
 /// What the program prints of a call, as the second implementation has it.
 pub fn lines(name: &str, call: &Call) -> String {
     let work_len = if call.lends_work { ROOM } else { 0 };
-    match model(&Limits::DESK, call.first, call.second, call.out_len, work_len, ROOM) {
-        Outcome::Refused(r) => format!("{name}: refused {} {} {}\n", r.number, r.file, r.record),
-        Outcome::Said { values, written, .. } => {
-            format!("{name}: written {} {}\n{}", values[0], values[1], decimals(&written, 6))
-        }
-    }
+    written_lines(name, model(&Limits::DESK, call.first, call.second, call.out_len, work_len, ROOM))
 }

@@ -73,7 +73,7 @@ fn kept_promises_are_kept() {
 #[test]
 fn answers_that_are_not_well_formed() {
     assert_noticed("no such refusal", |input, out, work| match copy(input, out, work) {
-        Answer { number: 1, .. } => refused(14, 0, 0),
+        Answer { number: 1, .. } => refused(15, 0, 0),
         answer => answer,
     });
     assert_noticed("no such verdict", |input, out, work| match copy(input, out, work) {

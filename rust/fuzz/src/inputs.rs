@@ -6,7 +6,7 @@ use compare::case::{out_length, work_lengths, Case};
 use compare::Input;
 use generator::generate::{mutated, Random};
 
-/// More bytes than any file that is accepted has.
+/// More bytes than any file that is accepted has, but for deliveries.
 const LONGEST_FILE: usize = 60_000;
 
 /// Half of the inputs have one or two mutated files, and in one of sixteen a file is any bytes or one of another place. One number in four is any.

@@ -100,7 +100,7 @@ fn placed(case: &Case, answer: Answer) -> Checked {
         Length | Limit | Empty => (true, false),
         Kind | Order | BetweenMethods => (true, true),
         Range | PastTheLast | NotOfInterface => (file != 0, file != 0),
-        NotProvided | TooLarge | ShortOutput | ShortWork => (false, false),
+        NotProvided | TooLarge | ShortOutput | ShortWork | RepeatedRevision => (false, false),
     };
     let named = file.checked_sub(1).map(|before| case.input.files.get(before as usize));
     let records = match (named, of_a_file) {

@@ -1,7 +1,7 @@
 //! The calls of the boundary, and what is known of each without a second implementation.
 
 use compare::calls::Call;
-use compare::{checks, compose, join, judge, model, show, simulation, watch, Input};
+use compare::{checks, compose, deliveries, join, judge, model, show, simulation, watch, Input};
 use generator::generate::{Kind, Random};
 use tintboulder::{
     Answer, OnFile, Record, CHECK_GRAPH, CHECK_INTERFACE, CHECK_PROPERTY, CHECK_RULES,
@@ -40,7 +40,7 @@ const LINE: u64 = 32;
 /// In the order of `Kind::ALL`.
 const CHECKS: [OnFile; 4] = [CHECK_GRAPH, CHECK_PROPERTY, CHECK_RULES, CHECK_INTERFACE];
 
-pub const TARGETS: [Target; 11] = [
+pub const TARGETS: [Target; 13] = [
     check::<0>("check graph"),
     check::<1>("check property"),
     check::<2>("check rules"),
@@ -52,6 +52,8 @@ pub const TARGETS: [Target; 11] = [
     of(show::CALL, &[0], Writes::Record),
     of(watch::CALL, &[0, 1], Writes::Records),
     of(compose::CALL, &[0, 1], Writes::Records),
+    of(deliveries::ASSEMBLE, &[2], Writes::Graph),
+    of(deliveries::JUDGE, &[0, 1], Writes::Records),
 ];
 
 const fn of(call: Call, values: &'static [usize], writes: Writes) -> Target {

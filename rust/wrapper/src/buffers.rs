@@ -3,6 +3,8 @@
 use crate::checks::check_graph;
 use crate::compare::{compare, Compared, COMPARE};
 use crate::compose::{compose, compose_store, compose_work, Sides};
+use crate::deliveries::{assemble, judge_deliveries};
+use crate::deliveries::{judge_deliveries_store, judge_deliveries_work};
 use crate::join::{join, Joined};
 use crate::judge::{judge, Judged, JUDGE};
 use crate::model::{model, Written, MODEL};
@@ -56,9 +58,17 @@ impl Default for Buffers {
 
 impl Buffers {
     pub fn new() -> Buffers {
-        let work = [JUDGE.work(), COMPARE.work(), MODEL.work(), watch_work(), compose_work()];
-        let work = work.into_iter().max().unwrap_or_default();
-        Buffers { out: vec![0; LONGEST], store: vec![0; compose_store()], work: vec![0; work] }
+        let works = [
+            JUDGE.work(),
+            COMPARE.work(),
+            MODEL.work(),
+            watch_work(),
+            compose_work(),
+            judge_deliveries_work(),
+        ];
+        let stores = [compose_store(), judge_deliveries_store()];
+        let [store, work] = [&stores[..], &works].map(longest);
+        Buffers { out: vec![0; LONGEST], store, work }
     }
 
     /// Does the graph satisfy the property? The records are those of the fault sheet.
@@ -203,6 +213,51 @@ impl Buffers {
         Ok(self.said_records(verdict, verdict.records()))
     }
 
+    /// What several deliveries make: of each method the highest revision stands. The records are those of the standing graph's file.
+    ///
+    /// ```
+    /// use tintboulder::{Buffers, Written};
+    /// // Method 2 in its third revision, then methods 1 and 2 in their first: the last does not stand.
+    /// let third = [[6, 2, 3, 0, 0, 0], [1, 2, 0, 1, 0, 0], [2, 0, 0, 0, 0, 0]];
+    /// let first = [[6, 1, 1, 0, 0, 0], [1, 1, 1, 1, 0, 0], [6, 2, 1, 0, 0, 0]];
+    /// let mut buffers = Buffers::new();
+    /// let said = buffers.assemble(&[third, first].concat().concat())?;
+    /// assert_eq!(said.verdict, Written { nodes: 2, edges: 1 });
+    /// // Methods ascend, and the edge is moved by one node.
+    /// assert_eq!(said.records(), [[1, 1, 1, 1, 0, 0], [1, 2, 0, 1, 0, 0], [2, 1, 0, 1, 0, 0]]);
+    /// # Ok::<(), tintboulder::Refusal>(())
+    /// ```
+    pub fn assemble(&mut self, deliveries: &[u8]) -> Result<Said<'_, Written>, Refusal> {
+        let verdict = assemble(deliveries, &mut self.out)?;
+        Ok(self.said_records(verdict, verdict.records()))
+    }
+
+    /// Does the graph of the deliveries that stand satisfy the property? The records are those of the fault sheet, in that graph's numbers.
+    ///
+    /// ```
+    /// use tintboulder::{Buffers, Judged};
+    /// let returning = [[6, 1, 1, 0, 0, 0], [1, 1, 1, 1, 0, 0]].concat();
+    /// let not_return = [3, 6, 0, 0, 0, 0];
+    /// let mut buffers = Buffers::new();
+    /// let said = buffers.judge_deliveries(&returning, &not_return)?;
+    /// assert_eq!(said.verdict, Judged::Fails { records: 1 });
+    /// assert_eq!(said.records(), [[0, 0, 0, 255, 0, 255]]);
+    /// // The supplier sends a second revision.
+    /// let mended = [&returning[..], &[6, 1, 2, 0, 0, 0], &[1, 1, 0, 1, 0, 0]].concat();
+    /// assert_eq!(buffers.judge_deliveries(&mended, &not_return)?.verdict, Judged::Holds);
+    /// # Ok::<(), tintboulder::Refusal>(())
+    /// ```
+    pub fn judge_deliveries(
+        &mut self,
+        deliveries: &[u8],
+        property: &[u8],
+    ) -> Result<Said<'_, Judged>, Refusal> {
+        let store = &mut self.store[..judge_deliveries_store()];
+        let work = &mut self.work[..judge_deliveries_work()];
+        let verdict = judge_deliveries(deliveries, property, &mut self.out, store, work)?;
+        Ok(self.said_records(verdict, verdict.records()))
+    }
+
     fn said_records<Verdict>(&self, verdict: Verdict, records: u64) -> Said<'_, Verdict> {
         self.said(verdict, records, size_of::<Record>())
     }
@@ -212,4 +267,8 @@ impl Buffers {
         let parts = usize::try_from(parts).expect("parts of the output");
         Said { verdict, written: &self.out[..parts * bytes] }
     }
+}
+
+fn longest(lengths: &[usize]) -> Vec<u8> {
+    vec![0; lengths.iter().copied().max().unwrap_or_default()]
 }

@@ -30,6 +30,14 @@ pub enum Judged {
 }
 
 impl Judged {
+    pub(crate) fn of(answer: Answer) -> Result<Judged, Refusal> {
+        let answer = answer.accepted()?;
+        match answer.verdict {
+            1 => Ok(Judged::Holds),
+            _ => Ok(Judged::Fails { records: answer.first }),
+        }
+    }
+
     /// Records of the fault sheet: none if the property holds.
     pub fn records(&self) -> u64 {
         match *self {
@@ -46,9 +54,5 @@ pub fn judge(
     out: &mut [u8],
     work: &mut [u8],
 ) -> Result<Judged, Refusal> {
-    let answer = JUDGE.answer([graph, property], out, work).accepted()?;
-    match answer.verdict {
-        1 => Ok(Judged::Holds),
-        _ => Ok(Judged::Fails { records: answer.first }),
-    }
+    Judged::of(JUDGE.answer([graph, property], out, work))
 }

@@ -8,6 +8,7 @@ mod buffers;
 mod checks;
 mod compare;
 mod compose;
+mod deliveries;
 mod join;
 mod judge;
 mod model;
@@ -21,6 +22,9 @@ pub use checks::{check_graph, check_interface, check_property, check_rules, Acce
 pub use checks::{CHECK_GRAPH, CHECK_INTERFACE, CHECK_PROPERTY, CHECK_RULES};
 pub use compare::{compare, Compared, COMPARE};
 pub use compose::{compose, compose_answer, compose_store, compose_work, Sides};
+pub use deliveries::{assemble, assemble_answer};
+pub use deliveries::{judge_deliveries, judge_deliveries_answer};
+pub use deliveries::{judge_deliveries_store, judge_deliveries_work};
 pub use join::{join, join_answer, Joined};
 pub use judge::{judge, Judged, JUDGE};
 pub use model::{model, Written, MODEL};

@@ -20,7 +20,7 @@ extern "C" {
 // Safe: it is a function of the boundary, and 3 is its number there.
 pub const MODEL: OnTwoFiles = unsafe { OnTwoFiles::new(tintboulder_model, 3) };
 
-/// The model's graph file stands at the start of the output: 6 bytes for each node, then 6 for each edge.
+/// A graph file, of a model or of deliveries, stands at the start of the output: 6 bytes for each node, then 6 for each edge.
 #[derive(Clone, Copy, Debug, PartialEq, Eq)]
 pub struct Written {
     pub nodes: u64,
@@ -28,6 +28,11 @@ pub struct Written {
 }
 
 impl Written {
+    pub(crate) fn of(answer: Answer) -> Result<Written, Refusal> {
+        let answer = answer.accepted()?;
+        Ok(Written { nodes: answer.first, edges: answer.second })
+    }
+
     pub fn records(&self) -> u64 {
         self.nodes + self.edges
     }
@@ -40,8 +45,7 @@ pub fn model(
     out: &mut [u8],
     work: &mut [u8],
 ) -> Result<Written, Refusal> {
-    let answer = MODEL.answer([interface, property], out, work).accepted()?;
-    Ok(Written { nodes: answer.first, edges: answer.second })
+    Written::of(MODEL.answer([interface, property], out, work))
 }
 
 #[cfg(test)]

@@ -19,12 +19,13 @@ pub enum Reason {
     TooLarge,
     ShortOutput,
     ShortWork,
+    RepeatedRevision,
 }
 
 use Reason::*;
 
 /// What each number means, from 1 on.
-const TABLE: [(Reason, &str); 13] = [
+const TABLE: [(Reason, &str); 14] = [
     (Length, "the length is no multiple of 6"),
     (Kind, "the kind of a record is wrong for its place"),
     (Range, "a field is out of range or an unused byte is not 0"),
@@ -32,12 +33,13 @@ const TABLE: [(Reason, &str); 13] = [
     (Limit, "a limit on nodes, edges, rows or \"or\" rows is passed"),
     (Empty, "the file has no record"),
     (PastTheLast, "a node or row number is past the last"),
-    (BetweenMethods, "an edge leads from one method to another"),
+    (BetweenMethods, "an edge leads from one method to another, or a node is of a foreign method"),
     (NotOfInterface, "the graph is not of its interface"),
     (NotProvided, "a required method, or the start method, is provided by nobody"),
-    (TooLarge, "the model or the joined graph would pass the limits"),
+    (TooLarge, "the model, the joined graph or the standing graph would pass the limits"),
     (ShortOutput, "the output is shorter than the whole result"),
     (ShortWork, "a work buffer is shorter than published"),
+    (RepeatedRevision, "two deliveries of one method have equal revisions"),
 ];
 
 impl Reason {
@@ -101,7 +103,7 @@ mod tests {
         for (number, (reason, _)) in (1..).zip(TABLE) {
             assert_eq!((reason.number(), Reason::of(number)), (number, Some(reason)));
         }
-        assert_eq!([0, 14, u32::MAX].map(Reason::of), [None; 3]);
+        assert_eq!([0, 15, u32::MAX].map(Reason::of), [None; 3]);
     }
 
     #[test]

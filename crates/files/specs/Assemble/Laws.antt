@@ -4,7 +4,7 @@ use mathlib.Core.Path.{_≡_, refl, sym, ap, ap₂, subst, _∙_}
 use mathlib.Core.Logic.{_↔_}
 use mathlib.Core.Bool.{Bool, true, false}
 use mathlib.Core.List.{List, [], _∷_, _++_, List·Memᴰ}
-use mathlib.Core.Option.{Option, none, some}
+use mathlib.Core.Option.{none}
 use Prim.Native.Nat.{ℕ, _≤_}
 use native.Mathlib.Omega.{arith}
 use lib.Dec.{T}
@@ -19,15 +19,13 @@ use Rattle.files.specs.Deliveries.Decoded.{decoded-supplied}
 use Rattle.files.specs.Deliveries.Refused.{delivery-found, delivery-numbers, delivery-accepted-iff, delivery-eight, delivery-refusal-is}
 use Rattle.files.specs.Deliveries.Repeats.{says-repeated, repeated-permuted, standing-repeats-not, assembled-order}
 use Rattle.files.specs.Deliveries.Standing.{of-standing, stands-e}
-use Rattle.files.specs.Deliveries.Steps.{delivery-checked, delivery-checked-by, delivery-checked-is}
 use Rattle.files.specs.Deliveries.Written.{Opened, decode-written, written-accepted, behind-accepted, decode-behind}
 use Rattle.files.specs.Graph.{Graph}
 use Rattle.files.specs.Outcome.{Said, says, refuses, refusal-at, Check, whole-check, out-check, answered, Lines, numbered-lines, NoneOf, FirstOf, Matches, published, too-large, TooLarge, graph-said}
-use Rattle.files.specs.Outcome.Laws.{numbered-match, numbered-none-e, numbered-none-i, whole-match, out-match, whole-none, refused-by, accepted-by, verdict-is, says-too-large, numbered-answers}
+use Rattle.files.specs.Outcome.Calls as calls
+use Rattle.files.specs.Outcome.Laws.{numbered-match, numbered-none-e, whole-match, out-match, whole-none, refused-by, accepted-by, verdict-is, says-too-large, numbered-answers}
 use Rattle.files.specs.Refusal.{graph, refusal}
-use Rattle.files.specs.declared.check.Checked.the-variants.{Accepted, Refused}
 use Rattle.files.specs.declared.record.Limits.{Limits}
-use Rattle.files.specs.declared.refusal.Refusal.{Refusal}
 
 -- ---- a file of deliveries, among the checks of any call
 
@@ -43,29 +41,9 @@ module _ (L : Limits) (f : ℕ) (l : List ℕ) where
       let r = numbered-none-e (Delivers L l) f 1 8 ls a in
       (delivery-accepted-iff L l .1 (λ n i x. let b = delivery-numbers L l n i x in r .0 n i (b .0) (omega (arith, b .1)) x), r .1)
 
-  pub delivery-none : (ls : Lines) → delivery-refusal L l ≡ none → NoneOf ls → NoneOf (delivery-lines L f l ls)
-  delivery-none ls e rest = numbered-none-i (Delivers L l) f 1 8 ls (delivery-accepted-iff L l .0 e) rest
-
   -- an accepted file passes on to the next check
   pub delivery-passes : (cs : List Check) (s : Said) → delivery-refusal L l ≡ none → answered (delivery-checks L f l cs) s ≡ answered cs s
   delivery-passes cs s e = numbered-answers 1 f (delivery-findings L l) cs s none (sym (delivery-refusal-is L l) ∙ e)
-
-  -- as checking answers: what it refuses is the outcome, what it accepts has no refusal
-  pub delivery-refuses : (cs : List Check) (s : Said) (r : Refusal) → delivery-checked L l f ≡ Refused r → answered (delivery-checks L f l cs) s ≡ refuses r
-  delivery-refuses cs s r e = go (delivery-refusal L l) refl (sym (delivery-checked-is L l f) ∙ e)
-    where
-      go : (o : Option (ℕ × ℕ)) → delivery-refusal L l ≡ o → delivery-checked-by l f o ≡ Refused r → answered (delivery-checks L f l cs) s ≡ refuses r
-      go none q d = let z : _≡_ {A = ℕ} 0 1 = cc in absurd (omega arith)
-      go (some x) q d =
-          let z : refusal-at (x .0) f (x .1) ≡ r = cc in
-          numbered-answers 1 f (delivery-findings L l) cs s (some x) (sym (delivery-refusal-is L l) ∙ q) ∙ ap refuses z
-
-  pub delivery-accepts : (n c : ℕ) → delivery-checked L l f ≡ Accepted n c → delivery-refusal L l ≡ none
-  delivery-accepts n c e = go (delivery-refusal L l) (sym (delivery-checked-is L l f) ∙ e)
-    where
-      go : (o : Option (ℕ × ℕ)) → delivery-checked-by l f o ≡ Accepted n c → o ≡ none
-      go none d = refl
-      go (some x) d = let z : _≡_ {A = ℕ} 0 1 = cc in absurd (omega arith)
 
 module _ (L : Limits) (l : List ℕ) where
   pub standing-match : (cs : List Check) (ls : Lines) → Matches cs ls → Matches (standing-checks L l cs) (standing-lines L l ls)
@@ -86,6 +64,10 @@ module _ (L : Limits) (l : List ℕ) (out : ℕ) where
   -- the lines stand in the published order
   pub assemble-order : published (assemble-lines L l out) ≡ true
   assemble-order = refl
+
+  -- and are the call's row of the table
+  pub assemble-row : calls.Row L calls.assemble (l ∷ []) (assemble-lines L l out)
+  assemble-row = record { numbers-are = refl; files-are = refl }
 
   -- refused, by number, file and record, exactly where that comes first in the published order
   pub assemble-refused : (n f i : ℕ) → (assembled-outcome L l out ≡ refuses (refusal-at n f i)) ↔ FirstOf (assemble-lines L l out) n f i

@@ -234,7 +234,7 @@ module _ (a : Checked) (position n : ℕ) (ms : List (Option ℕ)) (rest : Check
   scan-step x none f = f refl
   scan-step x (some i) f = ap (λ (j : ℕ). Refused (refusal-at n position j)) (zero-add i)
 
-by-same : (k : Kind) (l : List ℕ) (position : ℕ) (o : Option (ℕ × ℕ)) → answered-by (Accepted (nodes-in k l) (count l)) position o ≡ checked-by k l position o
+pub by-same : (k : Kind) (l : List ℕ) (position : ℕ) (o : Option (ℕ × ℕ)) → answered-by (Accepted (nodes-in k l) (count l)) position o ≡ checked-by k l position o
 by-same k l position none = refl
 by-same k l position (some x) = refl
 

@@ -1,14 +1,14 @@
 -- 14 in one pass over a file: what is met so far, a bit for each method and revision.
 use mathlib.Core.Path.{_≡_, refl, sym, ap, subst, _∙_}
-use mathlib.Core.Bool.{Bool, true, false, cond, _&&_}
+use mathlib.Core.Bool.{Bool, true, false, not, cond, _&&_}
 use mathlib.Core.List.{List}
 use mathlib.Core.Option.{none}
 use Prim.Native.Nat.{ℕ, _+_, _*_, _/_, _≤_, _<_}
 use native.Mathlib.Nat.{not-suc-le-zero}
 use native.Mathlib.Decide.{ℕ-discrete}
 use native.Mathlib.Omega.{arith}
-use borrow.Author.Tests.{eq-eqb, ne-eqb}
-use lib.Dec.{T}
+use borrow.Author.Tests.{eq-eqb, ne-eqb, eqb-true, not-false}
+use lib.Dec.{T, eqb}
 use lib.ListN.{length, replicate}
 use Rattle.files.specs.Basics.Tests.{and-e, T-eq, same-test}
 use Rattle.files.specs.Cells.{has-bit, put-bit}
@@ -19,6 +19,7 @@ use Rattle.files.specs.Deliveries.Parts.{open-i, open-e}
 use Rattle.files.specs.Deliveries.Repeats.{repeated-openings}
 use Rattle.files.specs.Record.{record-at, kind-at, count}
 use Rattle.files.specs.declared.record.Limits.{Limits}
+use Rattle.files.specs.declared.record.Record.{Record}
 
 -- its method and revision, in one number
 abbrev pub issue-at : List ℕ → ℕ → ℕ
@@ -31,6 +32,19 @@ IssuesIn l = (o : ℕ) → o < count l → kind-at l o ≡ 6 → ((record-at l o
 -- so it is in a file that 1 to 8 accept
 pub accepted-issues : (L : Limits) (l : List ℕ) → delivery-refusal L l ≡ none → IssuesIn l
 accepted-issues L l e o h s = let d = decoded-supplied L l e (delivery-at l o) (decoded-in l o h s) in (d .method-in .1, d .revision-in .1)
+
+-- record i, found to be an opening and read as r
+pub record OpeningRead (l : List ℕ) (i : ℕ) (r : Record) : Type 0 where
+  pub opens-it : kind-at l i ≡ 6
+  pub method-is : (record-at l i) .first ≡ r .first
+  pub revision-is : (record-at l i) .second ≡ r .second
+  pub method-small : r .first ≤ 8
+
+pub opening-read : (l : List ℕ) (i : ℕ) → IssuesIn l → i < count l → (k : ℕ) → k ≡ kind-at l i → not (eqb k 6) ≡ false → (r : Record) → r ≡ record-at l i → OpeningRead l i r
+opening-read l i issues h k e b r d =
+    let six = sym e ∙ eqb-true k 6 (not-false (eqb k 6) b) in
+    let first : r .first ≡ (record-at l i) .first = ap (λ (x : Record). x .first) d in
+    record { opens-it = six; method-is = sym first; revision-is = ap (λ (x : Record). x .second) (sym d); method-small = omega (arith, first, (issues i h six) .0) }
 
 -- record i opens a delivery whose bit stands
 abbrev pub meets : List ℕ → List ℕ → ℕ → Bool

@@ -16,12 +16,12 @@ module _ (P : Type 0) (A : ℕ → Type 0) where
   file-late : published (line 2 2 A (line 8 1 A no-lines)) ≡ false
   file-late = refl
 
-  -- 14 has no entry: neither last, nor first, nor of a file
-  unlisted : published (whole-line 12 P (whole-line 14 P no-lines)) ≡ false
+  -- 99 has no entry: neither last, nor first, nor of a file
+  unlisted : published (whole-line 12 P (whole-line 99 P no-lines)) ≡ false
   unlisted = refl
 
-  unlisted-first : published (whole-line 14 P (whole-line 13 P no-lines)) ≡ false
+  unlisted-first : published (whole-line 99 P (whole-line 13 P no-lines)) ≡ false
   unlisted-first = refl
 
-  unlisted-of-file : published (line 8 1 A (line 14 1 A no-lines)) ≡ false
+  unlisted-of-file : published (line 8 1 A (line 99 1 A no-lines)) ≡ false
   unlisted-of-file = refl

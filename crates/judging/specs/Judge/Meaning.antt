@@ -8,7 +8,7 @@ use lib.Dec.{eqb, lit<}
 use lib.ListN.{length, getD, take, drop}
 use Rattle.files.specs.Decode.{decode-graph, decode-property}
 use Rattle.files.specs.Graph.{Graph}
-use Rattle.files.specs.Outcome.{Said, Outcome, Answer, Does, answer, says, refusal-at, NoneOf, Lines}
+use Rattle.files.specs.Outcome.{Said, Outcome, Answer, Answers, Does, answer, says, refusal-at, NoneOf, Lines}
 use Rattle.files.specs.Outcome.Meaning.{Decided, Refuses, Clears, Wrote, Enum, Heard, itself, heard-itself, only-verdict, numbered-cond, outcome-case, case-cond, said-iff, refuses-by, clears-by, wrote-by}
 use Rattle.files.specs.Property.{Row}
 use Rattle.files.specs.declared.record.Limits.{Limits}
@@ -39,25 +39,29 @@ pub record WrittenSheet (G : Graph) (P : List Row) (n : ℕ) (bytes : List ℕ) 
   pub counted : length (read-sheet bytes) ≡ n
   pub shows : SheetShows G P (read-sheet bytes)
 
--- "A property holds exactly when the greatest solution of its equations says so": `Holds` is returned exactly where nothing is refused and the graph satisfies the
--- property, `Fails n` exactly where it does not, and then the first 6 n bytes are the fault sheet. `tell` is how a case is returned: as itself, or in numbers.
-pub record JudgeMeans {R : Type 0} (tell : Judged → R) (L : Limits) (g p out work out′ work′ : List ℕ) (r : R) : Type 1 where
-  pub refuses : Refuses (λ x. tell (Refused x)) (judge-lines L g p (length out) (length work)) out out′ r
-  pub clears : Clears (λ x. tell (Refused x)) work work′ r
-  pub holds-iff : (r ≡ tell Holds) ↔ (NoneOf (judge-lines L g p (length out) (length work)) × Satisfies (decode-graph g) (decode-property p))
-  pub fails-iff : ((n : ℕ) × (r ≡ tell (Fails n))) ↔ (NoneOf (judge-lines L g p (length out) (length work)) × (Satisfies (decode-graph g) (decode-property p) → ⊥))
-  pub judges : NoneOf (judge-lines L g p (length out) (length work)) → Judges (decode-graph g) (decode-property p) (judge-verdict L g p (length out) (length work))
+-- What is returned where the verdict is on G and P and the lines are the call's: `Holds` exactly where nothing is refused and the graph satisfies the property, `Fails n`
+-- exactly where it does not, and then the first 6 n bytes are the fault sheet. `tell` is how a case is returned: as itself, or in numbers.
+pub record VerdictMeans {R : Type 0} (tell : Judged → R) (G : Graph) (P : List Row) (ls : Lines) (out out′ : List ℕ) (r : R) : Type 1 where
+  pub refuses : Refuses (λ x. tell (Refused x)) ls out out′ r
+  pub holds-iff : (r ≡ tell Holds) ↔ (NoneOf ls × Satisfies G P)
+  pub fails-iff : ((n : ℕ) × (r ≡ tell (Fails n))) ↔ (NoneOf ls × (Satisfies G P → ⊥))
+  pub judges : NoneOf ls → Judges G P (judge-said G P)
   pub holds-leaves : r ≡ tell Holds → out′ ≡ out
-  pub fails-writes : (n : ℕ) → r ≡ tell (Fails n) → WrittenSheet (decode-graph g) (decode-property p) n (take (6 * n) out′)
+  pub fails-writes : (n : ℕ) → r ≡ tell (Fails n) → WrittenSheet G P n (take (6 * n) out′)
   pub past-unchanged : (n : ℕ) → r ≡ tell (Fails n) → drop (6 * n) out′ ≡ drop (6 * n) out
+
+-- "A property holds exactly when the greatest solution of its equations says so"
+pub record JudgeMeans {R : Type 0} (tell : Judged → R) (L : Limits) (g p out work out′ work′ : List ℕ) (r : R) : Type 1 where
+  pub verdict : VerdictMeans tell (decode-graph g) (decode-property p) (judge-lines L g p (length out) (length work)) out out′ r
+  pub clears : Clears (λ x. tell (Refused x)) work work′ r
 
 -- ---- the outcome
 
-judge-numbered : (G : Graph) (P : List Row) → 0 < (judge-said G P) .verdict
+pub judge-numbered : (G : Graph) (P : List Row) → 0 < (judge-said G P) .verdict
 unfolding judge-said
 judge-numbered G P = numbered-cond (satisfies G P) _ _ (lit< tt) (lit< tt)
 
-judge-told : (G : Graph) (P : List Row) → (c : Judged) × (judged-answer c ≡ answer (says (judge-said G P)))
+pub judge-told : (G : Graph) (P : List Row) → (c : Judged) × (judged-answer c ≡ answer (says (judge-said G P)))
 unfolding judge-said
 judge-told G P = case-cond judged-enum (satisfies G P) _ _ Holds (Fails (length (sheet G P))) refl refl
 
@@ -75,36 +79,18 @@ module _ (L : Limits) (g p : List ℕ) (out work : ℕ) where
   pub judge-case : (c : Judged) × (judged-answer c ≡ answer (judged L g p out work))
   judge-case = let x = judge-told (decode-graph g) (decode-property p) in outcome-case judged-enum _ _ _ judge-decided (x .0) (x .1)
 
--- ---- what the contract gives, and so what is told of it
+-- ---- what a contract gives, and so what is told of it
 
-module _ {R : Type 0} (tell : Judged → R) (heard : Heard tell) (L : Limits) (g p out work out′ work′ : List ℕ) (c : Judged)
-    (does : Does (judged L g p (length out) (length work)) out work out′ work′ (judged-answer c)) where
-  abbrev G : Graph
-  G = decode-graph g
-
-  abbrev P : List Row
-  P = decode-property p
-
-  abbrev o : Outcome
-  o = judged L g p (length out) (length work)
-
+module _ {R : Type 0} (tell : Judged → R) (heard : Heard tell) (G : Graph) (P : List Row) (o : Outcome) (ls : Lines) (d : Decided o (judge-said G P) ls)
+    (means : NoneOf ls → Judges G P (judge-said G P)) (out out′ : List ℕ) (c : Judged) (answers : Answers o out out′ (judged-answer c)) where
   abbrev said : Said
-  said = judge-verdict L g p (length out) (length work)
-
-  abbrev ls : Lines
-  ls = judge-lines L g p (length out) (length work)
-
-  d : Decided o said ls
-  d = judge-decided L g p (length out) (length work)
-
-  means : NoneOf ls → Judges G P said
-  means t = judge-says L g p (length out) (length work) said (d .accepted .1 t)
+  said = judge-said G P
 
   is-holds : (tell c ≡ tell Holds) ↔ (NoneOf ls × (said .verdict ≡ 1) × (said .values ≡ []))
-  is-holds = said-iff judged-enum tell heard o said ls d c (does .answers .answer-is) Holds 1 [] (lit< tt) refl
+  is-holds = said-iff judged-enum tell heard o said ls d c (answers .answer-is) Holds 1 [] (lit< tt) refl
 
   is-fails : (n : ℕ) → (tell c ≡ tell (Fails n)) ↔ (NoneOf ls × (said .verdict ≡ 2) × (said .values ≡ n ∷ []))
-  is-fails n = said-iff judged-enum tell heard o said ls d c (does .answers .answer-is) (Fails n) 2 (n ∷ []) (lit< tt) refl
+  is-fails n = said-iff judged-enum tell heard o said ls d c (answers .answer-is) (Fails n) 2 (n ∷ []) (lit< tt) refl
 
   counts : (n : ℕ) → tell c ≡ tell (Fails n) → length (sheet G P) ≡ n
   counts n q = let a = is-fails n .0 q in ap (λ (xs : List ℕ). getD xs 0 0) (sym (means (a .0) .fails-writes (a .1) .0) ∙ a .2)
@@ -114,7 +100,7 @@ module _ {R : Type 0} (tell : Judged → R) (heard : Heard tell) (L : Limits) (g
       let a = is-fails n .0 q in
       let w = means (a .0) .fails-writes (a .1) .1 in
       subst (λ (ws : List ℕ). Wrote (6 * n) ws out out′) w
-      (wrote-by o said ls d out out′ (does .answers .out-is) (a .0) (6 * n) (ap length w ∙ sheet-bytes-length G P ∙ ap (λ (m : ℕ). 6 * m) (counts n q)))
+      (wrote-by o said ls d out out′ (answers .out-is) (a .0) (6 * n) (ap length w ∙ sheet-bytes-length G P ∙ ap (λ (m : ℕ). 6 * m) (counts n q)))
 
   writes : (n : ℕ) → tell c ≡ tell (Fails n) → WrittenSheet G P n (take (6 * n) out′)
   writes n q =
@@ -123,12 +109,11 @@ module _ {R : Type 0} (tell : Judged → R) (heard : Heard tell) (L : Limits) (g
       record { is-the-sheet = e; counted = ap length e ∙ counts n q; shows = subst (SheetShows G P) (sym e) (means (a .0) .fails-shows (a .1)) }
 
   leaves : tell c ≡ tell Holds → out′ ≡ out
-  leaves q = let a = is-holds .0 q in wrote-by o said ls d out out′ (does .answers .out-is) (a .0) 0 (ap length (means (a .0) .holds-writes (a .1) .1)) .rest
+  leaves q = let a = is-holds .0 q in wrote-by o said ls d out out′ (answers .out-is) (a .0) 0 (ap length (means (a .0) .holds-writes (a .1) .1)) .rest
 
-  pub judge-tells : JudgeMeans tell L g p out work out′ work′ (tell c)
-  judge-tells = record {
-    refuses = refuses-by judged-enum tell heard o said ls d c (does .answers .answer-is) out out′ (does .answers .out-is);
-    clears = clears-by judged-enum tell heard o said ls d c (does .answers .answer-is) work work′ (does .work-is);
+  pub verdict-tells : VerdictMeans tell G P ls out out′ (tell c)
+  verdict-tells = record {
+    refuses = refuses-by judged-enum tell heard o said ls d c (answers .answer-is) out out′ (answers .out-is);
     holds-iff = (
       λ q. let a = is-holds .0 q in (a .0, means (a .0) .holds-iff .0 (a .1)),
       λ a. let v = means (a .0) .holds-iff .1 (a .1) in is-holds .1 (a .0, v, means (a .0) .holds-writes v .0),
@@ -141,6 +126,20 @@ module _ {R : Type 0} (tell : Judged → R) (heard : Heard tell) (L : Limits) (g
     holds-leaves = leaves;
     fails-writes = writes;
     past-unchanged = λ n q. wrote n q .rest;
+  }
+
+module _ {R : Type 0} (tell : Judged → R) (heard : Heard tell) (L : Limits) (g p out work out′ work′ : List ℕ) (c : Judged)
+    (does : Does (judged L g p (length out) (length work)) out work out′ work′ (judged-answer c)) where
+  abbrev ls : Lines
+  ls = judge-lines L g p (length out) (length work)
+
+  decided : Decided (judged L g p (length out) (length work)) (judge-verdict L g p (length out) (length work)) ls
+  decided = judge-decided L g p (length out) (length work)
+
+  pub judge-tells : JudgeMeans tell L g p out work out′ work′ (tell c)
+  judge-tells = record {
+    verdict = verdict-tells tell heard (decode-graph g) (decode-property p) _ ls decided (λ t. judge-says L g p (length out) (length work) _ (decided .accepted .1 t)) out out′ c (does .answers);
+    clears = clears-by judged-enum tell heard _ _ ls decided c (does .answers .answer-is) work work′ (does .work-is);
   }
 
 -- The returned value, from what the contract states of it.

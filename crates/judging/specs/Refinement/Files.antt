@@ -11,13 +11,6 @@ use Rattle.files.specs.View.{view-size, view-edges, view-flow, view-filed}
 use Rattle.judging.specs.declared.sizes.Sizes.{Sizes}
 use Rattle.judging.specs.Refinement.{Both, edge}
 
--- where an edge comes from and leads to
-pub from-in : (G : Graph) → Flow G → (e : ℕ) → e < length (G .edges) → (edge G e) .from < size G
-from-in G fl e h = fl .from-node (edge G e) (index-e no-edge (G .edges) e h)
-
-pub to-in : (G : Graph) → Flow G → (e : ℕ) → e < length (G .edges) → (edge G e) .to < size G
-to-in G fl e h = fl .to-node (edge G e) (index-e no-edge (G .edges) e h)
-
 module _ (s : Sizes) (f g : List ℕ) (x : Both s f g) where
   abbrev G : Graph
   G = decode-graph f

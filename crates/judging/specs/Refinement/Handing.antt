@@ -17,7 +17,7 @@ use Rattle.judging.specs.Chains.{Outside}
 use Rattle.judging.specs.Chains.Laws.{chained-same}
 use Rattle.judging.specs.Refinement.{rel, held, edge, neighbour, follows, comes, labelled-into, Reaches, Neighbours, In, Within, Preceded, Preceding, LostMet, Meets, Sifted, Refining, Shrank, Contained, LabelMatched, NodeMatched, Leading, Candidates}
 use Rattle.judging.specs.Refinement.Preparing.{leads-into-i, leads-into-e, leads-to-i}
-use Rattle.judging.specs.Refinement.Files.{from-in, to-in}
+use Rattle.files.specs.Graph.Ends.{from-in, to-in}
 use Rattle.judging.specs.Simulation.{related}
 use Rattle.judging.specs.Simulation.Laws.{related-e, related-simulation}
 

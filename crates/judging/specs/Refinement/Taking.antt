@@ -18,7 +18,7 @@ use Rattle.files.specs.Graph.{Graph, Edge, size, node, no-edge, Flow}
 use Rattle.judging.specs.Chains.{Outside}
 use Rattle.judging.specs.Refinement.{rel, held, load, edge, Refining, Shrank, LabelMatched, NodeMatched, Leading, Took, MatchedAt, Matching, Settled}
 use Rattle.judging.specs.Refinement.Handing.{looked-up-kept}
-use Rattle.judging.specs.Refinement.Files.{from-in, to-in}
+use Rattle.files.specs.Graph.Ends.{from-in, to-in}
 use Rattle.judging.specs.Simulation.{Simulation, related}
 use Rattle.judging.specs.Simulation.Laws.{alike-e, related-e, largest}
 

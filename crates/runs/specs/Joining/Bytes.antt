@@ -1,65 +1,26 @@
 -- The joined graph in bytes, part by part, as the code stores them: the first graph's nodes, the second's, the first's edges, the second's moved.
-use mathlib.Core.Path.{_≡_, refl, sym, ap, ap₂, _∙_}
-use mathlib.Core.List.{List, [], _∷_, _++_, map, append-assoc, map-append}
-use Prim.Native.Nat.{ℕ, suc, _+_, _*_, _-_, _≤_, _<_, suc-le-suc}
-use native.Mathlib.Nat.{zero-add, add-zero, zero-lt-suc}
+use mathlib.Core.Path.{_≡_, sym, ap, ap₂, _∙_}
+use mathlib.Core.List.{List, _++_, map, append-assoc, map-append}
+use Prim.Native.Nat.{ℕ, _+_, _*_, _≤_}
 use native.Mathlib.Omega.{arith}
-use lib.ListN.{length, getD, take, length-append, length-map}
+use lib.ListN.{length, take, length-append, length-map}
 use lib.Seq.{length-take-le}
-use Rattle.files.specs.Access.{GraphFile, edge-held}
-use Rattle.files.specs.Basics.Lists.{each, each-append, each-map, span}
+use Rattle.files.specs.Basics.Lists.{each-append}
 use Rattle.files.specs.Cells.{put-at}
 use Rattle.files.specs.Decode.{decode-graph, node-rec, edge-rec, graph-bytes}
 use Rattle.files.specs.Decode.Canonical.{nodes-written, edges-written}
-use Rattle.files.specs.Decode.Graphs.{few, decoded-size, decoded-edges, decoded-flow}
+use Rattle.files.specs.Decode.Graphs.{few}
 use Rattle.files.specs.Decode.Written.{graph-bytes-is, length-write}
-use Rattle.files.specs.Graph.{Graph, Edge, Flow, size, no-edge}
-use Rattle.files.specs.Record.{count, part, six, write, edge-record}
-use Rattle.files.specs.Refusal.{nodes-of}
-use Rattle.files.specs.declared.graph.GraphEdge.{GraphEdge}
+use Rattle.files.specs.Graph.{Graph, Edge, size}
+use Rattle.files.specs.Record.{part, six, write}
 use Rattle.judging.specs.Refinement.{Both}
-use Rattle.judging.specs.Refinement.Files.{first-size, second-size, first-edges, second-edges}
-use Rattle.judging.specs.Refinement.Files.{from-in, to-in}
+use Rattle.judging.specs.Refinement.Files.{first-size, second-size, first-edges}
 use Rattle.judging.specs.Sheets.Walk.{put-next}
 use Rattle.judging.specs.declared.sizes.Sizes.{Sizes}
 use Rattle.files.specs.Join.{join, moved}
 use Rattle.files.specs.Join.Laws.{join-is}
-use Rattle.runs.specs.Joining.{moved-bytes}
-
--- ---- one edge
-
--- an edge of an accepted graph, moved, has its ends in a byte
-module _ (g : List ℕ) (x : GraphFile g) (n n₂ e₂ : ℕ) (nodes-are : n₂ ≡ nodes-of g) (edges-are : e₂ ≡ count g - nodes-of g) (fits : n + n₂ ≤ 256) (j : ℕ) (h : j < e₂) (u : GraphEdge)
-    (held : u ≡ edge-held (getD ((decode-graph g) .edges) j no-edge)) where
-  inside : j < length ((decode-graph g) .edges)
-  inside = omega (arith, h, edges-are, decoded-edges (x .limits) g (x .accepted))
-
-  flow : Flow (decode-graph g)
-  flow = decoded-flow (x .limits) g (x .accepted)
-
-  pub from-fits : n + u .from < 256
-  from-fits = omega (arith, ap (λ (v : GraphEdge). v .from) held, from-in (decode-graph g) flow j inside, decoded-size (x .limits) g (x .accepted), nodes-are, fits)
-
-  pub to-fits : n + u .to < 256
-  to-fits = omega (arith, ap (λ (v : GraphEdge). v .to) held, to-in (decode-graph g) flow j inside, decoded-size (x .limits) g (x .accepted), nodes-are, fits)
-
-  pub moved-is : (from to : ℕ) → from ≡ n + u .from → to ≡ n + u .to → six (edge-record from (u .label) to) ≡ moved-bytes n (decode-graph g) j
-  moved-is from to a b = ap₂ (λ (x y : ℕ). six (edge-record x (u .label) y)) a b ∙ ap (λ (v : GraphEdge). six (edge-record (n + v .from) (v .label) (n + v .to))) held
 
 -- ---- all parts
-
--- each element of a list is each of its places
-each-place : {A B : Type 0} (f : A → List B) (d : A) (xs : List A) (a : ℕ) (g : ℕ → List B) → ((i : ℕ) → i < length xs → g (a + i) ≡ f (getD xs i d))
-    → each g (span a (length xs)) ≡ each f xs
-each-place f d [] a g h = refl
-each-place f d (x ∷ xs) a g h =
-    ap₂ _++_ (ap g (sym (add-zero a)) ∙ h 0 (zero-lt-suc (length xs)))
-    (each-place f d xs (suc a) g (λ i k. let e : suc a + i ≡ a + suc i = omega arith in ap g e ∙ h (suc i) (suc-le-suc k)))
-
-moved-all : (n : ℕ) (G : Graph) → each (moved-bytes n G) (span 0 (length (G .edges))) ≡ write (map edge-rec (map (moved n) (G .edges)))
-moved-all n G =
-    each-place (λ (e : Edge). six (edge-rec (moved n e))) no-edge (G .edges) 0 (moved-bytes n G) (λ i h. ap (moved-bytes n G) (zero-add i))
-    ∙ sym (each-map six edge-rec (map (moved n) (G .edges)) ∙ each-map (λ (e : Edge). six (edge-rec e)) (moved n) (G .edges))
 
 join-parts : (K G : Graph)
     → graph-bytes (join K G)
@@ -101,7 +62,7 @@ module _ (s : Sizes) (f g : List ℕ) (both : Both s f g) where
   second-cut = length-take-le (6 * s .second .nodes) g (omega (arith, both .second-held .views .nodes-are, few (both .second-held .views .graph-file .limits) g (both .second-held .views .graph-file .accepted)))
 
   abbrev all-moved : List ℕ
-  all-moved = each (moved-bytes (s .first .nodes) G) (span 0 (s .second .edges))
+  all-moved = write (map edge-rec (map (moved (s .first .nodes)) (G .edges)))
 
   nodes-first : take (6 * s .first .nodes) f ≡ write (map node-rec (K .nodes))
   nodes-first = ap (λ (n : ℕ). take (6 * n) f) (both .first-held .views .nodes-are) ∙ nodes-written (both .first-held .views .graph-file .limits) f (both .first-held .views .graph-file .accepted)
@@ -113,7 +74,7 @@ module _ (s : Sizes) (f g : List ℕ) (both : Both s f g) where
   edges-first = ap₂ (part f) (both .first-held .views .nodes-are) (both .first-held .views .edges-are) ∙ edges-written (both .first-held .views .graph-file .limits) f (both .first-held .views .graph-file .accepted)
 
   edges-second : all-moved ≡ write (map edge-rec (map (moved (size K)) (G .edges)))
-  edges-second = ap₂ (λ (n m : ℕ). each (moved-bytes n G) (span 0 m)) (sym (first-size s f g both)) (sym (second-edges s f g both)) ∙ moved-all (size K) G
+  edges-second = ap (λ (n : ℕ). write (map edge-rec (map (moved n) (G .edges)))) (sym (first-size s f g both))
 
   abbrev node-run : Graph → List ℕ
   node-run H = write (map node-rec (H .nodes))

@@ -1,21 +1,17 @@
 -- Joining as the code comes to it: what its checks tell; then a joined graph that is too large, one that does not fit, and one that is written.
-use mathlib.Core.Path.{_≡_, refl, sym, ap₂, subst, _∙_}
+use mathlib.Core.Path.{_≡_, refl, sym, ap₂, subst}
 use mathlib.Core.Bool.{true, false}
 use mathlib.Core.List.{List, [], _∷_}
 use Prim.Native.Nat.{ℕ, _+_, _*_, _≤_, _<_}
-use native.Mathlib.Omega.{arith}
 use lib.Bits.{bitOr}
-use lib.Dec.{T}
 use lib.ListN.{length}
 use Rattle.files.specs.Access.{InterfaceFile}
 use Rattle.files.specs.Cells.{put-at}
-use Rattle.files.specs.Cells.Laws.{put-front}
 use Rattle.files.specs.Decode.{decode-graph, decode-interface, graph-bytes}
 use Rattle.files.specs.Graph.{Graph}
 use Rattle.files.specs.Interface.{Interface}
 use Rattle.files.specs.Outcome.{Said, Answers, refused-answer, verdict-answer, Check, whole-check, scan-check, file-checks, answered, refusal-at}
-use Rattle.files.specs.Outcome.Laws.{says-too-large}
-use Rattle.files.specs.Outcome.Ends.{answers-large, answers-short, answers-written}
+use Rattle.files.specs.Outcome.Counted as counted
 use Rattle.files.specs.Refusal.{graph, interface}
 use Rattle.files.specs.Settling.{Row, Settles}
 use Rattle.files.specs.Settling.Laws.{file-known}
@@ -28,7 +24,7 @@ use Rattle.judging.specs.Refinement.{Both}
 use Rattle.judging.specs.declared.sizes.Sizes.{Sizes}
 use Rattle.files.specs.Join.{join}
 use Rattle.runs.specs.Joining.{joined, join-said, join-first, from-size}
-use Rattle.runs.specs.Joining.Sizes.{passes-limits, limits-are, small, nodes-joined, edges-joined, bytes-joined}
+use Rattle.runs.specs.Joining.Sizes.{passes-limits, nodes-joined, edges-joined}
 
 -- ---- the checks before the joined graph
 
@@ -89,11 +85,11 @@ module _ (L : Limits) (i1 g1 i2 g2 out : List ℕ) where
     both-bytes = bitOr (I .provided) (J .provided) ∷ bitOr (I .required) (J .required) ∷ []
 
     pub large-refused : passes-limits L s ≡ true → (r : Refusal) → r ≡ refusal-at 11 0 0 → Answers (answered on-size said) out out (refused-answer r)
-    large-refused t r e = answers-large L whole both-bytes out r (says-too-large L whole .say (subst T (sym t ∙ limits-are L s g1 g2 both) tt)) e
+    large-refused = counted.large-refused L whole (nodes-joined s g1 g2 both) (edges-joined s g1 g2 both) both-bytes out
 
     module _ (within : passes-limits L s ≡ false) where
       pub short-refused : length out < 6 * (s .first .nodes + s .second .nodes + (s .first .edges + s .second .edges)) → (r : Refusal) → r ≡ refusal-at 12 0 0 → Answers (answered on-size said) out out (refused-answer r)
-      short-refused h r e = answers-short L whole both-bytes out (small L s g1 g2 both within) r (omega (arith, h, bytes-joined s g1 g2 both)) e
+      short-refused = counted.short-refused L whole (nodes-joined s g1 g2 both) (edges-joined s g1 g2 both) both-bytes out within
 
       pub join-written : 6 * (s .first .nodes + s .second .nodes + (s .first .edges + s .second .edges)) ≤ length out → (out′ : List ℕ) → out′ ≡ put-at out 0 (graph-bytes whole) → (p p₂ q q₂ : ℕ)
           → p ≡ I .provided → p₂ ≡ J .provided → q ≡ I .required → q₂ ≡ J .required
@@ -101,5 +97,4 @@ module _ (L : Limits) (i1 g1 i2 g2 out : List ℕ) where
       join-written h out′ e p p₂ q q₂ a b c d =
           subst (λ (l : List ℕ). Answers (answered on-size said) out out′ (verdict-answer 1 ((s .first .nodes + s .second .nodes) ∷ (s .first .edges + s .second .edges) ∷ l)))
           (ap₂ (λ (x y : ℕ). x ∷ y ∷ []) (ap₂ bitOr (sym a) (sym b)) (ap₂ bitOr (sym c) (sym d)))
-          (answers-written L whole both-bytes out (small L s g1 g2 both within) out′ (s .first .nodes + s .second .nodes) (s .first .edges + s .second .edges) (omega (arith, h, bytes-joined s g1 g2 both)) (e ∙ put-front out (graph-bytes whole))
-          (nodes-joined s g1 g2 both) (edges-joined s g1 g2 both))
+          (counted.graph-written L whole (nodes-joined s g1 g2 both) (edges-joined s g1 g2 both) both-bytes out within h out′ e)

@@ -6,16 +6,16 @@ use Rattle.checker.proofs.pack.pack_all.Statement.{statement}
 use Rattle.checker.proofs.pack.pack_all.Tie as tie
 
 abbrev Inv-loop : tie.InvT-loop
-Inv-loop listing out₀ p₀ i₀ out p i = length out ≡ length out₀
+Inv-loop listing₀ p₀ i₀ listing p i = length listing ≡ length listing₀
 
 abbrev μ-loop : tie.MeasureT-loop
-μ-loop listing out₀ p₀ i₀ out p i = length listing - i
+μ-loop listing₀ p₀ i₀ listing p i = length listing - i
 
 loop-holds : tie.Need-loop-holds Inv-loop μ-loop
 loop-holds c = search needs
 
-shared-slice-read-step : tie.Need-shared-slice-read-step Inv-loop μ-loop
-shared-slice-read-step c = search needs
+slice-read-b : tie.Need-slice-read-b Inv-loop μ-loop
+slice-read-b c = search needs
 
 step-requires : tie.Need-step-requires Inv-loop μ-loop
 step-requires c κs = search needs
@@ -45,7 +45,7 @@ pack-all-spec =
     Inv-loop
     μ-loop
     loop-holds
-    shared-slice-read-step
+    slice-read-b
     step-requires
     add-i
     loop-less

@@ -2,7 +2,8 @@ use mathlib.Core.Path.{_≡_, subst}
 use Prim.Native.Nat.{ℕ, _-_, _≤_}
 use native.Mathlib.Omega.{arith}
 use Rattle.maximal.specs.Listing.{from-bytes}
-use Rattle.maximal.proofs.WrittenLaws.{Wrote, wrote-none, label-on, labels-so-far, label-fits}
+use Rattle.files.specs.Cells.Wrote.{Wrote, wrote-none}
+use Rattle.maximal.proofs.WrittenLaws.{label-on, labels-so-far, label-fits}
 use Rattle.maximal.proofs.written.write_from.Statement.{statement}
 use Rattle.maximal.proofs.written.write_from.Tie as tie
 

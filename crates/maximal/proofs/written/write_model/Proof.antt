@@ -4,7 +4,8 @@ use native.Mathlib.Omega.{arith}
 use Rattle.files.specs.Decode.{decode-interface, decode-property}
 use Rattle.maximal.specs.Charting.Files.{file-named}
 use Rattle.maximal.specs.Listing.Laws.{edges-bytes, model-edges-many}
-use Rattle.maximal.proofs.WrittenLaws.{Wrote, wrote-none, state-on, state-fits, model-end}
+use Rattle.files.specs.Cells.Wrote.{Wrote, wrote-none}
+use Rattle.maximal.proofs.WrittenLaws.{state-on, state-fits, model-end}
 use Rattle.maximal.proofs.written.write_model.Statement.{statement}
 use Rattle.maximal.proofs.written.write_model.Tie as tie
 

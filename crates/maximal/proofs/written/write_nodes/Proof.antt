@@ -3,7 +3,8 @@ use Prim.Native.Nat.{ℕ, _-_, _≤_}
 use native.Mathlib.Omega.{arith}
 use Rattle.files.specs.Cells.{put-at}
 use Rattle.maximal.specs.Listing.Laws.{nodes-bytes}
-use Rattle.maximal.proofs.WrittenLaws.{Wrote, wrote-none, node-on}
+use Rattle.files.specs.Cells.Wrote.{Wrote, wrote-none}
+use Rattle.maximal.proofs.WrittenLaws.{node-on}
 use Rattle.maximal.proofs.written.write_nodes.Statement.{statement}
 use Rattle.maximal.proofs.written.write_nodes.Tie as tie
 

@@ -7,7 +7,8 @@ use Rattle.files.specs.declared.record.Record.{Record}
 use Rattle.maximal.specs.Listing.{under-bytes}
 use Rattle.maximal.proofs.BitLaws.{Before, visit}
 use Rattle.maximal.proofs.RankLaws.{leads-row}
-use Rattle.maximal.proofs.WrittenLaws.{Wrote, wrote-none, edge-on, edge-off, edges-so-far, edge-fits}
+use Rattle.files.specs.Cells.Wrote.{Wrote, wrote-none}
+use Rattle.maximal.proofs.WrittenLaws.{edge-on, edge-off, edges-so-far, edge-fits}
 use borrow.Author.Needs.{needs}
 use Rattle.maximal.proofs.written.write_under.Statement.{statement}
 use Rattle.maximal.proofs.written.write_under.Tie as tie

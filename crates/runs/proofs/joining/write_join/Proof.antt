@@ -57,13 +57,12 @@ part-copy-at-end c =
 copy-at-requires-3 : tie.Need-copy-at-requires-3
 copy-at-requires-3 c κs = search needs
 
-add-write-all-moved : tie.Need-add-write-all-moved
-add-write-all-moved c = search needs
+add-end : tie.Need-add-end
+add-end c = search needs
 
-add-write-all-moved-2 : tie.Need-add-write-all-moved-2
-add-write-all-moved-2 c =
-    let d = c .before .before .before .before .before .before .before .before .before .before .before .before .before .before .before in
-    let k = d .before .before .before .before .before .before .before .before .before in
+add-end-2 : tie.Need-add-end-2
+add-end-2 c =
+    let k = c .before .before .before .before .before .before .before .before .before .before .before .before .before .before .before .before .before .before .before .before .before .before .before in
     omega (arith, k .pre .1 .0, k .pre .0 .first-held .few-edges)
 
 write-all-moved-requires : tie.Need-write-all-moved-requires
@@ -74,7 +73,7 @@ write-all-moved-requires c κs =
     let c1 = d .copy-at in
     let c2 = c .before .before .before .before .before .before .before .before .before .before .copy-at2 in
     let c3 = c .before .before .before .before .before .copy-at3 in
-    (b .second-held .views .graph-file, (b .second-held .views .nodes-are, (b .second-held .views .edges-are, (k .pre .1 .0, omega (arith, k .pre .1 .1, c3 .kept .0, c2 .kept .0, c1 .kept .0)))))
+    (b .second-held .views, (k .pre .1 .0, omega (arith, k .pre .1 .1, c3 .kept .0, c2 .kept .0, c1 .kept .0)))
 
 same-length : tie.Need-same-length
 same-length c = search needs
@@ -90,7 +89,7 @@ returns c =
     let c3 = c .before .before .before .before .before .before .before .before .copy-at3 in
     let w = c .before .before .write-all-moved in
     let e : 6 * (s .first .nodes + s .first .edges) - 6 * s .first .nodes ≡ 6 * s .first .edges = omega arith in
-    join-stored s f (k .args .graph2 .now) (k .pre .0) (k .args .out .now) (c1 .last .0) (c2 .last .0) (c3 .last .0) (w .last .1 .1 .0)
+    join-stored s f (k .args .graph2 .now) (k .pre .0) (k .args .out .now) (c1 .last .0) (c2 .last .0) (c3 .last .0) (w .last .1 .1 .1 .0)
     (take (6 * (s .first .nodes + s .first .edges) - 6 * s .first .nodes) (drop (6 * s .first .nodes) f)) (c1 .ensures) (c2 .ensures) (c3 .ensures)
     (ap (λ (n : ℕ). take n (drop (6 * s .first .nodes) f)) e) (w .ensures)
 
@@ -111,8 +110,8 @@ write-join-spec =
     part-copy-at-start
     part-copy-at-end
     copy-at-requires-3
-    add-write-all-moved
-    add-write-all-moved-2
+    add-end
+    add-end-2
     write-all-moved-requires
     same-length
     returns)
