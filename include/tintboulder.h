@@ -72,6 +72,16 @@ struct tintboulder_answer tintboulder_compose(const uint8_t *known_interface, si
                                               const uint8_t *rules, size_t rules_length, uint8_t start, uint8_t *out, size_t out_length, uint8_t *store,
                                               size_t store_length, uint8_t *work, size_t work_length);
 
+/* The composed verdict for two sides that are not written yet: is every run clean, from the start method, of two flow graphs joined, of which each is of its side's
+   interface and satisfies its property, whichever and however large they are? Verdict 1: clean. Verdict 2: bad; first is the number of records of the trail, which is
+   written to out, 6 bytes each: a run of the two maximal models joined, the first side's nodes first. Interfaces, properties and rules are refused as files 1 to 5, and
+   a start that is not 1 to 8 by 3 with file 0 and record 0. store and work are both scratch as work above, of at least
+   tintboulder_work(12) and tintboulder_work(11) bytes. */
+struct tintboulder_answer tintboulder_compose_both(const uint8_t *interface1, size_t interface1_length, const uint8_t *property1, size_t property1_length,
+                                                   const uint8_t *interface2, size_t interface2_length, const uint8_t *property2, size_t property2_length,
+                                                   const uint8_t *rules, size_t rules_length, uint8_t start, uint8_t *out, size_t out_length,
+                                                   uint8_t *store, size_t store_length, uint8_t *work, size_t work_length);
+
 /* The graph of a file of deliveries: each opens with a record of kind 6 and has the nodes and edges of one method, numbered from 0 within it; of each method the
    highest revision stands, and the methods ascend. Verdict 1: written; first is the number of the standing graph's nodes, second that of its edges, and its graph file,
    6 bytes for each of both, is written to out. Two deliveries of one method with equal revisions are refused by 14, a standing graph past the limits by 11, both with
@@ -85,8 +95,8 @@ struct tintboulder_answer tintboulder_judge_deliveries(const uint8_t *deliveries
                                                        uint8_t *out, size_t out_length, uint8_t *store, size_t store_length, uint8_t *work,
                                                        size_t work_length);
 
-/* The least length of the work buffer of a call: 1 judge, 2 compare, 3 model, 6 watch, 7 compose, 9 judge_deliveries; 8 is that of compose's store, 10 that of
-   judge_deliveries' store; 0 for other numbers. */
+/* The least length of the work buffer of a call: 1 judge, 2 compare, 3 model, 6 watch, 7 compose, 9 judge_deliveries, 11 compose_both; 8 is that of compose's store,
+   10 that of judge_deliveries' store, 12 that of compose_both's store; 0 for other numbers. */
 uint64_t tintboulder_work(uint64_t call);
 
 #ifdef __cplusplus

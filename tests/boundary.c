@@ -1,5 +1,5 @@
 /* The header against the static library: one accepted and one refused file of each kind; judging, comparing, modelling, joining, showing, watching, the composed
-   verdict, and assembling and judging deliveries, with the buffers they are lent. Exits with the number of answers that are wrong. */
+   verdicts, and assembling and judging deliveries, with the buffers they are lent. Exits with the number of answers that are wrong. */
 #include "../include/tintboulder.h"
 
 #include <string.h>
@@ -219,6 +219,45 @@ static int wrong_composing(void)
         + !composes(anything, n, 1, short_work, 0, 13) + (tintboulder_work(7) != whole.work) + (tintboulder_work(8) != whole.store);
 }
 
+/* The composed verdict of method 1, which may call 2, and of method 2, which may call 1, where neither is written and a call of 1 by 2 is bad. */
+static int composes_both(const uint8_t *property2, size_t length, uint8_t start, struct lent lent, uint32_t verdict, uint32_t number)
+{
+    static const uint8_t rules[] = {4, 0, 1, 2, 1, 7};
+    static const uint8_t trail[] = {5, 0, 0, 0, 5, 0, 5, 0, 2, 1, 1, 7};
+    struct tintboulder_answer a;
+    fill_all();
+    a = tintboulder_compose_both(interface1, sizeof interface1, anything, sizeof anything, interface2, sizeof interface2, property2, length, rules, sizeof rules,
+                                 start, whole_out, lent.out, whole_store, lent.store, whole_work, lent.work);
+    return leaves(a, lent, verdict, number, trail, sizeof trail);
+}
+
+/* Clean by the second property, also without any output, and without it bad with two records; then the refusals by 3 and 10, for the start method, by 12, and by 13 for
+   each of both buffers, also before a property that is refused by 6. */
+static int wrong_composing_both(void)
+{
+    static const struct lent whole = {14, 52224, 103456}, no_out = {0, 52224, 103456}, short_out = {11, 52224, 103456}, short_store = {12, 52223, 103456},
+                             short_work = {12, 52224, 103455};
+    const size_t n = sizeof anything;
+    return !composes_both(no_call, sizeof no_call, 2, whole, 1, 0) + !composes_both(no_call, sizeof no_call, 2, no_out, 1, 0)
+        + !composes_both(anything, n, 2, whole, 2, 0) + !composes_both(anything, n, 9, whole, 0, 3) + !composes_both(anything, n, 3, whole, 0, 10)
+        + !composes_both(anything, n, 2, short_out, 0, 12) + !composes_both(anything, n, 2, short_store, 0, 13) + !composes_both(anything, n, 2, short_work, 0, 13)
+        + !composes_both(anything, 0, 2, short_work, 0, 13) + (tintboulder_work(11) != whole.work) + (tintboulder_work(12) != whole.store);
+}
+
+/* Shared methods, and the files of a second side that are refused: the answer has the file's position. */
+static int wrong_sides(void)
+{
+    static const struct lent lent = {12, 52224, 103456};
+    static const uint64_t file_3[4] = {3, 0, 0, 0}, file_4[4] = {4, 0, 0, 0};
+    const size_t n = sizeof anything;
+    struct tintboulder_answer a, b, c;
+    fill_all();
+    a = tintboulder_compose_both(interface1, 6, anything, n, interface1, 6, anything, n, NULL, 0, 1, whole_out, lent.out, whole_store, lent.store, whole_work, lent.work);
+    b = tintboulder_compose_both(interface1, 6, anything, n, anything, n, anything, n, NULL, 0, 1, whole_out, lent.out, whole_store, lent.store, whole_work, lent.work);
+    c = tintboulder_compose_both(interface1, 6, anything, n, interface2, 6, NULL, 0, NULL, 0, 1, whole_out, lent.out, whole_store, lent.store, whole_work, lent.work);
+    return !gives(a, 0, 9, no_values, whole_out, anything, 0) + !gives(b, 0, 2, file_3, whole_out, anything, 0) + !gives(c, 0, 6, file_4, whole_out, anything, 0);
+}
+
 /* Method 2, then two revisions of method 1, the higher one first; and one delivery twice. */
 static const uint8_t deliveries[] = {6, 2, 3, 0, 0, 0, 1, 2, 0, 1, 0, 0, 2, 0, 0, 0, 0, 0, 6, 1, 9, 0, 0, 0, 1, 1, 0, 1, 0, 0, 6, 1, 8, 0, 0, 0, 1, 1, 1, 1, 0, 0};
 static const uint8_t repeated[] = {6, 1, 1, 0, 0, 0, 6, 1, 1, 0, 0, 0};
@@ -297,8 +336,10 @@ int main(void)
     wrong += wrong_showing();
     wrong += wrong_watching();
     wrong += wrong_composing();
+    wrong += wrong_composing_both();
+    wrong += wrong_sides();
     wrong += wrong_assembling();
     wrong += wrong_judging_deliveries();
-    wrong += (tintboulder_work(0) != 0) + (tintboulder_work(11) != 0);
+    wrong += (tintboulder_work(0) != 0) + (tintboulder_work(13) != 0);
     return wrong;
 }

@@ -20,7 +20,9 @@ use judging::sizes::Sizes;
 use maximal::places::Places;
 use printing::stdout::BUFFERED;
 use runs::answers::Shown;
+use runs::answers::Verdict;
 use runs::regions::Regions;
+use runs::unwritten::STORE;
 
 fn judge_buffer() -> [u8; Shape::ROOM]
     ensures { λ r. ⌜ 41664 ≡ length r ⌝ }
@@ -50,6 +52,13 @@ fn watch_buffer() -> [u8; Regions::ROOM]
     ensures { λ r. ⌜ 46949 ≡ length r ⌝ }
 {
     [0; Regions::ROOM]
+}
+
+// A store of either composed verdict: that of two unwritten sides is the longer one.
+fn compose_buffer() -> [u8; STORE]
+    ensures { λ r. ⌜ 52224 ≡ length r ⌝ }
+{
+    [0; STORE]
 }
 
 pub fn judge(stdout: &mut [u8; BUFFERED], at: usize) {
@@ -239,72 +248,146 @@ pub fn watch(stdout: &mut [u8; BUFFERED], at: usize) {
     }
 }
 
+// The composed verdict of loaded files. Where `both` sides are unwritten, `first` is a property, otherwise the known side's graph.
+fn composed(
+    interface1: &[u8],
+    first: &[u8],
+    interface2: &[u8],
+    property2: &[u8],
+    rules: &[u8],
+    start: u8,
+    out: &mut [u8],
+    both: bool,
+) -> Verdict {
+    let mut store = compose_buffer();
+    let mut work = model_buffer();
+    if both {
+        runs::compose_both(
+            interface1,
+            first,
+            interface2,
+            property2,
+            rules,
+            start,
+            out,
+            &mut store,
+            &mut work,
+        )
+    } else {
+        runs::compose(
+            interface1,
+            first,
+            interface2,
+            property2,
+            rules,
+            start,
+            out,
+            &mut store,
+            &mut work,
+        )
+    }
+}
+
+fn say_composed(
+    stdout: &mut [u8; BUFFERED],
+    answer: Verdict,
+    out: &[u8],
+    start: u8,
+    at: usize,
+    both: bool,
+) {
+    if both {
+        say_watched(
+            stdout,
+            answer,
+            b"clean with every two modules that conform\n",
+            out,
+            start,
+            at,
+        );
+    } else {
+        say_watched(
+            stdout,
+            answer,
+            b"clean with every module that conforms\n",
+            out,
+            start,
+            at,
+        );
+    }
+}
+
 // The composed verdict by the rules, of both sides' files, which are loaded.
 fn compose_by(
     stdout: &mut [u8; BUFFERED],
-    known: &[u8],
-    graph: &[u8],
-    other: &[u8],
-    property: &[u8],
+    interface1: &[u8],
+    first: &[u8],
+    interface2: &[u8],
+    property2: &[u8],
     at: usize,
+    both: bool,
 ) {
     let mut rules = io::large_buffer();
     let r = load(stdout, 6, &mut rules);
     let start = number(stdout, 7);
     if r.ok & start.ok {
         let mut out = io::large_buffer();
-        let mut store = watch_buffer();
-        let mut work = model_buffer();
         let rules_end = r.length;
         let method = method_of(start.value);
-        let answer = runs::compose(
-            known,
-            graph,
-            other,
-            property,
+        let answer = composed(
+            interface1,
+            first,
+            interface2,
+            property2,
             &rules[..rules_end],
             method,
             &mut out,
-            &mut store,
-            &mut work,
+            both,
         );
-        say_watched(
-            stdout,
-            answer,
-            b"clean with every module that conforms\n",
-            &out,
-            method,
-            at,
-        );
+        say_composed(stdout, answer, &out, method, at, both);
     }
 }
 
-// The composed verdict with the other side's files, of the known side's, which are loaded.
-fn compose_with(stdout: &mut [u8; BUFFERED], known: &[u8], graph: &[u8], at: usize) {
-    let mut other = io::large_buffer();
-    let mut property = io::large_buffer();
-    let files = load_two(stdout, 4, &mut other, &mut property);
+// The composed verdict with the second side's files, of the first side's, which are loaded.
+fn compose_with(
+    stdout: &mut [u8; BUFFERED],
+    interface1: &[u8],
+    first: &[u8],
+    at: usize,
+    both: bool,
+) {
+    let mut interface2 = io::large_buffer();
+    let mut property2 = io::large_buffer();
+    let files = load_two(stdout, 4, &mut interface2, &mut property2);
     if files.ok {
-        let other_end = files.first;
-        let property_end = files.second;
+        let interface2_end = files.first;
+        let property2_end = files.second;
         compose_by(
             stdout,
-            known,
-            graph,
-            &other[..other_end],
-            &property[..property_end],
+            interface1,
+            first,
+            &interface2[..interface2_end],
+            &property2[..property2_end],
             at,
+            both,
         );
     }
 }
 
-pub fn compose(stdout: &mut [u8; BUFFERED], at: usize) {
-    let mut known = io::large_buffer();
-    let mut graph = io::large_buffer();
-    let files = load_two(stdout, 2, &mut known, &mut graph);
+// With one side known by its graph, or `both` by properties only.
+pub fn compose(stdout: &mut [u8; BUFFERED], at: usize, both: bool) {
+    let mut interface1 = io::large_buffer();
+    let mut first = io::large_buffer();
+    let files = load_two(stdout, 2, &mut interface1, &mut first);
     if files.ok {
-        let known_end = files.first;
-        let graph_end = files.second;
-        compose_with(stdout, &known[..known_end], &graph[..graph_end], at);
+        let interface1_end = files.first;
+        let first_end = files.second;
+        compose_with(
+            stdout,
+            &interface1[..interface1_end],
+            &first[..first_end],
+            at,
+            both,
+        );
     }
 }

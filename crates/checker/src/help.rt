@@ -32,6 +32,10 @@ fn say_calls(stdout: &mut [u8; BUFFERED]) {
         stdout,
         b"checker compose INTERFACE GRAPH OTHER PROPERTY RULES START  the same with every module of the other interface that satisfies the property\n",
     );
+    say(
+        stdout,
+        b"checker compose-both INTERFACE1 PROPERTY1 INTERFACE2 PROPERTY2 RULES START\n                                                            the same with every two modules of these interfaces that satisfy their properties\n",
+    );
 }
 
 // The calls on deliveries.

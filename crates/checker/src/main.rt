@@ -81,9 +81,10 @@ fn run_on_sides(stdout: &mut [u8; BUFFERED], given: usize, at: usize) -> bool {
         }
         return true;
     }
-    if is_word(1, b"compose") {
+    let both = is_word(1, b"compose-both");
+    if both | is_word(1, b"compose") {
         if takes(stdout, given, 6) {
-            commands::compose(stdout, at);
+            commands::compose(stdout, at, both);
         }
         return true;
     }

@@ -7,6 +7,7 @@ use judging::shape::Shape;
 use judging::sizes::Sizes;
 use maximal::places::Places;
 use runs::regions::Regions;
+use runs::unwritten::STORE;
 
 // The number that an example has in two bytes from i on, low byte first.
 pub(crate) fn two_bytes(example: &[u8], i: usize) -> usize
@@ -16,7 +17,7 @@ pub(crate) fn two_bytes(example: &[u8], i: usize) -> usize
     wide(example[i]) + 256 * wide(example[i + 1])
 }
 
-// The published length of the work buffer of the call that a letter names, or of the store that d is lent; 0 where the flag is 0.
+// The published length of the work buffer of the call that a letter names, or of the store that d and b are lent; 0 where the flag is 0.
 pub(crate) fn work_length(letter: u8, flag: u8) -> usize
     ensures { λ r. ⌜ r ≤ 165152 ⌝ }
 {
@@ -34,6 +35,9 @@ pub(crate) fn work_length(letter: u8, flag: u8) -> usize
     }
     if letter == b'w' {
         return Regions::ROOM;
+    }
+    if letter == b'b' {
+        return STORE;
     }
     Sizes::ROOM
 }

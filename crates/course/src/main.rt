@@ -1,8 +1,8 @@
 // Runs the examples of data/ through the proved code, one after the other as the arguments name them. The first letter of a name tells what its file is: a graph,
 // property, rule or interface file is checked, and its line has `accepted`, nodes and records, or `refused`, number, file and record; `judge`, `compare` and
 // `model` name a call on two files, `join` (by its second letter) one on two sides, `show` one on two graphs and a number, `watch` one on three files and a
-// start method, `compose` (by its fifth letter) one on five, `assemble` one on deliveries and `deliveries` one on them and a property, and the verdict's line is
-// followed by the records or the relation's lines that it wrote.
+// start method, `compose` (by its fifth letter) and `both` one on five, `assemble` one on deliveries and `deliveries` one on them and a property, and the verdict's
+// line is followed by the records or the relation's lines that it wrote.
 use crate::answers::say_checked;
 use crate::deliveries::assemble_standing;
 use crate::deliveries::judge_standing;
@@ -41,8 +41,8 @@ fn run(stdout: &mut [u8; BUFFERED], first: u8, second: u8, fifth: u8, file: &[u8
         watch_runs(stdout, file);
         return;
     }
-    if (first == b'c') & (fifth == b'o') {
-        compose_sides(stdout, file);
+    if ((first == b'c') & (fifth == b'o')) | (first == b'b') {
+        compose_sides(stdout, first == b'b', file);
         return;
     }
     if first == b'a' {

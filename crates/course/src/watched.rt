@@ -1,4 +1,4 @@
-// Examples that are watched: a graph with its rules, or a known side with the property of the other one.
+// Examples that are watched: a graph with its rules, a known side with the property of the other one, or two sides of which only properties are known.
 ghost use Prim.Native.Nat.{_≤_};
 ghost use lib.ListN.{length};
 use crate::answers::say_watched;
@@ -6,6 +6,7 @@ use crate::lengths::two_bytes;
 use crate::lengths::work_buffer;
 use crate::lengths::work_length;
 use printing::stdout::BUFFERED;
+use runs::answers::Verdict;
 
 fn watch_on(
     stdout: &mut [u8; BUFFERED],
@@ -59,12 +60,53 @@ pub(crate) fn watch_runs(stdout: &mut [u8; BUFFERED], example: &[u8]) {
     );
 }
 
+// The call on five files. Of the first side the second file is the graph, or the property where both sides are unwritten.
+fn composed(
+    both: bool,
+    interface1: &[u8],
+    first: &[u8],
+    interface2: &[u8],
+    property2: &[u8],
+    rules: &[u8],
+    start: u8,
+    out: &mut [u8],
+    store: &mut [u8],
+    work: &mut [u8],
+) -> Verdict {
+    if both {
+        runs::compose_both(
+            interface1,
+            first,
+            interface2,
+            property2,
+            rules,
+            start,
+            out,
+            store,
+            work,
+        )
+    } else {
+        runs::compose(
+            interface1,
+            first,
+            interface2,
+            property2,
+            rules,
+            start,
+            out,
+            store,
+            work,
+        )
+    }
+}
+
 fn compose_on(
     stdout: &mut [u8; BUFFERED],
-    known_interface: &[u8],
-    known_graph: &[u8],
-    other_interface: &[u8],
-    property: &[u8],
+    both: bool,
+    interface1: &[u8],
+    first: &[u8],
+    interface2: &[u8],
+    property2: &[u8],
     rules: &[u8],
     start: u8,
     out: &mut [u8],
@@ -76,11 +118,12 @@ fn compose_on(
 )
     requires { ⌜ (room ≤ length (now out)) × ((held ≤ length (now store)) × (lent ≤ length (now work))) ⌝ }
 {
-    let answer = runs::compose(
-        known_interface,
-        known_graph,
-        other_interface,
-        property,
+    let answer = composed(
+        both,
+        interface1,
+        first,
+        interface2,
+        property2,
         rules,
         start,
         &mut out[..room],
@@ -90,9 +133,14 @@ fn compose_on(
     say_watched(stdout, answer, &out[..room]);
 }
 
+// The letter of the store's published length.
+fn store_letter(both: bool) -> u8 {
+    if both { b'b' } else { b'w' }
+}
+
 // The composed verdict. The example starts with the lengths of the first four files and of the output, two bytes each, low byte first, then 1 for a store of the
 // published length or 0 for none, the same for a work buffer, and the start method; the five files follow.
-pub(crate) fn compose_sides(stdout: &mut [u8; BUFFERED], example: &[u8]) {
+pub(crate) fn compose_sides(stdout: &mut [u8; BUFFERED], both: bool, example: &[u8]) {
     if example.len() < 13 {
         return;
     }
@@ -101,7 +149,7 @@ pub(crate) fn compose_sides(stdout: &mut [u8; BUFFERED], example: &[u8]) {
     let third = second + two_bytes(example, 4);
     let fourth = third + two_bytes(example, 6);
     let room = two_bytes(example, 8);
-    let held = work_length(b'w', example[10]);
+    let held = work_length(store_letter(both), example[10]);
     let lent = work_length(b'm', example[11]);
     if example.len() < fourth {
         return;
@@ -111,6 +159,7 @@ pub(crate) fn compose_sides(stdout: &mut [u8; BUFFERED], example: &[u8]) {
     let mut work = work_buffer();
     compose_on(
         stdout,
+        both,
         &example[13..first],
         &example[first..second],
         &example[second..third],

@@ -16,6 +16,7 @@ use Rattle.judging.specs.Judge.{judge-room}
 use Rattle.maximal.specs.Modelling.{model-room}
 use Rattle.runs.specs.Composing.{compose-store, compose-work}
 use Rattle.runs.specs.Prepared.{watch-room}
+use Rattle.runs.specs.Unwritten.{both-store, both-work}
 use Rattle.exports.specs.declared.Answer.{Answer}
 
 -- verdict 0: the refusal's number, then file and record
@@ -59,8 +60,9 @@ abbrev pub fitting : ℕ → Outcome → Outcome
 fitting out (refuses r) = refuses r
 fitting out (says s) = cond (ltb out (length (s .written))) (refuses (refusal-at 12 0 0)) (says s)
 
--- the published length of a call's work buffer, by the call's number; 8 is the composed verdict's `store`, 9 is judging deliveries, 10 its `store`
+-- the published length of a call's work buffer, by the call's number; 8 is the composed verdict's `store`, 9 is judging deliveries, 10 its `store`,
+-- 11 is the composed verdict of two unwritten sides, 12 its `store`
 abbrev pub work-lengths : ℕ → ℕ
 work-lengths call =
     cond (eqb call 1) judge-room (cond (eqb call 2) compare-room (cond (eqb call 3) model-room (cond (eqb call 6) watch-room (cond (eqb call 7) compose-work
-    (cond (eqb call 8) compose-store (cond (eqb call 9) judge-room (cond (eqb call 10) deliveries-store 0)))))))
+    (cond (eqb call 8) compose-store (cond (eqb call 9) judge-room (cond (eqb call 10) deliveries-store (cond (eqb call 11) both-work (cond (eqb call 12) both-store 0)))))))))

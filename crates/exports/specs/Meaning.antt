@@ -30,6 +30,8 @@ use Rattle.runs.specs.Composing.{composed}
 use Rattle.runs.specs.Composing.Meaning.{ComposeMeans, compose-case, compose-tells}
 use Rattle.runs.specs.Joining.{joined, joined-answer}
 use Rattle.runs.specs.Joining.Meaning.{JoinMeans, joined-of, join-case, join-tells}
+use Rattle.runs.specs.Unwritten.{composed-both}
+use Rattle.runs.specs.Unwritten.Meaning.{BothMeans, both-case, both-tells}
 use Rattle.runs.specs.Watching.{watched}
 use Rattle.runs.specs.Watching.Meaning.{WatchMeans, watch-case, watch-tells}
 use Rattle.runs.specs.declared.answers.Joined.{Joined}
@@ -173,4 +175,13 @@ compose-exported ki kg oi p r m out store work out′ store′ work′ a gives =
     let c = compose-case desk ki kg oi p r m (length out) (length store) (length work) in
     subst (ComposeMeans verdict-told desk ki kg oi p r m out store work out′ store′ work′) (sym (gives .numbers-are ∙ ap answer-numbers (sym (c .1))))
     (compose-tells verdict-told verdict-heard desk ki kg oi p r m out store work out′ store′ work′ (c .0)
+    (record { answers = record { answer-is = c .1; out-is = gives .out-is }; store-is = gives .store-is; work-is = gives .work-is }))
+
+pub both-exported : (i₁ p₁ i₂ p₂ r : List ℕ) (m : ℕ) (out store work out′ store′ work′ : List ℕ) (a : Answer)
+    → GivesBoth (composed-both desk i₁ p₁ i₂ p₂ r m (length out) (length store) (length work)) out store work out′ store′ work′ a
+    → BothMeans verdict-told desk i₁ p₁ i₂ p₂ r m out store work out′ store′ work′ a
+both-exported i₁ p₁ i₂ p₂ r m out store work out′ store′ work′ a gives =
+    let c = both-case desk i₁ p₁ i₂ p₂ r m (length out) (length store) (length work) in
+    subst (BothMeans verdict-told desk i₁ p₁ i₂ p₂ r m out store work out′ store′ work′) (sym (gives .numbers-are ∙ ap answer-numbers (sym (c .1))))
+    (both-tells verdict-told verdict-heard desk i₁ p₁ i₂ p₂ r m out store work out′ store′ work′ (c .0)
     (record { answers = record { answer-is = c .1; out-is = gives .out-is }; store-is = gives .store-is; work-is = gives .work-is }))

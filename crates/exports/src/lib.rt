@@ -14,6 +14,7 @@ ghost use Rattle.runs.specs.Composing.{composed};
 ghost use Rattle.runs.specs.Joining.{joined, joined-answer};
 ghost use Rattle.runs.specs.Showing.{shown, part-said};
 ghost use Rattle.runs.specs.Answer.{watched-answer};
+ghost use Rattle.runs.specs.Unwritten.{composed-both};
 ghost use Rattle.runs.specs.Watching.{watched};
 ghost use Rattle.exports.specs.Boundary.{refused-numbers, checked-numbers, answer-numbers, Gives, GivesBoth, GivesOut, fitting, work-lengths};
 use files::answers::Assembled;
@@ -33,6 +34,7 @@ use runs::regions::Regions;
 use runs::showing::Place;
 use runs::showing::find_place;
 use runs::showing::record_at;
+use runs::unwritten::STORE;
 
 // Verdict 0 is a refusal: its number, file (first) and record (second). Other verdicts carry their values from first on.
 #[repr(C)]
@@ -384,7 +386,37 @@ pub extern "C" fn tintboulder_compose(
     ))
 }
 
-// The published length of a call's work buffer: 1 is judge, 2 compare, 3 model, 6 watch, 7 compose, 8 compose's store, 9 judge_deliveries, 10 its store; 0 for other numbers.
+// The composed verdict of two sides that are both not written yet: verdict 1 clean with every two modules that conform, 2 bad, with the number of records of the trail, which is
+// written to `out`, in the numbers of the two models joined.
+#[no_mangle]
+pub extern "C" fn tintboulder_compose_both(
+    interface1: &[u8],
+    property1: &[u8],
+    interface2: &[u8],
+    property2: &[u8],
+    rules: &[u8],
+    start: u8,
+    out: &mut [u8],
+    store: &mut [u8],
+    work: &mut [u8],
+) -> Answer
+    ensures { λ a. ⌜ GivesBoth (composed-both desk (now (interface1 .entry)) (now (property1 .entry)) (now (interface2 .entry)) (now (property2 .entry)) (now (rules .entry)) start (length (now (out .entry))) (length (now (store .entry))) (length (now (work .entry)))) (now (out .entry)) (now (store .entry)) (now (work .entry)) (now (out .exit)) (now (store .exit)) (now (work .exit)) a ⌝ }
+{
+    watched_answer(runs::compose_both(
+        interface1,
+        property1,
+        interface2,
+        property2,
+        rules,
+        start,
+        out,
+        store,
+        work,
+    ))
+}
+
+// The published length of a call's work buffer: 1 is judge, 2 compare, 3 model, 6 watch, 7 compose, 8 compose's store, 9 judge_deliveries, 10 its store, 11 compose_both, 12 its store; 0 for
+// other numbers.
 #[no_mangle]
 pub extern "C" fn tintboulder_work(call: u64) -> u64
     ensures { λ n. ⌜ n ≡ work-lengths call ⌝ }
@@ -412,6 +444,12 @@ pub extern "C" fn tintboulder_work(call: u64) -> u64
     }
     if call == 10 {
         return Shape::STORE as u64;
+    }
+    if call == 11 {
+        return Places::ROOM as u64;
+    }
+    if call == 12 {
+        return STORE as u64;
     }
     0
 }

@@ -10,5 +10,6 @@ pub mod Worklist
 pub mod Searching
 pub mod Watching
 pub mod Composing
+pub mod Unwritten
 pub mod Verdict
 pub mod Examples

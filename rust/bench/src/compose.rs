@@ -6,7 +6,7 @@ use crate::model::{interface_and_property, DEAR, FULL, PAST_STATES};
 use crate::watch::{all_rules, clean_rules, TYPICAL_RULES};
 use compare::Input;
 use course::Study;
-use generator::generate::{scattered, Random};
+use generator::generate::{chain_of_boxes, scattered, Random};
 use std::io;
 
 /// Properties and start methods that the case studies speak of, and the names of their rows.
@@ -47,7 +47,10 @@ pub fn growth() -> Vec<Series> {
         let labels = [0, 1, 2, 3, 4];
         let graph = exactly(&mut Random::new(1), &labels[1..4], &labels, nodes, 4 * nodes);
         let [known, other] = [[5, 7, 15, 0, 0, 0], [5, 8, 15, 0, 0, 0]].map(Vec::from);
-        Input { files: vec![known, graph, other, chain(rows), clean_rules(896)], number: 1 }
+        Input {
+            files: vec![known, graph, other, chain_of_boxes(rows), clean_rules(896)],
+            number: 1,
+        }
     };
     let nodes = |nodes| composed(nodes, 8);
     let rows = |rows| composed(64, rows);
@@ -57,7 +60,7 @@ pub fn growth() -> Vec<Series> {
     ]
 }
 
-fn composed(name: &str, files: [Vec<u8>; 5], start: u8) -> Timed {
+pub fn composed(name: &str, files: [Vec<u8>; 5], start: u8) -> Timed {
     timed(name, Input { files: files.into(), number: start.into() })
 }
 
@@ -65,26 +68,32 @@ fn composed(name: &str, files: [Vec<u8>; 5], start: u8) -> Timed {
 fn p11() -> [Vec<u8>; 5] {
     let graph = [[1, 1, 0, 1, 0, 0], [1, 1, 1, 0, 0, 0], [2, 0, 2, 1, 0, 0]].concat();
     let [known, other] = [[5, 1, 2, 0, 0, 0], [5, 2, 0, 0, 0, 0]].map(Vec::from);
-    [known, graph, other, vec![3, 1, 0, 0, 0, 0], vec![4, 0, 2, 2, 1, 7]]
+    [known, graph, other, TRUE.to_vec(), P11_RULES.to_vec()]
 }
+
+pub const TRUE: [u8; 6] = [3, 1, 0, 0, 0, 0];
+/// Method 2 returns to method 1.
+pub const P11_RULES: [u8; 6] = [4, 0, 2, 2, 1, 7];
 
 /// Three methods beside a fourth, which calls 1 only after 2.
 fn typical(random: &mut Random) -> [Vec<u8>; 5] {
     let graph = scattered(random, &[1, 2, 3], &[0, 1, 2, 3, 4], 40, 80);
-    let rows = [
-        [3, 7, 1, 2, 0, 0],
-        [3, 9, 1, 3, 0, 0],
-        [3, 7, 4, 5, 0, 0],
-        [3, 2, 0, 0, 0, 0],
-        [3, 9, 0, 0, 0, 0],
-        [3, 7, 6, 7, 0, 0],
-        [3, 9, 3, 0, 0, 0],
-        [3, 9, 2, 8, 0, 0],
-        [3, 9, 0, 8, 0, 0],
-    ];
     let [known, other] = [[5, 7, 15, 0, 0, 0], [5, 8, 7, 0, 0, 0]].map(Vec::from);
-    [known, graph, other, rows.concat(), TYPICAL_RULES.concat()]
+    [known, graph, other, AFTER_2.concat(), TYPICAL_RULES.concat()]
 }
+
+/// Method 1 is not called before method 2, also after internal steps and calls of method 3.
+pub const AFTER_2: [[u8; 6]; 9] = [
+    [3, 7, 1, 2, 0, 0],
+    [3, 9, 1, 3, 0, 0],
+    [3, 7, 4, 5, 0, 0],
+    [3, 2, 0, 0, 0, 0],
+    [3, 9, 0, 0, 0, 0],
+    [3, 7, 6, 7, 0, 0],
+    [3, 9, 3, 0, 0, 0],
+    [3, 9, 2, 8, 0, 0],
+    [3, 9, 0, 8, 0, 0],
+];
 
 /// Seven methods, so many nodes, and as many edges as there is room for beside the chain.
 fn large_graph(random: &mut Random, nodes: usize) -> Vec<u8> {
@@ -95,13 +104,7 @@ fn large_graph(random: &mut Random, nodes: usize) -> Vec<u8> {
 /// Beside a method of which after each of 14 internal steps another row is demanded: its model has 32 states and 576 edges.
 fn beside_chain(graph: &[u8], rules: &[u8]) -> [Vec<u8>; 5] {
     let [known, other] = [[5, 127, 255, 0, 0, 0], [5, 128, 255, 0, 0, 0]].map(Vec::from);
-    [known, graph.to_vec(), other, chain(15), rules.to_vec()]
-}
-
-/// Boxes of internal steps, each over the next row, and "true" at the end: for each provided method the model has two states for each row and two more.
-fn chain(rows: usize) -> Vec<u8> {
-    let boxes = (1..rows as u8).map(|next| [3, 9, 0, next, 0, 0]);
-    boxes.chain([[3, 1, 0, 0, 0, 0]]).flatten().collect()
+    [known, graph.to_vec(), other, chain_of_boxes(15), rules.to_vec()]
 }
 
 /// So many nodes of these methods, which the interface does not provide, beside a model; each node steps to itself under labels 0 to 4.

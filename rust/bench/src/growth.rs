@@ -2,7 +2,7 @@
 
 use crate::inputs::{timed, Timed};
 use crate::side_by_side::{print_header, print_line};
-use crate::{compose, deliveries, join, judge, model, show, simulation, watch};
+use crate::{both, compose, deliveries, join, judge, model, show, simulation, watch};
 use compare::calls::Call;
 use compare::Input;
 
@@ -40,6 +40,7 @@ pub fn print(name: Option<&str>) {
         (compare::compose::CALL, compose::growth),
         (compare::deliveries::ASSEMBLE, deliveries::growth_of_assembling),
         (compare::deliveries::JUDGE, deliveries::growth_of_judging),
+        (compare::compose::BOTH, both::growth),
     ];
     for (call, growth) in calls {
         if name.is_none_or(|name| name == call.name) {

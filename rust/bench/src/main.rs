@@ -3,6 +3,7 @@
 //! With `growth` as the first argument, how the times grow with one size of the input at a time; with the name of a call after it, only for that call.
 //! With `random`, a seed and a count, the worst ratios on so many random inputs of each call.
 
+mod both;
 mod compose;
 mod deliveries;
 mod growth;
@@ -22,7 +23,7 @@ use std::{env, io};
 const NOTE: &str = "\
 Median of batches in turn, warm, one thread, the same bytes.
 proved: the output is as long as the result, work buffers as published; the call clears each of them whole, and the time includes that. Joining, showing and
-assembling have none, the composed verdict and judging deliveries have two.
+assembling have none, the composed verdicts and judging deliveries have two.
 second: takes its memory from the allocator in every call and clears nothing afterwards.
 clearing: filling work buffers of the same lengths with zeros, once, and nothing else. rest: the ratio without it.";
 
@@ -53,6 +54,7 @@ fn print_calls(name: Option<&str>, part: &str) -> io::Result<()> {
         (compare::compose::CALL, compose::inputs()?),
         (compare::deliveries::ASSEMBLE, deliveries::assembled()),
         (compare::deliveries::JUDGE, deliveries::judged()),
+        (compare::compose::BOTH, both::inputs()),
     ];
     for (call, rows) in calls {
         if name.is_some_and(|name| name != call.name) {

@@ -64,6 +64,7 @@ pub fn print(seed: u64, count: usize) {
         compare::compose::CALL,
         compare::deliveries::ASSEMBLE,
         compare::deliveries::JUDGE,
+        compare::compose::BOTH,
     ];
     for call in calls {
         let Found { all, verdicts, rest, seconds } = search(&call, &mut Random::new(seed), count);

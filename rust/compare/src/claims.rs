@@ -2,32 +2,37 @@
 
 use crate::calls::Claim;
 use crate::case::Input;
+use crate::conforming::{Unwritten, ACCEPTED};
 use crate::tally::Checked;
-use generator::conforming::Conforming;
 use generator::generate::{written_out, Random};
-use second::files::{check_graph, check_interface, check_property, check_rules};
+use second::files::{check_graph, check_rules};
 use second::graph::Graph;
-use second::record::{Interface, Limits, Row, Rule};
+use second::record::{Limits, Rule};
 use second::replay::{replay, Replayed};
-use second::unlimited::{is_bad, joined, satisfies};
+use second::unlimited::{is_bad, joined};
 use second::Outcome;
-use tintboulder::{judge, Buffers, Judged, JUDGE};
+use std::borrow::Cow;
+use tintboulder::{Buffers, Judged, JUDGE};
 
-pub const COMPOSED_VERDICT: Claim = Claim {
-    check: composed_verdict,
-    counts: |Checked { replayed, too_long, watched, past_the_limits, .. }| {
-        format!(
-            "{replayed} trails replayed as runs, {too_long} too long; {watched} conforming graphs watched, {past_the_limits} of them past the limits"
-        )
-    },
-};
+pub const COMPOSED_VERDICT: Claim =
+    Claim { check: composed_verdict, counts: |checked| counts(checked, "conforming graphs") };
+
+pub const BOTH_VERDICT: Claim =
+    Claim { check: both_verdict, counts: |checked| counts(checked, "conforming pairs") };
+
+fn counts(checked: &Checked, watched_are: &str) -> String {
+    let Checked { replayed, too_long, watched, past_the_limits, .. } = checked;
+    format!(
+        "{replayed} trails replayed as runs, {too_long} too long; {watched} {watched_are} watched, {past_the_limits} of them past the limits"
+    )
+}
 
 pub const NINE_BOXES: Claim = Claim {
     check: nine_boxes,
     counts: |checked| format!("{} properties judged with nine boxes for one", checked.written_out),
 };
 
-/// Conforming graphs for each clean verdict.
+/// Conforming graphs, or pairs of them, for each clean verdict.
 const GRAPHS: u64 = 100;
 
 /// The verdict stays, also by the proved judge, when a box over every label is written out.
@@ -61,48 +66,85 @@ fn composed_verdict(
     random: &mut Random,
     checked: &mut Checked,
 ) -> Result<(), String> {
-    let composition = Composition::of(input);
-    match verdict {
-        1 => composition.check_clean(random, checked),
-        _ => composition.check_trail(trail, checked),
+    let [_, known, other, property, rules] = input.files();
+    let known = Side::Known(check_graph(known, &Limits::DESK).expect(ACCEPTED));
+    let sides = [known, Side::Unwritten(Unwritten::of(other, property))];
+    Composition::new(sides, rules, input).check(verdict, trail, random, checked)
+}
+
+/// The same of two models, and of pairs of random graphs of which each conforms.
+fn both_verdict(
+    input: &Input,
+    verdict: u32,
+    trail: &[u8],
+    random: &mut Random,
+    checked: &mut Checked,
+) -> Result<(), String> {
+    let [interface1, property1, interface2, property2, rules] = input.files();
+    let sides = [(interface1, property1), (interface2, property2)]
+        .map(|(interface, property)| Side::Unwritten(Unwritten::of(interface, property)));
+    Composition::new(sides, rules, input).check(verdict, trail, random, checked)
+}
+
+enum Side<'a> {
+    Known(Graph),
+    Unwritten(Unwritten<'a>),
+}
+
+impl Side<'_> {
+    /// The known graph, or the model that stands for all that conform.
+    fn watched(&self) -> &Graph {
+        match self {
+            Side::Known(graph) => graph,
+            Side::Unwritten(side) => &side.model,
+        }
+    }
+
+    /// The known graph, or one of those that conform.
+    fn graph(&self, at: u64, random: &mut Random) -> Cow<'_, Graph> {
+        match self {
+            Side::Known(graph) => Cow::Borrowed(graph),
+            Side::Unwritten(side) => side.graph(at, random),
+        }
+    }
+
+    /// Tells whether the graph can be a file.
+    fn check(&self, graph: &Graph, work: &mut [u8]) -> Result<bool, &'static str> {
+        match self {
+            Side::Known(_) => Ok(true),
+            Side::Unwritten(side) => side.check(graph, work),
+        }
     }
 }
 
-/// The files of a composition that is not refused, and the model.
+/// A composition that is not refused.
 struct Composition<'a> {
-    known: Graph,
-    other: Interface,
-    property: &'a [u8],
-    rows: Vec<Row>,
+    sides: [Side<'a>; 2],
     rules: Vec<Rule>,
     start: u8,
-    model: Graph,
 }
 
-impl Composition<'_> {
-    fn of(input: &Input) -> Composition<'_> {
-        const ACCEPTED: &str = "a file that is not refused";
-        let [_, known, other, property, rules] = input.files();
-        let limits = &Limits::DESK;
-        let Outcome::Said { written: model, .. } =
-            second::model(limits, other, property, usize::MAX, 0, 0)
-        else {
-            panic!("{ACCEPTED}");
-        };
-        Composition {
-            known: check_graph(known, limits).expect(ACCEPTED),
-            other: check_interface(other).expect(ACCEPTED),
-            property,
-            rows: check_property(property, limits).expect(ACCEPTED),
-            rules: check_rules(rules).expect(ACCEPTED),
-            start: input.start(),
-            model: check_graph(&model, limits).expect(ACCEPTED),
+impl<'a> Composition<'a> {
+    fn new(sides: [Side<'a>; 2], rules: &[u8], input: &Input) -> Composition<'a> {
+        Composition { sides, rules: check_rules(rules).expect(ACCEPTED), start: input.start() }
+    }
+
+    fn check(
+        &self,
+        verdict: u32,
+        trail: &[u8],
+        random: &mut Random,
+        checked: &mut Checked,
+    ) -> Result<(), String> {
+        match verdict {
+            1 => self.check_clean(random, checked),
+            _ => self.check_trail(trail, checked),
         }
     }
 
     fn check_trail(&self, trail: &[u8], checked: &mut Checked) -> Result<(), String> {
-        let graph = joined(&self.known, &self.model);
-        match replay(&graph, &self.rules, self.start, trail) {
+        let [first, second] = self.sides.each_ref().map(Side::watched);
+        match replay(&joined(first, second), &self.rules, self.start, trail) {
             Replayed::Bad { .. } => checked.replayed += 1,
             Replayed::TooLong => checked.too_long += 1,
             refused => return Err(format!("no run has the trail: {refused:?}")),
@@ -110,94 +152,97 @@ impl Composition<'_> {
         Ok(())
     }
 
-    /// The model itself, then graphs that map into it, and in place of one in eight a random one if it satisfies the property.
     fn check_clean(&self, random: &mut Random, checked: &mut Checked) -> Result<(), String> {
-        let conforming = Conforming::new(self.other, &self.model);
         let mut work = vec![0; JUDGE.work()];
         for at in 0..GRAPHS {
-            let any = (at % 8 == 1).then(|| conforming.judged(random, |graph| self.holds(graph)));
-            let graph = match any.flatten() {
-                _ if at == 0 => self.model.clone(),
-                Some(graph) => graph,
-                None => conforming.mapped(random),
-            };
-            self.check_conforming(&graph, &mut work, checked).map_err(|wrong| {
-                format!("{wrong} this conforming graph:\n{:?}\n{:?}", graph.nodes, graph.edges)
+            let graphs = self.sides.each_ref().map(|side| side.graph(at, random));
+            let [first, second] = graphs.each_ref().map(AsRef::as_ref);
+            self.check_conforming([first, second], &mut work, checked).map_err(|wrong| {
+                format!("{wrong} these conforming graphs:\n{first:?}\n{second:?}")
             })?;
         }
         Ok(())
     }
 
-    fn holds(&self, graph: &Graph) -> bool {
-        satisfies(graph, &self.rows)
-    }
-
     fn check_conforming(
         &self,
-        graph: &Graph,
+        graphs: [&Graph; 2],
         work: &mut [u8],
         checked: &mut Checked,
     ) -> Result<(), &'static str> {
-        let Limits { nodes, edges, .. } = Limits::DESK;
-        let is_file = graph.nodes.len() <= nodes && graph.edges.len() <= edges;
-        if !self.holds(graph) {
-            return Err("the second judge fails");
+        let mut are_files = true;
+        for (side, graph) in self.sides.iter().zip(graphs) {
+            are_files &= side.check(graph, work)?;
         }
-        if is_file && judge(&graph.bytes(), self.property, &mut [], work) != Ok(Judged::Holds) {
-            return Err("the proved judge fails");
-        }
-        if is_bad(&joined(&self.known, graph), &self.rules, self.start) {
-            return Err("the known graph is clean by the verdict, and bad with");
+        if is_bad(&joined(graphs[0], graphs[1]), &self.rules, self.start) {
+            return Err("clean by the verdict, and bad are");
         }
         checked.watched += 1;
-        checked.past_the_limits += u64::from(!is_file);
+        checked.past_the_limits += u64::from(!are_files);
         Ok(())
     }
 }
 
 #[cfg(test)]
 mod tests {
-    use super::{composed_verdict, nine_boxes, Checked, Input, Random, GRAPHS};
+    use super::{both_verdict, composed_verdict, nine_boxes, Checked, Input, Random, GRAPHS};
+    use crate::calls::Check;
 
     const CLEAN: u32 = 1;
     const BAD: u32 = 2;
-    const TRAIL: [[u8; 6]; 3] = [[0, 0, 0, 0, 0, 0], [0, 0, 2, 2, 2, 0], [2, 0, 2, 1, 0, 7]];
+    type Trail = &'static [[u8; 6]];
 
-    /// Method 1 calls method 2 again and again, and a call of 1 by 2 is bad; the property forbids it, or says nothing.
-    fn input(forbidden: bool) -> Input {
-        let known = vec![5, 1, 2, 0, 0, 0];
-        let graph = vec![1, 1, 0, 1, 0, 0, 2, 0, 2, 0, 0, 0];
+    /// The claim, what is known of method 1, and the trail if nothing is demanded of method 2.
+    type Composed = (Check, &'static [u8], Trail);
+
+    /// Method 1 calls method 2 again and again, or is not written either.
+    const COMPOSED: [Composed; 2] = [
+        (composed_verdict, &[1, 1, 0, 1, 0, 0, 2, 0, 2, 0, 0, 0], ONE_SIDED),
+        (both_verdict, &[3, 1, 0, 0, 0, 0], TWO_SIDED),
+    ];
+    const ONE_SIDED: Trail = &[[0, 0, 0, 0, 0, 0], [0, 0, 2, 2, 2, 0], [2, 0, 2, 1, 0, 7]];
+    const TWO_SIDED: Trail = &[[1, 0, 0, 0, 1, 0], [1, 0, 2, 2, 5, 0], [5, 0, 2, 1, 1, 7]];
+
+    /// A call of 1 by 2 is bad; the property of method 2 forbids it, or says nothing.
+    fn checked(
+        (check, known, _): Composed,
+        forbidden: bool,
+        verdict: u32,
+        trail: &[u8],
+    ) -> Result<Checked, String> {
         let never =
             [[3, 7, 1, 2, 0, 0], [3, 9, 1, 3, 0, 0], [3, 9, 0, 0, 0, 0], [3, 2, 0, 0, 0, 0]];
         let property = if forbidden { never.concat() } else { vec![3, 1, 0, 0, 0, 0] };
-        let files = [known, graph, vec![5, 2, 1, 0, 0, 0], property, vec![4, 0, 1, 2, 1, 7]];
-        Input { files: files.into(), number: 1 }
-    }
-
-    fn checked(forbidden: bool, verdict: u32, trail: &[u8]) -> Result<Checked, String> {
+        let [first, second, rules] = [[5, 1, 2, 0, 0, 0], [5, 2, 1, 0, 0, 0], [4, 0, 1, 2, 1, 7]];
+        let files = [&first[..], known, &second, &property, &rules].map(<[u8]>::to_vec);
+        let input = Input { files: files.into(), number: 1 };
         let mut checked = Checked::default();
-        let random = &mut Random::new(1);
-        composed_verdict(&input(forbidden), verdict, trail, random, &mut checked)?;
+        check(&input, verdict, trail, &mut Random::new(1), &mut checked)?;
         Ok(checked)
     }
 
     #[test]
     fn right_verdicts_pass() {
-        let clean = checked(true, CLEAN, &[]).expect("it is clean");
-        assert_eq!((clean.watched, clean.replayed), (GRAPHS, 0));
-        let bad = checked(false, BAD, &TRAIL.concat()).expect("it is bad");
-        assert_eq!((bad.watched, bad.replayed, bad.too_long), (0, 1, 0));
+        for composed in COMPOSED {
+            let clean = checked(composed, true, CLEAN, &[]).expect("it is clean");
+            assert_eq!((clean.watched, clean.replayed), (GRAPHS, 0));
+            let bad = checked(composed, false, BAD, &composed.2.concat()).expect("it is bad");
+            assert_eq!((bad.watched, bad.replayed, bad.too_long), (0, 1, 0));
+        }
     }
 
     #[test]
     fn wrong_verdicts_are_found_out() {
-        let wrong = checked(false, CLEAN, &[]).err().unwrap_or_default();
-        assert!(wrong.starts_with("the known graph is clean by the verdict"), "{wrong}");
-        assert!(checked(true, BAD, &TRAIL.concat()).is_err());
-        for at in 0..TRAIL.concat().len() {
-            let mut trail = TRAIL.concat();
-            trail[at] ^= 1;
-            assert!(checked(false, BAD, &trail).is_err(), "{at}");
+        for composed in COMPOSED {
+            let wrong = checked(composed, false, CLEAN, &[]).err().unwrap_or_default();
+            assert!(wrong.starts_with("clean by the verdict"), "{wrong}");
+            let right = composed.2.concat();
+            assert!(checked(composed, true, BAD, &right).is_err());
+            for at in 0..right.len() {
+                let mut trail = right.clone();
+                trail[at] ^= 1;
+                assert!(checked(composed, false, BAD, &trail).is_err(), "{at}");
+            }
         }
     }
 

@@ -5,6 +5,7 @@ pub mod case;
 pub mod checks;
 mod claims;
 pub mod compose;
+mod conforming;
 pub mod deliveries;
 pub mod join;
 pub mod judge;
@@ -32,6 +33,7 @@ const CALLS: &[Call] = &[
     compose::CALL,
     deliveries::ASSEMBLE,
     deliveries::JUDGE,
+    compose::BOTH,
 ];
 
 /// Prints a line for each call, or ends with the report of a difference.

@@ -38,7 +38,7 @@ pub struct Checked {
     pub replayed: u64,
     /// Trails whose runs are too long to be replayed.
     pub too_long: u64,
-    /// Conforming graphs that were judged, and watched beside the known graph.
+    /// Conforming graphs that were judged, and watched beside the known graph; or pairs of them.
     pub watched: u64,
     /// Those of them that are larger than a file may be.
     pub past_the_limits: u64,

@@ -17,14 +17,46 @@ const ROOMS: [usize; 2] = [46_949, 103_456];
 const HEADER: usize = 13;
 
 /// What a call is lent: bytes of output, a store or none, and a work buffer or none.
-type Lent = (usize, [bool; 2]);
+pub type Lent = (usize, [bool; 2]);
 
-fn example(name: &str, files: [&[u8]; 5], start: u8, (out_len, lends): Lent) -> Example {
+pub fn example(
+    verb: &str,
+    name: &str,
+    files: [&[u8]; 5],
+    start: u8,
+    (out_len, lends): Lent,
+) -> Example {
     let [first, second, third, fourth, _] = files.map(<[u8]>::len);
     let lengths = [first, second, third, fourth, out_len].map(|n| (n as u16).to_le_bytes());
     let [store, work] = lends.map(u8::from);
     let header = [&lengths.concat()[..], &[store, work, start]].concat();
-    Example { name: format!("compose-{name}.bin"), bytes: [header, files.concat()].concat() }
+    Example { name: format!("{verb}-{name}.bin"), bytes: [header, files.concat()].concat() }
+}
+
+/// What the file of a call holds.
+pub struct Call<'a> {
+    pub files: [&'a [u8]; 5],
+    pub start: u8,
+    pub out_len: usize,
+    lends: [bool; 2],
+}
+
+impl Call<'_> {
+    pub fn of(bytes: &[u8]) -> Call<'_> {
+        let number = |at: usize| usize::from(u16::from_le_bytes([bytes[at], bytes[at + 1]]));
+        let (first, rest) = bytes[HEADER..].split_at(number(0));
+        let (second, rest) = rest.split_at(number(2));
+        let (third, rest) = rest.split_at(number(4));
+        let (fourth, fifth) = rest.split_at(number(6));
+        let files = [first, second, third, fourth, fifth];
+        let lends = [bytes[10], bytes[11]].map(|lends| lends == 1);
+        Call { files, start: bytes[12], out_len: number(8), lends }
+    }
+
+    /// The length of each buffer that is lent and the published one, by those that are published.
+    pub fn lent(&self, rooms: [usize; 2]) -> [(usize, usize); 2] {
+        [0, 1].map(|at| (usize::from(self.lends[at]) * rooms[at], rooms[at]))
+    }
 }
 
 /// The files as records, and the start method.
@@ -41,7 +73,7 @@ struct Composition<'a> {
 fn lent(name: &str, call: &Composition, lent: Lent) -> Example {
     let [graph, property, rules] = [call.graph, call.property, call.rules].map(<[_]>::concat);
     let files = [&call.known[..], &graph, &call.other, &property, &rules];
-    example(name, files, call.start, lent)
+    example("compose", name, files, call.start, lent)
 }
 
 fn whole(name: &str, call: Composition) -> Example {
@@ -203,19 +235,16 @@ fn of_case(case: &Case) -> Option<Vec<Study>> {
 pub fn of_cases(cases: &[Case]) -> Vec<Example> {
     let whole = |study: &Study| {
         let files = study.files.each_ref().map(Vec::as_slice);
-        example(&study.name, files, study.start, (LONG, [true; 2]))
+        example("compose", &study.name, files, study.start, (LONG, [true; 2]))
     };
     studies(cases).iter().map(whole).collect()
 }
 
 /// What the program prints of a call, as the second implementation has it.
 pub fn lines(name: &str, bytes: &[u8]) -> String {
-    let number = |at: usize| usize::from(u16::from_le_bytes([bytes[at], bytes[at + 1]]));
-    let (known_interface, rest) = bytes[HEADER..].split_at(number(0));
-    let (known_graph, rest) = rest.split_at(number(2));
-    let (other_interface, rest) = rest.split_at(number(4));
-    let (property, rules) = rest.split_at(number(6));
+    let call = Call::of(bytes);
+    let [known_interface, known_graph, other_interface, property, rules] = call.files;
     let sides = Sides { known_interface, known_graph, other_interface, property };
-    let lent = [0, 1].map(|at| (usize::from(bytes[10 + at]) * ROOMS[at], ROOMS[at]));
-    verdict_lines(name, compose(&Limits::DESK, &sides, rules, bytes[12], number(8), lent))
+    let (limits, lent) = (&Limits::DESK, call.lent(ROOMS));
+    verdict_lines(name, compose(limits, &sides, rules, call.start, call.out_len, lent))
 }

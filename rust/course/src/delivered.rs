@@ -27,7 +27,7 @@ fn whole((name, deliveries): (&str, &str)) -> Example {
 }
 
 /// Records in decimals, parted by slashes; zeros at the end of a record are left out.
-fn records(text: &str) -> Vec<u8> {
+pub fn records(text: &str) -> Vec<u8> {
     let record = |text: &str| {
         let mut record = [0; RECORD_LEN];
         for (field, decimal) in record.iter_mut().zip(text.split_whitespace()) {

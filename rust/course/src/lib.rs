@@ -11,6 +11,7 @@ mod judged;
 pub mod listing;
 mod modelled;
 mod shown;
+mod unwritten;
 mod watched;
 
 pub use composed::Study;
@@ -66,6 +67,7 @@ pub fn examples() -> io::Result<Vec<Example>> {
     all.extend(delivered::at_the_limits());
     all.extend(delivered::of_lent_buffers());
     all.extend(delivered::of_judging());
+    all.extend(unwritten::all(&cases));
     Ok(all)
 }
 
@@ -82,33 +84,23 @@ pub fn listings() -> io::Result<Vec<listing::Run>> {
 /// What the program prints of an example, as the second implementation has it.
 pub fn line(example: &Example) -> String {
     let Example { name, bytes } = example;
-    if name.starts_with("judge-") {
-        return judged::lines(name, &calls::Call::of(bytes));
+    match name.split('-').next() {
+        Some("judge") => judged::lines(name, &calls::Call::of(bytes)),
+        Some("compare") => compared::lines(name, &calls::Call::of(bytes)),
+        Some("model") => modelled::lines(name, &calls::Call::of(bytes)),
+        Some("join") => joined::lines(name, bytes),
+        Some("show") => shown::lines(name, bytes),
+        Some("watch") => watched::lines(name, bytes),
+        Some("compose") => composed::lines(name, bytes),
+        Some("both") => unwritten::lines(name, bytes),
+        Some("assemble") => delivered::assembled_lines(name, bytes),
+        Some("deliveries") => delivered::judged_lines(name, bytes),
+        _ => checked_line(name, bytes),
     }
-    if name.starts_with("compare-") {
-        return compared::lines(name, &calls::Call::of(bytes));
-    }
-    if name.starts_with("model-") {
-        return modelled::lines(name, &calls::Call::of(bytes));
-    }
-    if name.starts_with("join-") {
-        return joined::lines(name, bytes);
-    }
-    if name.starts_with("show-") {
-        return shown::lines(name, bytes);
-    }
-    if name.starts_with("watch-") {
-        return watched::lines(name, bytes);
-    }
-    if name.starts_with("compose-") {
-        return composed::lines(name, bytes);
-    }
-    if name.starts_with("assemble-") {
-        return delivered::assembled_lines(name, bytes);
-    }
-    if name.starts_with("deliveries-") {
-        return delivered::judged_lines(name, bytes);
-    }
+}
+
+/// What it prints of one file of a kind.
+fn checked_line(name: &str, bytes: &[u8]) -> String {
     let nodes = match name.as_bytes().first() {
         Some(b'g') => check_graph(bytes, &Limits::DESK).map(|graph| graph.nodes.len()),
         Some(b'p') => check_property(bytes, &Limits::DESK).map(|_| 0),

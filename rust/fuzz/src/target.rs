@@ -40,7 +40,7 @@ const LINE: u64 = 32;
 /// In the order of `Kind::ALL`.
 const CHECKS: [OnFile; 4] = [CHECK_GRAPH, CHECK_PROPERTY, CHECK_RULES, CHECK_INTERFACE];
 
-pub const TARGETS: [Target; 13] = [
+pub const TARGETS: [Target; 14] = [
     check::<0>("check graph"),
     check::<1>("check property"),
     check::<2>("check rules"),
@@ -54,6 +54,7 @@ pub const TARGETS: [Target; 13] = [
     of(compose::CALL, &[0, 1], Writes::Records),
     of(deliveries::ASSEMBLE, &[2], Writes::Graph),
     of(deliveries::JUDGE, &[0, 1], Writes::Records),
+    of(compose::BOTH, &[0, 1], Writes::Records),
 ];
 
 const fn of(call: Call, values: &'static [usize], writes: Writes) -> Target {

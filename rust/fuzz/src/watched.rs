@@ -86,10 +86,11 @@ mod tests {
     fn every_case_ticks_and_is_known_by_its_tick() {
         let mut ticks = 0;
         assert_eq!(run(1, 2, || ticks += 1), Ok(()));
-        assert_eq!(ticks, 26);
+        assert_eq!(ticks, 28);
         assert!(last_case(1, 2, 1).starts_with("in check graph\nfile 1:"));
         assert!(last_case(1, 2, 22).starts_with("in compose\nfile 1:"));
         assert!(last_case(1, 2, 26).starts_with("in judge-deliveries\nfile 1:"));
+        assert!(last_case(1, 2, 28).starts_with("in compose-both\nfile 1:"));
         assert_eq!(last_case(1, 2, 0), "before the first case");
     }
 }

@@ -1,29 +1,29 @@
-//! What the composed verdict takes: a known interface and graph, the other side's interface and property, rules and a start method.
+//! What the composed verdicts take: a known interface and graph, the other side's interface and property, rules and a start method; or the interface and property of
+//! either side in place of these.
 
 use crate::generate::{
     graph_of, interface_of, property, rule_file, scattered, Key, Random, Size, LIMITS,
 };
 use crate::graphs::{labels_of, members};
-use crate::properties::{any_rows, guarded, widened};
+use crate::properties::{any_rows, chain_of_boxes, guarded, widened};
 use crate::runs::{CALL, RETURN_TO};
 use crate::sides::foreign;
 use second::record::{kind, Interface, BAD, METHODS, RECORD_LEN};
 use std::collections::{BTreeMap, BTreeSet};
 
-/// Known interface and graph, other interface, property and rules, and the start method.
+/// Known interface and graph, other interface, property and rules, and the start method; or a property in place of the graph.
 pub type Composition = ([Vec<u8>; 5], u8);
 
 /// The property mostly forbids some calls, and one monitor in three is bad only by one of these. One start method in 32 is any number below 10, and one in six is of the
 /// other side.
 pub fn composition(random: &mut Random) -> Composition {
-    let [known, other] = interfaces(random);
+    let count = random.pick(&COUNTS);
+    let [known, other] = interfaces(random, count);
     let graph = known_graph(random, known);
     let forbidden = other.required & random.byte();
     let property = other_property(random, other, forbidden);
-    let calls = [known, other].map(calls_of).concat();
     let not_allowed = calls_of(Interface { required: forbidden, ..other });
-    let any = not_allowed.is_empty() || !random.once_in(3);
-    let rules = chain(random, &calls, if any { &calls } else { &not_allowed });
+    let rules = monitor(random, [known, other], &not_allowed);
     let start = match (random.below(32), &graph[..]) {
         (0, _) => random.below(METHODS + 2) as u8,
         (6.., [kind::NODE, method, ..]) => *method,
@@ -33,9 +33,42 @@ pub fn composition(random: &mut Random) -> Composition {
     ([known, graph, other, property, rules], start)
 }
 
-/// Of the known side, then of the other, which has one method or two. Three pairs in 64 may have a method that both provide, or that is required and not provided.
-fn interfaces(random: &mut Random) -> [Interface; 2] {
-    let count = random.pick(&[2, 2, 2, 2, 3, 3, 3, 3, 4, 4, METHODS]);
+/// Each property mostly forbids some calls, and one monitor in three is bad only by one of these. One start method in 32 is any number below 10. The models of
+/// one pair in 128 have together about as many states as a graph may have, or too many edges.
+pub fn unwritten(random: &mut Random) -> Composition {
+    let large = random.once_in(128);
+    let count = if large { random.pick(&[4, METHODS]) } else { random.pick(&COUNTS) };
+    let mut sides = interfaces(random, count);
+    if random.once_in(2) {
+        sides.reverse();
+    }
+    let forbidden = sides.map(|side| side.required & random.byte());
+    let [property1, property2] = match large {
+        true => chains(random, count),
+        false => [0, 1].map(|at| other_property(random, sides[at], forbidden[at])),
+    };
+    let not_allowed =
+        [0, 1].map(|at| calls_of(Interface { required: forbidden[at], ..sides[at] })).concat();
+    let rules = monitor(random, sides, &not_allowed);
+    let start = match random.below(32) {
+        0 => random.below(METHODS + 2) as u8,
+        _ => random.pick(&members(sides[0].provided | sides[1].provided)),
+    };
+    let [first, second] = sides.map(|side| interface_of(side.provided, side.required));
+    ([first, property1, second, property2, rules], start)
+}
+
+/// The models of so many methods, four or more, have about as many states together as a graph may have.
+fn chains(random: &mut Random, methods: usize) -> [Vec<u8>; 2] {
+    let rows = LIMITS.nodes / (2 * methods);
+    [(); 2].map(|()| chain_of_boxes(rows - random.below(3)))
+}
+
+/// Methods of both sides.
+const COUNTS: [usize; 11] = [2, 2, 2, 2, 3, 3, 3, 3, 4, 4, METHODS];
+
+/// Of the known side, then of the other, which has one method or two of so many. Three pairs in 64 may have a method that both provide, or that is required and not provided.
+fn interfaces(random: &mut Random, count: usize) -> [Interface; 2] {
     let all = u8::MAX >> (METHODS - count);
     let mut one = || 1 << random.below(count);
     let other = one() | one();
@@ -92,6 +125,13 @@ fn other_property(random: &mut Random, interface: Interface, forbidden: u8) -> V
         }
         _ => guarded(random, interface, forbidden),
     }
+}
+
+/// Any call of either side may be bad, or if there are some, only those that are not allowed.
+fn monitor(random: &mut Random, sides: [Interface; 2], not_allowed: &[(u8, u8)]) -> Vec<u8> {
+    let calls = sides.map(calls_of).concat();
+    let any = not_allowed.is_empty() || !random.once_in(3);
+    chain(random, &calls, if any { &calls } else { not_allowed })
 }
 
 /// The callers and callees of an interface.

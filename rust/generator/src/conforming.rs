@@ -6,7 +6,7 @@ use second::files::check_graph;
 use second::graph::Graph;
 use second::record::{Edge, Interface, Node};
 
-/// The other side: its interface, and the maximal model of its property.
+/// A side that is not written: its interface, and the maximal model of its property.
 pub struct Conforming<'a> {
     interface: Interface,
     model: &'a Graph,
@@ -34,7 +34,7 @@ impl Conforming<'_> {
             }
             (0..steps).for_each(|_| mapped.grow(random));
         }
-        if random.once_in(8) {
+        if random.once_in(8) && self.interface.provided != 0 {
             self.add_unreachable(random, &mut mapped);
         }
         mapped.graph()

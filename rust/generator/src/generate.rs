@@ -1,11 +1,11 @@
 //! Random files: valid ones, small or at the limits, and damaged ones.
 
-pub use crate::composed::{composition, Composition};
+pub use crate::composed::{composition, unwritten, Composition};
 pub use crate::damage::damaged;
 pub use crate::graded::graded;
 pub use crate::graphs::{graph, graph_of, scattered, without_an_edge};
 pub use crate::mutation::mutated;
-pub use crate::properties::{any_rows, property, written_out};
+pub use crate::properties::{any_rows, chain_of_boxes, property, written_out};
 pub use crate::random::Random;
 pub use crate::runs::{runs, Runs};
 pub use crate::sides::{sides, sides_at_the_limits, Sides};

@@ -139,6 +139,12 @@ pub(crate) fn guarded(random: &mut Random, interface: Interface, forbidden: u8) 
     widened(random, records)
 }
 
+/// Boxes of internal steps, each over the next row, and "true" at the end: for each provided method the model has two states for each row and two more.
+pub fn chain_of_boxes(rows: usize) -> Vec<u8> {
+    let boxes = (1..rows as u8).map(|next| [kind::ROW, 9, 0, next, 0, 0]);
+    boxes.chain([TRUE]).flatten().collect()
+}
+
 const TRUE: Record = [kind::ROW, 1, 0, 0, 0, 0];
 
 /// The number of one more row.

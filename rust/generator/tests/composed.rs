@@ -5,29 +5,61 @@ use generator::generate::{self, Kind, Random};
 use second::files::{check_graph, check_interface, check_property};
 use second::record::Limits;
 use second::unlimited::satisfies;
-use second::{compare, compose, model, Outcome, Sides};
+use second::{compare, compose, compose_both, model, Outcome, Sides, Unwritten};
+
+/// How often each verdict is said, how many trails have more than two records, and how often each number refuses.
+#[derive(Debug, Default)]
+struct Tally {
+    said: [usize; 2],
+    long: usize,
+    refused: [usize; 12],
+}
+
+fn tally(seed: u64, drawn: impl Fn(&mut Random) -> Outcome) -> Tally {
+    let (mut random, mut tally) = (Random::new(seed), Tally::default());
+    for _ in 0..10_000 {
+        match drawn(&mut random) {
+            Outcome::Said { verdict, values, .. } => {
+                tally.said[verdict as usize - 1] += 1;
+                tally.long += usize::from(values.first().is_some_and(|&records| records > 2));
+            }
+            Outcome::Refused(refusal) => tally.refused[usize::from(refusal.number)] += 1,
+        }
+    }
+    tally
+}
+
+/// Both verdicts are frequent, with long trails among them, and no valid file is refused.
+fn assert_frequent(tally: &Tally, least_long: usize) {
+    let Tally { said, long, refused } = tally;
+    assert!(said.iter().all(|&times| times > 3_500) && *long > least_long, "{tally:?}");
+    assert!([3, 9, 10].iter().all(|&number| refused[number] > 30), "{tally:?}");
+    assert!(refused[11] > 5, "{tally:?}");
+    let others: usize = [1, 2, 4, 5, 6, 7, 8].iter().map(|&number| refused[number]).sum();
+    assert_eq!(others, 0, "{tally:?}");
+}
 
 #[test]
 fn compositions_are_composed_or_refused_by_3_9_10_or_11() {
-    let mut random = Random::new(8);
-    let (mut said, mut refused, mut long) = ([0; 2], [0; 12], 0);
-    for _ in 0..10_000 {
-        let (files, start) = generate::composition(&mut random);
+    let drawn = |random: &mut Random| {
+        let (files, start) = generate::composition(random);
         let [known_interface, known_graph, other_interface, property, rules] = &files;
         let sides = Sides { known_interface, known_graph, other_interface, property };
-        match compose(&Limits::DESK, &sides, rules, start, usize::MAX, [(0, 0); 2]) {
-            Outcome::Said { verdict, values, .. } => {
-                said[verdict as usize - 1] += 1;
-                long += usize::from(values.first().is_some_and(|&records| records > 2));
-            }
-            Outcome::Refused(refusal) => refused[usize::from(refusal.number)] += 1,
-        }
-    }
-    assert!(said.iter().all(|&times| times > 3_500) && long > 500, "{said:?} {long}");
-    assert!([3, 9, 10].iter().all(|&number| refused[number] > 30), "{refused:?}");
-    assert!(refused[11] > 5, "{refused:?}");
-    let others: usize = [1, 2, 4, 5, 6, 7, 8].iter().map(|&number| refused[number]).sum();
-    assert_eq!(others, 0, "{refused:?}");
+        compose(&Limits::DESK, &sides, rules, start, usize::MAX, [(0, 0); 2])
+    };
+    assert_frequent(&tally(8, drawn), 500);
+}
+
+#[test]
+fn unwritten_sides_are_composed_or_refused_by_3_9_10_or_11() {
+    let drawn = |random: &mut Random| {
+        let ([interface1, property1, interface2, property2, rules], start) =
+            generate::unwritten(random);
+        let sides = [(&interface1, &property1), (&interface2, &property2)]
+            .map(|(interface, property)| Unwritten { interface, property });
+        compose_both(&Limits::DESK, &sides, &rules, start, usize::MAX, [(0, 0); 2])
+    };
+    assert_frequent(&tally(10, drawn), 100);
 }
 
 #[test]

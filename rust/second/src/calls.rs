@@ -6,13 +6,13 @@ use crate::graph::Graph;
 use crate::join::joined_within;
 use crate::model::maximal_model;
 use crate::monitor::Monitor;
-use crate::record::{method, Interface, Limits, Record, Rule, INTERNAL, RECORD_LEN};
+use crate::record::{method, Interface, Limits, Record, Row, Rule, INTERNAL, RECORD_LEN};
 use crate::refusal::{number, Refusal};
 use crate::set::ByteSet;
 use crate::sheet::fault_sheet;
 use crate::simulation::{largest_simulation, uncovered_entry};
 use crate::trail::bad_trail;
-use crate::{Outcome, Sides};
+use crate::{Outcome, Sides, Unwritten};
 
 /// Holds, yes, written, shown or clean.
 const POSITIVE: u32 = 1;
@@ -150,18 +150,34 @@ pub fn compose(
 ) -> Outcome {
     outcome(|| {
         check_lent(lent)?;
-        let known_interface = in_file(1, check_interface(sides.known_interface))?;
-        let known = in_file(2, check_graph(sides.known_graph, limits))?;
-        let other_interface = in_file(3, check_interface(sides.other_interface))?;
-        let rows = in_file(4, check_property(sides.property, limits))?;
+        let interface = in_file(1, check_interface(sides.known_interface))?;
+        let graph = in_file(2, check_graph(sides.known_graph, limits))?;
+        let other = Unwritten { interface: sides.other_interface, property: sides.property };
+        let other = check_unwritten(3, &other, limits)?;
         let rules = in_file(5, check_rules(rules))?;
         let start = check_start(start)?;
-        check_of_interface(2, &known, &known_interface)?;
-        check_disjoint(&known_interface, &other_interface)?;
-        check_provided(&known_interface.united(&other_interface), start)?;
-        let model = small(maximal_model(limits, &other_interface, &rows))?;
-        let graph = small(joined_within(limits, &known, &model))?;
-        say_runs(&graph, &rules, start, out_len)
+        check_of_interface(2, &graph, &interface)?;
+        let known = Side { interface, code: Code::Graph(graph) };
+        say_composed(limits, [known, other], &rules, start, out_len)
+    })
+}
+
+/// The composed verdict on two unwritten sides: is a run of their models, joined, bad?
+pub fn compose_both(
+    limits: &Limits,
+    sides: &[Unwritten; 2],
+    rules: &[u8],
+    start: u8,
+    out_len: usize,
+    lent: [(usize, usize); 2],
+) -> Outcome {
+    outcome(|| {
+        check_lent(lent)?;
+        let first = check_unwritten(1, &sides[0], limits)?;
+        let second = check_unwritten(3, &sides[1], limits)?;
+        let rules = in_file(5, check_rules(rules))?;
+        let start = check_start(start)?;
+        say_composed(limits, [first, second], &rules, start, out_len)
     })
 }
 
@@ -191,12 +207,40 @@ pub fn judge_deliveries(
     })
 }
 
+/// A side of a composed verdict whose files are accepted.
+struct Side {
+    interface: Interface,
+    code: Code,
+}
+
+enum Code {
+    Graph(Graph),
+    /// A model of these rows stands for it.
+    Unwritten(Vec<Row>),
+}
+
+impl Side {
+    fn graph(self, limits: &Limits) -> Result<Graph, Refusal> {
+        match self.code {
+            Code::Graph(graph) => Ok(graph),
+            Code::Unwritten(rows) => small(maximal_model(limits, &self.interface, &rows)),
+        }
+    }
+}
+
 fn outcome(call: impl FnOnce() -> Result<Outcome, Refusal>) -> Outcome {
     call().unwrap_or_else(Outcome::Refused)
 }
 
 fn in_file<T>(file: u8, checked: Result<T, Fault>) -> Result<T, Refusal> {
     checked.map_err(|(number, record)| Refusal { number, file, record })
+}
+
+/// The interface file has this position, the property the next one.
+fn check_unwritten(file: u8, side: &Unwritten, limits: &Limits) -> Result<Side, Refusal> {
+    let interface = in_file(file, check_interface(side.interface))?;
+    let rows = in_file(file + 1, check_property(side.property, limits))?;
+    Ok(Side { interface, code: Code::Unwritten(rows) })
 }
 
 /// Refuses by a number that no single file causes, unless the condition is met.
@@ -279,4 +323,20 @@ fn say_runs(
     out_len: usize,
 ) -> Result<Outcome, Refusal> {
     say_records(bad_trail(graph, &Monitor::new(rules), start), out_len)
+}
+
+/// Both sides joined and watched, unless they share a method, leave one unprovided, or pass the
+/// limits, alone or together.
+fn say_composed(
+    limits: &Limits,
+    [first, second]: [Side; 2],
+    rules: &[Rule],
+    start: usize,
+    out_len: usize,
+) -> Result<Outcome, Refusal> {
+    check_disjoint(&first.interface, &second.interface)?;
+    check_provided(&first.interface.united(&second.interface), start)?;
+    let [first, second] = [first.graph(limits)?, second.graph(limits)?];
+    let graph = small(joined_within(limits, &first, &second))?;
+    say_runs(&graph, rules, start, out_len)
 }

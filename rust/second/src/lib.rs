@@ -22,7 +22,8 @@ mod support;
 mod trail;
 pub mod unlimited;
 
-pub use calls::{assemble, compare, compose, join, judge, judge_deliveries, model, show, watch};
+pub use calls::{assemble, compare, compose, compose_both, join, judge, judge_deliveries, model};
+pub use calls::{show, watch};
 pub use record::Limits;
 pub use refusal::Refusal;
 
@@ -45,5 +46,12 @@ pub struct Sides<'a> {
     pub known_interface: &'a [u8],
     pub known_graph: &'a [u8],
     pub other_interface: &'a [u8],
+    pub property: &'a [u8],
+}
+
+/// The files of a side that is not written.
+#[derive(Clone, Copy, Debug)]
+pub struct Unwritten<'a> {
+    pub interface: &'a [u8],
     pub property: &'a [u8],
 }

@@ -132,6 +132,25 @@ fn purse_decomposition() {
 }
 
 #[test]
+fn purse_with_both_sides_unwritten() {
+    let [interface1, interface2, rules] = ["interface", "interface2", "rules"]
+        .map(|file| case(&format!("purse-decomposition/{file}.txt")));
+    let trails = [
+        ("property", "9 0 0 0 9 0 / 9 0 2 5 9 7"),
+        ("property-literal", "49 0 0 0 49 0 / 49 0 2 5 49 7"),
+    ];
+    for (name, trail) in trails {
+        let property1 = case(&format!("purse-sigma-p/{name}.txt"));
+        let [clean, weak] = ["property", "property-weak"].map(|name| {
+            let property2 = case(&format!("purse-decomposition/{name}.txt"));
+            compose_both([&interface1, &property1, &interface2, &property2], &rules, 5)
+        });
+        assert_eq!(clean, positive());
+        assert_eq!(weak, explained(trail));
+    }
+}
+
+#[test]
 fn purse_sigma_l() {
     let name = "purse-sigma-l";
     let expected = said(1, &[8, 120], case("purse-sigma-l/model-expected.txt"));

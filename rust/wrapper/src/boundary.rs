@@ -104,3 +104,82 @@ impl OnTwoFiles {
         }
     }
 }
+
+/// A call that takes five files and a start method and is lent an output, a store and a work buffer.
+pub(crate) type FiveFilesFunction = unsafe extern "C" fn(
+    *const u8,
+    usize,
+    *const u8,
+    usize,
+    *const u8,
+    usize,
+    *const u8,
+    usize,
+    *const u8,
+    usize,
+    u8,
+    *mut u8,
+    usize,
+    *mut u8,
+    usize,
+    *mut u8,
+    usize,
+) -> Answer;
+
+/// Buffers that a call is lent.
+pub(crate) struct Lent<'a> {
+    pub out: &'a mut [u8],
+    pub store: &'a mut [u8],
+    pub work: &'a mut [u8],
+}
+
+/// The answer as it comes. Safe if the function is one of the boundary, which are total.
+pub(crate) unsafe fn on_five_files(
+    function: FiveFilesFunction,
+    files: [&[u8]; 5],
+    start: u8,
+    Lent { out, store, work }: Lent,
+) -> Answer {
+    let [first, second, third, fourth, fifth] = files;
+    // Safe: each pointer goes with its own length, and what is written overlaps nothing, since all three borrows are exclusive.
+    unsafe {
+        function(
+            first.as_ptr(),
+            first.len(),
+            second.as_ptr(),
+            second.len(),
+            third.as_ptr(),
+            third.len(),
+            fourth.as_ptr(),
+            fourth.len(),
+            fifth.as_ptr(),
+            fifth.len(),
+            start,
+            out.as_mut_ptr(),
+            out.len(),
+            store.as_mut_ptr(),
+            store.len(),
+            work.as_mut_ptr(),
+            work.len(),
+        )
+    }
+}
+
+#[cfg(test)]
+pub(crate) mod tests {
+    use super::Lent;
+    use crate::refusal::{Reason, Refusal};
+
+    /// Calls with so many bytes of output, store and work, all of them 7 before; checks store and work, and returns the output.
+    pub fn with_lengths<Verdict: Copy>(
+        [out, store, work]: [usize; 3],
+        call: impl FnOnce(Lent) -> Result<Verdict, Refusal>,
+    ) -> (Result<Verdict, Refusal>, Vec<u8>) {
+        let [mut out, mut store, mut work] = [out, store, work].map(|length| vec![7; length]);
+        let answer = call(Lent { out: &mut out, store: &mut store, work: &mut work });
+        let short = answer.is_err_and(|refusal| refusal.reason == Reason::ShortWork);
+        let left = if short { 7 } else { 0 };
+        assert!(store.iter().chain(&work).all(|&byte| byte == left));
+        (answer, out)
+    }
+}

@@ -1,5 +1,6 @@
 //! Buffers for every call, allocated once and lent to one call after the other.
 
+use crate::both::{compose_both, compose_both_store, compose_both_work, Unwritten};
 use crate::checks::check_graph;
 use crate::compare::{compare, Compared, COMPARE};
 use crate::compose::{compose, compose_store, compose_work, Sides};
@@ -65,8 +66,9 @@ impl Buffers {
             watch_work(),
             compose_work(),
             judge_deliveries_work(),
+            compose_both_work(),
         ];
-        let stores = [compose_store(), judge_deliveries_store()];
+        let stores = [compose_store(), judge_deliveries_store(), compose_both_store()];
         let [store, work] = [&stores[..], &works].map(longest);
         Buffers { out: vec![0; LONGEST], store, work }
     }
@@ -208,8 +210,41 @@ impl Buffers {
         rules: &[u8],
         start: u8,
     ) -> Result<Said<'_, Watched>, Refusal> {
+        let store = &mut self.store[..compose_store()];
         let work = &mut self.work[..compose_work()];
-        let verdict = compose(sides, rules, start, &mut self.out, &mut self.store, work)?;
+        let verdict = compose(sides, rules, start, &mut self.out, store, work)?;
+        Ok(self.said_records(verdict, verdict.records()))
+    }
+
+    /// Is every pair of modules clean, of which each is of its side's interface and satisfies its property? The records are those of the trail.
+    ///
+    /// ```
+    /// use tintboulder::{Buffers, Unwritten, Watched};
+    /// // Methods 1 and 2 may call each other; nothing is demanded of either.
+    /// let anything = &[3, 1, 0, 0, 0, 0];
+    /// let first = Unwritten { interface: &[5, 1, 2, 0, 0, 0], property: anything };
+    /// let second = Unwritten { interface: &[5, 2, 1, 0, 0, 0], property: anything };
+    /// // That method 2 calls method 1 is bad.
+    /// let rules = [4, 0, 1, 2, 1, 7];
+    /// let mut buffers = Buffers::new();
+    /// let said = buffers.compose_both(&[first, second], &rules, 2)?;
+    /// assert_eq!(said.verdict, Watched::Bad { records: 2 });
+    /// // The first side's model has four nodes.
+    /// assert_eq!(said.records(), [[5, 0, 0, 0, 5, 0], [5, 0, 2, 1, 1, 7]]);
+    /// // Not so if it is not to take any step.
+    /// let still = Unwritten { property: &[3, 10, 1, 0, 0, 0, 3, 2, 0, 0, 0, 0], ..second };
+    /// assert_eq!(buffers.compose_both(&[first, still], &rules, 2)?.verdict, Watched::Clean);
+    /// # Ok::<(), tintboulder::Refusal>(())
+    /// ```
+    pub fn compose_both(
+        &mut self,
+        sides: &[Unwritten; 2],
+        rules: &[u8],
+        start: u8,
+    ) -> Result<Said<'_, Watched>, Refusal> {
+        let store = &mut self.store[..compose_both_store()];
+        let work = &mut self.work[..compose_both_work()];
+        let verdict = compose_both(sides, rules, start, &mut self.out, store, work)?;
         Ok(self.said_records(verdict, verdict.records()))
     }
 

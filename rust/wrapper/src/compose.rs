@@ -1,6 +1,6 @@
 //! The composed verdict: is the known graph clean with every flow graph of the other interface that satisfies the property, whichever and however large it is?
 
-use crate::boundary::{work_of, Answer};
+use crate::boundary::{on_five_files, work_of, Answer, Lent};
 use crate::refusal::Refusal;
 use crate::watch::Watched;
 
@@ -69,34 +69,14 @@ pub fn compose_answer(
     store: &mut [u8],
     work: &mut [u8],
 ) -> Answer {
-    let [known_interface, known_graph, other_interface, property, rules] = files;
-    // Safe: each pointer goes with its own length, and what is written overlaps nothing, since all three borrows are exclusive.
-    unsafe {
-        tintboulder_compose(
-            known_interface.as_ptr(),
-            known_interface.len(),
-            known_graph.as_ptr(),
-            known_graph.len(),
-            other_interface.as_ptr(),
-            other_interface.len(),
-            property.as_ptr(),
-            property.len(),
-            rules.as_ptr(),
-            rules.len(),
-            start,
-            out.as_mut_ptr(),
-            out.len(),
-            store.as_mut_ptr(),
-            store.len(),
-            work.as_mut_ptr(),
-            work.len(),
-        )
-    }
+    // Safe: it is a function of the boundary.
+    unsafe { on_five_files(tintboulder_compose, files, start, Lent { out, store, work }) }
 }
 
 #[cfg(test)]
 mod tests {
-    use super::{compose, compose_store, compose_work, Refusal, Sides, Watched};
+    use super::{compose, compose_store, compose_work, Lent, Refusal, Sides, Watched};
+    use crate::boundary::tests::with_lengths;
     use crate::refusal::Reason::{
         Empty, NotOfInterface, NotProvided, Range, ShortOutput, ShortWork,
     };
@@ -115,17 +95,14 @@ mod tests {
     /// A call of method 1 by method 2 is bad.
     const RULES: &[u8] = &[4, 0, 1, 2, 1, 7];
 
-    /// Composes with so many bytes of output, store and work, all of them 7 before; checks store and work, and returns the output.
     fn composed(
         sides: &Sides,
         start: u8,
-        [out, store, work]: [usize; 3],
+        lengths: [usize; 3],
     ) -> (Result<Watched, Refusal>, Vec<u8>) {
-        let [mut out, mut store, mut work] = [out, store, work].map(|length| vec![7; length]);
-        let answer = compose(sides, RULES, start, &mut out, &mut store, &mut work);
-        let left = if answer.is_err_and(|refusal| refusal.reason == ShortWork) { 7 } else { 0 };
-        assert!(store.iter().chain(&work).all(|&byte| byte == left));
-        (answer, out)
+        with_lengths(lengths, |Lent { out, store, work }| {
+            compose(sides, RULES, start, out, store, work)
+        })
     }
 
     /// With the lengths published.

@@ -3,6 +3,7 @@
 //! [`Buffers`] has a method for each call that writes a result; `show` and the checks of one file need no buffers. The other functions are lent buffers by the caller,
 //! and may be refused by 12 or 13 for their lengths.
 
+mod both;
 mod boundary;
 mod buffers;
 mod checks;
@@ -16,6 +17,9 @@ mod refusal;
 mod show;
 mod watch;
 
+pub use both::{
+    compose_both, compose_both_answer, compose_both_store, compose_both_work, Unwritten,
+};
 pub use boundary::{Answer, OnFile, OnTwoFiles};
 pub use buffers::{Buffers, Record, Said};
 pub use checks::{check_graph, check_interface, check_property, check_rules, Accepted};

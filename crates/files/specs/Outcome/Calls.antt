@@ -11,7 +11,7 @@ use Rattle.files.specs.Refusal.{Kind, graph, property, rules, interface}
 use Rattle.files.specs.declared.record.Limits.{Limits}
 
 pub data Call : Type 0 where
-  judge compare model join show watch compose assemble judge-deliveries : Call
+  judge compare model join show watch compose assemble judge-deliveries compose-both : Call
 
 -- what a call takes at a position: a file of one of the four kinds, or one of deliveries (02, wish 1)
 pub data Takes : Type 0 where
@@ -33,6 +33,7 @@ takes watch = a interface ∷ a graph ∷ a rules ∷ []
 takes compose = a interface ∷ a graph ∷ a interface ∷ a property ∷ a rules ∷ []
 takes assemble = deliveries ∷ []
 takes judge-deliveries = deliveries ∷ a property ∷ []
+takes compose-both = a interface ∷ a property ∷ a interface ∷ a property ∷ a rules ∷ []
 
 -- "13: work buffer shorter than its length published": joining, showing and assembling are lent none
 abbrev pub works : Call → Bool
@@ -45,6 +46,7 @@ works watch = true
 works compose = true
 works assemble = false
 works judge-deliveries = true
+works compose-both = true
 
 -- what follows the files, number and file. "then the start method's 3; then 9 to 12": 9 for each graph that comes with its interface, then for a shared method where
 -- there are two sides; 10 for "watching or composed verdict"; 11 for "model or joined graph"; 12 for each call that has an output. Showing has its own 7 alone. Of
@@ -59,6 +61,7 @@ follows watch = (3, 0) ∷ (9, 2) ∷ (10, 0) ∷ (12, 0) ∷ []
 follows compose = (3, 0) ∷ (9, 2) ∷ (9, 0) ∷ (10, 0) ∷ (11, 0) ∷ (12, 0) ∷ []
 follows assemble = (14, 0) ∷ (11, 0) ∷ (12, 0) ∷ []
 follows judge-deliveries = (14, 0) ∷ (11, 0) ∷ (12, 0) ∷ []
+follows compose-both = (3, 0) ∷ (9, 0) ∷ (10, 0) ∷ (11, 0) ∷ (12, 0) ∷ []
 
 -- "each file in argument order, its lowest number among 1..8": the numbers of files from position f on
 abbrev pub of-each-file : ℕ → List Takes → List (ℕ × ℕ)

@@ -1,6 +1,6 @@
 -- The composed verdict is refused by the first line of its published order that applies; where it is not, the model conforms, and the verdict is that of watching
 -- the known graph joined with the model.
-use mathlib.Core.Path.{_≡_, refl, sym, subst}
+use mathlib.Core.Path.{_≡_, refl}
 use mathlib.Core.Logic.{_⊎_, _↔_}
 use mathlib.Core.List.{List, [], _∷_}
 use Prim.Native.Nat.{ℕ, _<_}
@@ -10,80 +10,28 @@ use Rattle.files.specs.Decode.{decode-graph, decode-property, decode-interface,
 use Rattle.files.specs.Decode.Graphs.{decoded-filed}
 use Rattle.files.specs.Decode.Properties.{decoded-property}
 use Rattle.files.specs.Decode.RuleFiles.{decoded-rules}
-use Rattle.files.specs.Graph.{Graph, Flow}
-use Rattle.files.specs.Interface.{Interface, Of}
+use Rattle.files.specs.Graph.{Flow}
+use Rattle.files.specs.Interface.{Of}
 use Rattle.files.specs.Interface.Laws.{labelled-small}
 use Rattle.files.specs.Outcome.{Said, refuses, says, refusal-at, line, whole-line, file-lines, out-line, NoneOf, FirstOf, Matches, NoStart, TooLarge, answered}
 use Rattle.files.specs.Outcome.Calls as calls
 use Rattle.files.specs.Outcome.Laws.{whole-match, scan-match, files-match, out-match, refused-by, accepted-by, verdict-is, file-accepted, whole-none, says-no-start, says-too-large, past-line, past-file}
 use Rattle.files.specs.Property.{Row, Property}
 use Rattle.files.specs.Refusal.{graph, property, rules, interface}
-use Rattle.files.specs.Rules.{Monitor, watch}
+use Rattle.files.specs.Rules.{watch}
 use Rattle.files.specs.Sides.{ForeignAt, Shares, Unprovided}
 use Rattle.files.specs.Sides.Laws.{foreign-finds, says-shares, says-unprovided}
 use Rattle.files.specs.Sides.OfInterface.{of-foreign}
 use Rattle.files.specs.declared.record.Limits.{Limits}
-use Rattle.judging.specs.Simulation.{Simulates}
-use Rattle.judging.specs.Simulation.Laws.{simulates-refl}
 use Rattle.maximal.specs.Model.{model}
 use Rattle.maximal.specs.Model.Filed.{model-is-flow, model-is-of}
-use Rattle.maximal.specs.Modelling.Laws.{model-simulates-iff}
-use Rattle.runs.specs.Composing.{Conforms, Side, known, unwritten, gives, Admits, compose-store, compose-work, other-side, compose-graph, compose-sides, compose-verdict, compose-checks, compose-lines, composed, compose-first, compose-said, compose-last}
+use Rattle.runs.specs.Composing.{gives, compose-store, compose-work, other-side, compose-graph, compose-sides, compose-verdict, compose-checks, compose-lines, composed, compose-first, compose-said, compose-last}
 use Rattle.files.specs.Join.{join}
 use Rattle.files.specs.Join.Laws.{join-flow, join-labels}
-use Rattle.runs.specs.Join.{join-simulates}
-use Rattle.runs.specs.Runs.{Clean}
-use Rattle.runs.specs.Runs.Laws.{simulates-bad}
 use Rattle.runs.specs.Watching.{Watches}
 use Rattle.runs.specs.Watching.Laws.{watch-cases, filed-labels, filed-monitor}
 use Rattle.files.specs.Outcome.{published}
 use mathlib.Core.Bool.{true}
-
--- ---- sides
-
--- the model is one of the graphs that conform
-pub model-conforms : (I : Interface) (P : List Row) → Property P → Conforms I P (model I P)
-model-conforms I P wf = record {
-  is-flow = model-is-flow I P wf;
-  is-of = model-is-of I P wf;
-  is-satisfying = model-simulates-iff I P wf (model I P) (model-is-flow I P wf) (model-is-of I P wf) .0 (simulates-refl (model I P) (model-is-flow I P wf));
-}
-
--- a flow graph, or rows that name rows
-abbrev pub Sound : Side → Type 0
-Sound (known K) = Flow K
-Sound (unwritten I P) = Property P
-
--- what a side gives may stand on it
-gives-admitted : (A : Side) → Sound A → Admits A (gives A)
-gives-admitted (known K) s = refl
-gives-admitted (unwritten I P) s = model-conforms I P s
-
--- what may stand on a side is a flow graph
-admitted-flow : (A : Side) → Sound A → (G : Graph) → Admits A G → Flow G
-admitted-flow (known K) s G a = subst Flow (sym a) s
-admitted-flow (unwritten I P) s G c = c .is-flow
-
--- what a side gives simulates all that may stand on it
-gives-simulates : (A : Side) → Sound A → (G : Graph) → Admits A G → Simulates G (gives A)
-gives-simulates (known K) s G a = subst (λ (X : Graph). Simulates X K) (sym a) (simulates-refl K s)
-gives-simulates (unwritten I P) s G c = model-simulates-iff I P s G (c .is-flow) (c .is-of) .1 (c .is-satisfying)
-
--- what two sides give is clean together exactly where all graphs that may stand on them are
-pub clean-of-sides : (A B : Side) → Sound A → Sound B → (mon : Monitor) (m : ℕ)
-    → Clean (join (gives A) (gives B)) mon m ↔ ((G H : Graph) → Admits A G → Admits B H → Clean (join G H) mon m)
-clean-of-sides A B sa sb mon m = (
-  λ clean G H a b bad. clean (simulates-bad (join G H) (join (gives A) (gives B)) mon
-      (join-simulates G (gives A) H (gives B) (admitted-flow A sa G a) (gives-simulates A sa G a) (gives-simulates B sb H b)) m bad),
-  λ all. all (gives A) (gives B) (gives-admitted A sa) (gives-admitted B sb),
-)
-
--- K joined with the model is clean exactly where K joined with any graph that conforms is
-pub clean-for-all : (K : Graph) → Flow K → (I : Interface) (P : List Row) → Property P → (mon : Monitor) (m : ℕ)
-    → Clean (join K (model I P)) mon m ↔ ((G : Graph) → Conforms I P G → Clean (join K G) mon m)
-clean-for-all K fk I P wf mon m =
-    let both = clean-of-sides (known K) (unwritten I P) fk wf mon m in
-    (λ clean G c. both .0 clean K G refl c, λ all. both .1 (λ X G e c. subst (λ (Y : Graph). Clean (join Y G) mon m) (sym e) (all G c)))
 
 -- ---- the call
 

@@ -1,5 +1,5 @@
 -- What a returned value of the composed verdict means. The only hypothesis is what the contract of `compose` states.
-use mathlib.Core.Path.{_≡_}
+use mathlib.Core.Path.{_≡_, refl, sym, subst}
 use mathlib.Core.Logic.{_↔_}
 use mathlib.Core.List.{List}
 use Prim.Native.Nat.{ℕ}
@@ -12,16 +12,13 @@ use Rattle.files.specs.Outcome.Meaning.{Decided, Clears, Heard, itself, heard-i
 use Rattle.files.specs.Property.{Row, Property}
 use Rattle.files.specs.Rules.{Monitor, watch}
 use Rattle.files.specs.declared.record.Limits.{Limits}
-use Rattle.judging.specs.Simulation.Laws.{simulates-refl}
 use Rattle.maximal.specs.Model.{model}
-use Rattle.maximal.specs.Modelling.Laws.{model-simulates-iff}
 use Rattle.runs.specs.Answer.{watched-answer, verdict-enum}
-use Rattle.runs.specs.Composing.{Conforms, compose-verdict, compose-checks, compose-lines, composed}
-use Rattle.runs.specs.Composing.Laws.{compose-refused, compose-accepted, compose-own, compose-says, clean-for-all, model-conforms}
+use Rattle.runs.specs.Composing.{Conforms, known, unwritten, compose-verdict, compose-checks, compose-lines, composed}
+use Rattle.runs.specs.Composing.Laws.{compose-refused, compose-accepted, compose-own, compose-says}
+use Rattle.runs.specs.Composing.Sides.{SidesMeans, sides-tell}
 use Rattle.files.specs.Join.{join}
-use Rattle.runs.specs.Join.{join-simulates}
 use Rattle.runs.specs.Runs.{Bad as BadRun, Clean as CleanRuns}
-use Rattle.runs.specs.Runs.Laws.{simulates-bad}
 use Rattle.runs.specs.Watching.{Watches}
 use Rattle.runs.specs.Watching.Meaning.{VerdictMeans, verdict-tells, verdict-clears, watch-numbered, watch-told}
 use Rattle.runs.specs.declared.answers.Verdict.{Verdict}
@@ -41,13 +38,6 @@ pub record ComposeMeans {R : Type 0} (tell : Verdict → R) (L : Limits) (ki kg 
   pub clears-store : Clears (λ x. tell (Refused x)) store store′ v
   pub clears-work : Clears (λ x. tell (Refused x)) work work′ v
   pub own-graph : Of (decode-interface ki) (decode-graph kg) → (k : ℕ) → v ≡ tell (Refused (refusal-at 9 2 k)) → ⊥
-
--- a run with a conforming graph is matched by one with the model
-pub bad-with-model : (K : Graph) → Flow K → (I : Interface) (P : List Row) → Property P → (mon : Monitor) (m : ℕ) (G : Graph) → Conforms I P G
-    → BadRun (join K G) mon m → BadRun (join K (model I P)) mon m
-bad-with-model K flow I P wf mon m G c =
-    simulates-bad (join K G) (join K (model I P)) mon
-    (join-simulates K K G (model I P) flow (simulates-refl K flow) (model-simulates-iff I P wf G (c .is-flow) (c .is-of) .1 (c .is-satisfying))) m
 
 module _ (L : Limits) (ki kg oi p r : List ℕ) (m out store work : ℕ) where
   compose-decided : Decided (composed L ki kg oi p r m out store work) (compose-verdict L ki kg oi p r m out) (compose-lines L ki kg oi p r m out store work)
@@ -102,20 +92,20 @@ module _ {R : Type 0} (tell : Verdict → R) (heard : Heard tell) (L : Limits) (
   told : VerdictMeans tell ls (join K (model I P)) mon m out out′ (tell c)
   told = verdict-tells tell heard o said ls d (join K (model I P)) mon m means out out′ c (does .answers)
 
-  for-all : NoneOf ls → CleanRuns (join K (model I P)) mon m ↔ ((G : Graph) → Conforms I P G → CleanRuns (join K G) mon m)
-  for-all t = clean-for-all K (says-so t .0) I P (says-so t .1) mon m
+  sides : SidesMeans tell ls (known K) (unwritten I P) mon m out out′ (tell c)
+  sides = sides-tell tell ls (known K) (unwritten I P) mon m out out′ (tell c) (λ t. (says-so t .0, says-so t .1)) told
 
   pub compose-tells : ComposeMeans tell L ki kg oi p r m out store work out′ store′ work′ (tell c)
   compose-tells = record {
     clean-iff = (
-      λ q. let a = told .clean-iff .0 q in (a .0, for-all (a .0) .0 (a .1)),
-      λ a. told .clean-iff .1 (a .0, for-all (a .0) .1 (a .1)),
+      λ q. let a = sides .clean-iff .0 q in (a .0, λ G x. a .1 K G refl x),
+      λ a. sides .clean-iff .1 (a .0, λ X G e x. subst (λ (Y : Graph). CleanRuns (join Y G) mon m) (sym e) (a .1 G x)),
     );
     bad-iff = (
-      λ q. let a = told .bad-iff .0 q in (a .0, (model I P, model-conforms I P (says-so (a .0) .1), a .1)),
-      λ a. told .bad-iff .1 (a .0, bad-with-model K (says-so (a .0) .0) I P (says-so (a .0) .1) mon m (a .1 .0) (a .1 .1) (a .1 .2)),
+      λ q. let a = sides .bad-iff .0 q in (a .0, (a .1 .1, a .1 .3, subst (λ (Y : Graph). BadRun (join Y (a .1 .1)) mon m) (a .1 .2) (a .1 .4))),
+      λ a. sides .bad-iff .1 (a .0, (K, a .1 .0, refl, a .1 .1, a .1 .2)),
     );
-    conforms = λ n q. model-conforms I P (says-so (told .bad-iff .0 (n, q) .0) .1);
+    conforms = λ n q. sides .given n q .1;
     verdict = told;
     clears-store = verdict-clears tell heard o said ls d (join K (model I P)) mon m means out out′ c (does .answers) store store′ (does .store-is);
     clears-work = verdict-clears tell heard o said ls d (join K (model I P)) mon m means out out′ c (does .answers) work work′ (does .work-is);

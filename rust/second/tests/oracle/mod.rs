@@ -5,7 +5,7 @@
 #![allow(dead_code)]
 
 use second::record::Row;
-use second::{Limits, Outcome, Refusal};
+use second::{Limits, Outcome, Refusal, Sides, Unwritten};
 use std::ops::RangeInclusive;
 use std::path::Path;
 
@@ -90,6 +90,17 @@ pub fn composed(known: (&[u8], &[u8]), other: (&[u8], &[u8]), rules: &[u8], star
     let (_, values, graph) = parts(join([known, (other.0, &model)]));
     let interface = [5, values[2] as u8, values[3] as u8, 0, 0, 0];
     watch(&interface, &graph, rules, start)
+}
+
+pub fn compose(sides: &Sides, rules: &[u8], start: u8) -> Outcome {
+    second::compose(LIMITS, sides, rules, start, ENOUGH, [(0, 0); 2])
+}
+
+pub fn compose_both(sides: [&[u8]; 4], rules: &[u8], start: u8) -> Outcome {
+    let [interface1, property1, interface2, property2] = sides;
+    let sides = [(interface1, property1), (interface2, property2)]
+        .map(|(interface, property)| Unwritten { interface, property });
+    second::compose_both(LIMITS, &sides, rules, start, ENOUGH, [(0, 0); 2])
 }
 
 pub fn assemble(deliveries: &[u8]) -> Outcome {

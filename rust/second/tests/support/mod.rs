@@ -3,7 +3,7 @@
 #![allow(dead_code, reason = "each test file uses only some of these")]
 
 use second::record::RECORD_LEN;
-use second::{Limits, Outcome, Refusal, Sides};
+use second::{Limits, Outcome, Refusal, Sides, Unwritten};
 
 /// More than any result needs.
 pub const ENOUGH: usize = 1 << 20;
@@ -91,4 +91,16 @@ pub fn watch(interface: &[u8], graph: &[u8], rules: &[u8], start: u8) -> Outcome
 
 pub fn compose(sides: &Sides, rules: &[u8], start: u8) -> Outcome {
     second::compose(&Limits::DESK, sides, rules, start, ENOUGH, [(0, 0); 2])
+}
+
+/// Interface and property of either side.
+pub fn unwritten(sides: [&[u8]; 4]) -> [Unwritten<'_>; 2] {
+    let [interface1, property1, interface2, property2] = sides;
+    [(interface1, property1), (interface2, property2)]
+        .map(|(interface, property)| Unwritten { interface, property })
+}
+
+pub fn compose_both(sides: [&[u8]; 4], rules: &[u8], start: u8) -> Outcome {
+    let sides = unwritten(sides);
+    second::compose_both(&Limits::DESK, &sides, rules, start, ENOUGH, [(0, 0); 2])
 }

@@ -5,26 +5,26 @@ use borrow.Author.Needs.{needs}
 use Rattle.course.proofs.watched.compose_on.Statement.{statement}
 use Rattle.course.proofs.watched.compose_on.Tie as tie
 
-slice-relend-prefix-compose : tie.Need-slice-relend-prefix-compose
-slice-relend-prefix-compose c = search needs
+slice-relend-prefix-composed : tie.Need-slice-relend-prefix-composed
+slice-relend-prefix-composed c = search needs
 
-slice-aggregate-compose : tie.Need-slice-aggregate-compose
-slice-aggregate-compose c = let a = c .before .before .before .before .before .before .before .before .before in sym (length-take-le (a .args .room) (a .args .out .now) (a .pre .0))
+slice-aggregate-composed : tie.Need-slice-aggregate-composed
+slice-aggregate-composed c = let a = c .before .before .before .before .before .before .before .before .before in sym (length-take-le (a .args .room) (a .args .out .now) (a .pre .0))
 
-slice-relend-prefix-compose-2 : tie.Need-slice-relend-prefix-compose-2
-slice-relend-prefix-compose-2 c = search needs
+slice-relend-prefix-composed-2 : tie.Need-slice-relend-prefix-composed-2
+slice-relend-prefix-composed-2 c = search needs
 
-slice-aggregate-compose-2 : tie.Need-slice-aggregate-compose-2
-slice-aggregate-compose-2 c = let a = c .before .before .before .before .before .before .before .before .before .before in sym (length-take-le (a .args .held) (a .args .store .now) (a .pre .1 .0))
+slice-aggregate-composed-2 : tie.Need-slice-aggregate-composed-2
+slice-aggregate-composed-2 c = let a = c .before .before .before .before .before .before .before .before .before .before in sym (length-take-le (a .args .held) (a .args .store .now) (a .pre .1 .0))
 
-slice-relend-prefix-compose-3 : tie.Need-slice-relend-prefix-compose-3
-slice-relend-prefix-compose-3 c = search needs
+slice-relend-prefix-composed-3 : tie.Need-slice-relend-prefix-composed-3
+slice-relend-prefix-composed-3 c = search needs
 
-slice-aggregate-compose-3 : tie.Need-slice-aggregate-compose-3
-slice-aggregate-compose-3 c = let a = c .before .before .before .before .before .before .before .before .before .before .before in sym (length-take-le (a .args .lent) (a .args .work .now) (a .pre .1 .1))
+slice-aggregate-composed-3 : tie.Need-slice-aggregate-composed-3
+slice-aggregate-composed-3 c = let a = c .before .before .before .before .before .before .before .before .before .before .before in sym (length-take-le (a .args .lent) (a .args .work .now) (a .pre .1 .1))
 
-compose-requires : tie.Need-compose-requires
-compose-requires c κs = search needs
+composed-requires : tie.Need-composed-requires
+composed-requires c κs = search needs
 
 slice-reshare-prefix-say-watched : tie.Need-slice-reshare-prefix-say-watched
 slice-reshare-prefix-say-watched c = search needs
@@ -51,13 +51,13 @@ pub compose-on-spec : {M : Type 1} → statement M
 compose-on-spec =
     tie.close
     (tie.spec
-    slice-relend-prefix-compose
-    slice-aggregate-compose
-    slice-relend-prefix-compose-2
-    slice-aggregate-compose-2
-    slice-relend-prefix-compose-3
-    slice-aggregate-compose-3
-    compose-requires
+    slice-relend-prefix-composed
+    slice-aggregate-composed
+    slice-relend-prefix-composed-2
+    slice-aggregate-composed-2
+    slice-relend-prefix-composed-3
+    slice-aggregate-composed-3
+    composed-requires
     slice-reshare-prefix-say-watched
     slice-aggregate-say-watched
     say-watched-requires

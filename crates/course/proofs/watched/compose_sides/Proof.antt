@@ -35,6 +35,9 @@ two-bytes-requires-5 c κs = search needs
 shared-slice-read-work-length : tie.Need-shared-slice-read-work-length
 shared-slice-read-work-length c = search needs
 
+store-letter-requires : tie.Need-store-letter-requires
+store-letter-requires c κs = search needs
+
 work-length-requires : tie.Need-work-length-requires
 work-length-requires c κs = search needs
 
@@ -130,6 +133,7 @@ compose-sides-spec =
     two-bytes-requires-4
     add-fourth
     two-bytes-requires-5
+    store-letter-requires
     shared-slice-read-work-length
     work-length-requires
     shared-slice-read-work-length-2

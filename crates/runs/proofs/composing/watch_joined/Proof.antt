@@ -1,9 +1,10 @@
 -- The second graph stands at the start of `store`, so both graphs can be joined into `work`; what is then cut off there is the joined graph's file, which is watched in
 -- `store`.
-use mathlib.Core.Path.{sym}
+use mathlib.Core.Path.{sym, _∙_}
 use mathlib.Core.List.{List}
 use Prim.Native.Nat.{ℕ, _+_, _*_}
 use native.Mathlib.Omega.{arith}
+use borrow.Author.Tests.{not-false}
 use lib.ListN.{take}
 use lib.Seq.{length-take-le}
 use Rattle.judging.specs.declared.sizes.Sizes.{Sizes}
@@ -18,64 +19,25 @@ use Rattle.runs.proofs.composing.watch_joined.Tie as tie
 abbrev second : Sizes → List ℕ → List ℕ
 second s l = take (6 * (s .second .nodes + s .second .edges)) l
 
-add-nodes : tie.Need-add-nodes
-add-nodes c = search needs
-
-add-edges : tie.Need-add-edges
-add-edges c = search needs
-
-whole-requires : tie.Need-whole-requires
-whole-requires c κs = search needs
-
-returns : tie.Need-returns
-returns c = let k = c .before .before .before .before .before .before .before .before .before .before .before in let a = k .args in joined-large (a .limits) (a .s) (a .graph .now) (second (a .s) (a .store .now)) (a .rules .now) (a .start) (a .out .now) (k .pre .0) (c .before .if1 .taken) (c .whole .result) (c .whole .ensures)
-
 add-second : tie.Need-add-second
 add-second c = search needs
 
 mul-second : tie.Need-mul-second
 mul-second c = search needs
 
-add-end : tie.Need-add-end
-add-end c = search needs
+slice-reshare-prefix-join-into : tie.Need-slice-reshare-prefix-join-into
+slice-reshare-prefix-join-into c = search needs
 
-mul-end : tie.Need-mul-end
-mul-end c = search needs
-
-slice-reshare-prefix-write-join : tie.Need-slice-reshare-prefix-write-join
-slice-reshare-prefix-write-join c = search needs
-
-slice-aggregate-write-join : tie.Need-slice-aggregate-write-join
-slice-aggregate-write-join c = let k = c .before .before .before .before .before .before .before .before .before .before .before .before in
+slice-aggregate-join-into : tie.Need-slice-aggregate-join-into
+slice-aggregate-join-into c =
+    let k = c .before .before .before .before .before .before .before in
     sym (length-take-le (6 * (k .args .s .second .nodes + k .args .s .second .edges)) (k .args .store .now) (omega (arith, k .pre .0 .second-held .few-nodes, k .pre .0 .second-held .few-edges, k .pre .1 .1 .1 .0)))
 
-write-join-requires : tie.Need-write-join-requires
-write-join-requires c κs = let k = c .before .before .before .before .before .before .before .before .before .before .before .before .before in
-    let a = k .args in
-    let n = nodes-few (a .limits) (a .s) (a .graph .now) (second (a .s) (a .store .now)) (k .pre .0) (c .before .before .before .if1 .left) in
-    let e = edges-few (a .limits) (a .s) (a .graph .now) (second (a .s) (a .store .now)) (k .pre .0) (c .before .before .before .if1 .left) in
-    (k .pre .0, (omega (arith, n, k .pre .1 .1 .0 .nodes-fit), omega (arith, n, e, k .pre .1 .1 .0 .nodes-fit, k .pre .1 .1 .0 .edges-fit, k .pre .1 .1 .1 .1)))
+join-into-requires : tie.Need-join-into-requires
+join-into-requires c κs = let k = c .before .before .before .before .before .before .before .before in (k .pre .0, (k .pre .1 .1 .0, k .pre .1 .1 .1 .1))
 
-slice-reshare-prefix-watch-runs : tie.Need-slice-reshare-prefix-watch-runs
-slice-reshare-prefix-watch-runs c =
-    let k = c .before .before .before .before .before .before .before .before .before .before .before .before .before .before .before .before in
-    let a = k .args in
-    let past = c .before .before .before .before .before .before .if1 .left in
-    let n = nodes-few (a .limits) (a .s) (a .graph .now) (second (a .s) (a .store .now)) (k .pre .0) past in
-    let e = edges-few (a .limits) (a .s) (a .graph .now) (second (a .s) (a .store .now)) (k .pre .0) past in
-    omega (arith, n, e, k .pre .1 .1 .0 .nodes-fit, k .pre .1 .1 .0 .edges-fit, k .pre .1 .1 .1 .1, c .before .before .write-join .kept)
-
-slice-aggregate-watch-runs : tie.Need-slice-aggregate-watch-runs
-slice-aggregate-watch-runs c = let k = c .before .before .before .before .before .before .before .before .before .before .before .before .before .before .before .before .before in
-    let a = k .args in
-    let w = c .before .before .before .write-join in
-    sym (joined-length (a .limits) (a .s) (a .graph .now) (second (a .s) (a .store .now)) (a .rules .now) (a .start) (a .out .now) (k .pre .0) (c .before .before .before .before .before .before .before .if1 .left) (a .work .now) (w .last .1 .1 .1 .0) (w .ensures))
-
-watch-runs-requires : tie.Need-watch-runs-requires
-watch-runs-requires c κs = let k = c .before .before .before .before .before .before .before .before .before .before .before .before .before .before .before .before .before .before .before in
-    let a = k .args in
-    let w = c .before .before .before .before .before .write-join in
-    (joined-ready (a .limits) (a .s) (a .graph .now) (second (a .s) (a .store .now)) (a .rules .now) (a .start) (a .out .now) (k .pre .0) (c .before .before .before .before .before .before .before .before .before .if1 .left) (a .work .now) (w .last .1 .1 .1 .0) (w .ensures) (k .pre .1 .0) (k .pre .1 .1 .0), k .pre .1 .1 .1 .0)
+whole-requires : tie.Need-whole-requires
+whole-requires c κs = search needs
 
 same-length : tie.Need-same-length
 same-length c = search needs
@@ -83,35 +45,89 @@ same-length c = search needs
 same-length-2 : tie.Need-same-length-2
 same-length-2 c = search needs
 
+returns : tie.Need-returns
+returns c =
+    let k = c .before .before .before .before .before .before .before .before .before .before .before .before .before in
+    let a = k .args in
+    joined-large (a .limits) (a .s) (a .graph .now) (second (a .s) (a .store .now)) (a .rules .now) (a .start) (a .out .now) (k .pre .0) (c .before .before .before .before .join-into .ensures .asked ∙ c .before .if1 .taken) (c .whole .result) (c .whole .ensures)
+
+add-end : tie.Need-add-end
+add-end c = search needs
+
+add-t20 : tie.Need-add-t20
+add-t20 c = search needs
+
+add-end-2 : tie.Need-add-end-2
+add-end-2 c = search needs
+
+mul-end : tie.Need-mul-end
+mul-end c = search needs
+
+slice-reshare-prefix-watch-runs : tie.Need-slice-reshare-prefix-watch-runs
+slice-reshare-prefix-watch-runs c =
+    let k = c .before .before .before .before .before .before .before .before .before .before .before .before .before .before .before in
+    let a = k .args in
+    let j = c .before .before .before .before .before .before .join-into in
+    let within = j .ensures .asked ∙ c .before .before .before .if1 .left in
+    let n = nodes-few (a .limits) (a .s) (a .graph .now) (second (a .s) (a .store .now)) (k .pre .0) within in
+    let e = edges-few (a .limits) (a .s) (a .graph .now) (second (a .s) (a .store .now)) (k .pre .0) within in
+    omega (arith, n, e, k .pre .1 .1 .0 .nodes-fit, k .pre .1 .1 .0 .edges-fit, k .pre .1 .1 .1 .1, j .kept .1 .1 .0)
+
+slice-aggregate-watch-runs : tie.Need-slice-aggregate-watch-runs
+slice-aggregate-watch-runs c =
+    let k = c .before .before .before .before .before .before .before .before .before .before .before .before .before .before .before .before in
+    let a = k .args in
+    let j = c .before .before .before .before .before .before .before .join-into in
+    let left = c .before .before .before .before .if1 .left in
+    sym (joined-length (a .limits) (a .s) (a .graph .now) (second (a .s) (a .store .now)) (a .rules .now) (a .start) (a .out .now) (k .pre .0) (j .ensures .asked ∙ left) (a .work .now) (j .last .1 .1 .0) (j .ensures .stored (not-false (j .result) left)))
+
+watch-runs-requires : tie.Need-watch-runs-requires
+watch-runs-requires c κs =
+    let k = c .before .before .before .before .before .before .before .before .before .before .before .before .before .before .before .before .before .before in
+    let a = k .args in
+    let j = c .before .before .before .before .before .before .before .before .before .join-into in
+    let left = c .before .before .before .before .before .before .if1 .left in
+    (joined-ready (a .limits) (a .s) (a .graph .now) (second (a .s) (a .store .now)) (a .rules .now) (a .start) (a .out .now) (k .pre .0) (j .ensures .asked ∙ left) (a .work .now) (j .last .1 .1 .0) (j .ensures .stored (not-false (j .result) left)) (k .pre .1 .0) (k .pre .1 .1 .0), omega (arith, k .pre .1 .1 .1 .0))
+
 same-length-3 : tie.Need-same-length-3
 same-length-3 c = search needs
 
+same-length-4 : tie.Need-same-length-4
+same-length-4 c = search needs
+
+same-length-5 : tie.Need-same-length-5
+same-length-5 c = search needs
+
 returns-2 : tie.Need-returns-2
-returns-2 c = let k = c .before .before .before .before .before .before .before .before .before .before .before .before .before .before .before .before .before .before .before .before .before .before .before .before in
+returns-2 c =
+    let k = c .before .before .before .before .before .before .before .before .before .before .before .before .before .before .before .before .before .before .before .before .before .before .before in
     let a = k .args in
-    let w = c .before .before .before .before .before .before .before .before .before .before .write-join in
+    let j = c .before .before .before .before .before .before .before .before .before .before .before .before .before .before .join-into in
+    let left = c .before .before .before .before .before .before .before .before .before .before .before .if1 .left in
     let t = c .before .before .before .before .watch-runs in
-    joined-told (a .limits) (a .s) (a .graph .now) (second (a .s) (a .store .now)) (a .rules .now) (a .start) (a .out .now) (k .pre .0) (c .before .before .before .before .before .before .before .before .before .before .before .before .before .before .if1 .left) (a .work .now) (w .last .1 .1 .1 .0) (w .ensures) (t .last .1 .1 .1 .0) (watched-answer (t .result)) (t .ensures)
+    joined-told (a .limits) (a .s) (a .graph .now) (second (a .s) (a .store .now)) (a .rules .now) (a .start) (a .out .now) (k .pre .0) (j .ensures .asked ∙ left) (a .work .now) (j .last .1 .1 .0) (j .ensures .stored (not-false (j .result) left)) (t .last .1 .1 .1 .0) (watched-answer (t .result)) (t .ensures)
 
 pub watch-joined-spec : {M : Type 1} → statement M
 watch-joined-spec =
     tie.close
     (tie.spec
-    add-nodes
-    add-edges
-    whole-requires
-    returns
     add-second
     mul-second
+    slice-reshare-prefix-join-into
+    slice-aggregate-join-into
+    join-into-requires
+    whole-requires
+    same-length
+    same-length-2
+    returns
     add-end
+    add-t20
+    add-end-2
     mul-end
-    slice-reshare-prefix-write-join
-    slice-aggregate-write-join
-    write-join-requires
     slice-reshare-prefix-watch-runs
     slice-aggregate-watch-runs
     watch-runs-requires
-    same-length
-    same-length-2
     same-length-3
+    same-length-4
+    same-length-5
     returns-2)
