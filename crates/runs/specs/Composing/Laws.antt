@@ -19,7 +19,8 @@ use Rattle.files.specs.Outcome.Laws.{whole-match, scan-match, files-match, out-
 use Rattle.files.specs.Property.{Row, Property}
 use Rattle.files.specs.Refusal.{graph, property, rules, interface}
 use Rattle.files.specs.Rules.{watch}
-use Rattle.files.specs.Sides.{ForeignAt, Shares, Unprovided}
+use Rattle.files.specs.Sides.{ForeignAt, Shares, LacksEntry, Unprovided}
+use Rattle.files.specs.Sides.Entries.{says-lacks-entry}
 use Rattle.files.specs.Sides.Laws.{foreign-finds, says-shares, says-unprovided}
 use Rattle.files.specs.Sides.OfInterface.{of-foreign}
 use Rattle.files.specs.declared.record.Limits.{Limits}
@@ -46,9 +47,10 @@ module _ (L : Limits) (ki kg oi p r : List ℕ) (m out store work : ℕ) where
       (whole-match 3 _ _ (says-no-start m) _ _
       (scan-match 9 2 _ _ (foreign-finds (decode-interface ki) kg) _ _
       (whole-match 9 _ _ (says-shares (decode-interface ki) (decode-interface oi)) _ _
+      (whole-match 16 _ _ (says-lacks-entry (decode-interface ki) (decode-graph kg)) _ _
       (whole-match 10 _ _ (says-unprovided (compose-sides L ki kg oi p r m out) m) _ _
       (whole-match 11 _ _ (says-or (says-too-large L (gives (other-side L ki kg oi p r m out))) (says-too-large L (compose-graph L ki kg oi p r m out))) _ _
-      (out-match out said)))))))))))
+      (out-match out said))))))))))))
 
   pub composed-is : composed L ki kg oi p r m out store work ≡ answered (compose-first L ki kg oi p r m store work (compose-last L kg oi p r m out)) (compose-said kg oi p r m)
   unfolding composed
@@ -72,8 +74,8 @@ module _ (L : Limits) (ki kg oi p r : List ℕ) (m out store work : ℕ) where
   compose-own of k x =
       let start =
       whole-line 3 (NoStart m) (line 9 2 (ForeignAt (decode-interface ki) kg) (whole-line 9 (Shares (decode-interface ki) (decode-interface oi))
-      (whole-line 10 (Unprovided (compose-sides L ki kg oi p r m out) m)
-      (whole-line 11 (TooLarge L (gives (other-side L ki kg oi p r m out)) ⊎ TooLarge L (compose-graph L ki kg oi p r m out)) (out-line out said)))))
+      (whole-line 16 (LacksEntry (decode-interface ki) (decode-graph kg)) (whole-line 10 (Unprovided (compose-sides L ki kg oi p r m out) m)
+      (whole-line 11 (TooLarge L (gives (other-side L ki kg oi p r m out)) ⊎ TooLarge L (compose-graph L ki kg oi p r m out)) (out-line out said))))))
       in
       let other = file-lines L 3 interface oi (file-lines L 4 property p (file-lines L 5 rules r start)) in
       let a0 = past-line (λ y. omega (arith, y .0)) x in
@@ -87,7 +89,8 @@ module _ (L : Limits) (ki kg oi p r : List ℕ) (m out store work : ℕ) where
       let a8 = past-line (λ y. omega (arith, y .1 .0)) (a7 .1) in
       let a9 = past-line (λ y. omega (arith, y .0)) (a8 .1) in
       let a10 = past-line (λ y. omega (arith, y .0)) (a9 .1) in
-      past-line (λ y. omega (arith, y .0)) (a10 .1) .1
+      let a11 = past-line (λ y. omega (arith, y .0)) (a10 .1) in
+      past-line (λ y. omega (arith, y .0)) (a11 .1) .1
 
   -- accepted exactly where nothing applies
   pub compose-accepted : (composed L ki kg oi p r m out store work ≡ says said) ↔ NoneOf (compose-lines L ki kg oi p r m out store work)
