@@ -5,6 +5,7 @@ use mathlib.Core.Logic.{_⊎_, inl, inr, _↔_, Iff·trans}
 use mathlib.Core.Bool.{Bool, true, false, not, cond, _||_}
 use mathlib.Core.List.{List, []}
 use Prim.Native.Nat.{ℕ}
+use native.Mathlib.Decide.{ℕ-discrete}
 use native.Mathlib.Omega.{arith}
 use lib.Dec.{T}
 use Rattle.files.specs.Basics.Tests.{decide, or-e, or-l, or-r, not-or}
@@ -18,16 +19,11 @@ use Rattle.files.specs.Sides.{lacks-entry, Entered}
 use Rattle.files.specs.Sides.Entries.{says-lacks-entry, entered-i}
 use Rattle.maximal.specs.Model.{model}
 use Rattle.maximal.specs.Modelling.Laws.{model-simulates-iff}
-use Rattle.runs.specs.Composing.{Conforms, Side, known, unwritten, gives, Admits}
+use Rattle.runs.specs.Composing.{Conforms, Loads, Side, known, unwritten, gives, Admits, impossible, LoadsOn, SomeLoads, NoneLoads, AllClean, SomeBad, impossible-said, sides-said}
 use Rattle.runs.specs.Composing.Sides.{model-conforms, Sound, bad-of-sides, clean-of-sides}
 use Rattle.runs.specs.Runs.{Bad as BadRun, Clean}
 use Rattle.runs.specs.Watching.{Watches, watch-said}
 use Rattle.runs.specs.Watching.Laws.{watch-no-third}
-
--- "A conforming graph therefore has one for each provided method."
-pub record Loads (I : Interface) (P : List Row) (G : Graph) : Type 0 where
-  pub conforms : Conforms I P G
-  pub entered : Entered I G
 
 module _ (I : Interface) (P : List Row) (wf : Property P) where
   -- an entry of a conforming graph is covered by one of the model
@@ -57,16 +53,6 @@ module _ (I : Interface) (P : List Row) (wf : Property P) where
 
 -- ---- sides
 
--- nothing can be loaded on a side: it is not written, and its model lacks an entry
-abbrev pub impossible : Side → Bool
-impossible (known K) = false
-impossible (unwritten I P) = lacks-entry I (model I P)
-
--- the graphs that may be loaded on a side
-abbrev pub LoadsOn : Side → Graph → Type 0
-LoadsOn (known K) G = G ≡ K
-LoadsOn (unwritten I P) G = Loads I P G
-
 loads-admitted : (A : Side) (G : Graph) → LoadsOn A G → Admits A G
 loads-admitted (known K) G e = e
 loads-admitted (unwritten I P) G l = l .conforms
@@ -82,14 +68,14 @@ impossible-side-iff (unwritten I P) s = impossible-iff I P s
 
 module _ (A B : Side) (sa : Sound A) (sb : Sound B) where
   -- "when either has none"
-  pub impossible-of-sides : T (impossible A || impossible B) ↔ (((G : Graph) → LoadsOn A G → ⊥) ⊎ ((H : Graph) → LoadsOn B H → ⊥))
+  pub impossible-of-sides : T (impossible A || impossible B) ↔ (NoneLoads A ⊎ NoneLoads B)
   impossible-of-sides = (λ t. told (or-e (impossible A) (impossible B) t), tells)
     where
-      told : T (impossible A) ⊎ T (impossible B) → ((G : Graph) → LoadsOn A G → ⊥) ⊎ ((H : Graph) → LoadsOn B H → ⊥)
+      told : T (impossible A) ⊎ T (impossible B) → NoneLoads A ⊎ NoneLoads B
       told (inl t) = inl (impossible-side-iff A sa .0 t)
       told (inr t) = inr (impossible-side-iff B sb .0 t)
 
-      tells : ((G : Graph) → LoadsOn A G → ⊥) ⊎ ((H : Graph) → LoadsOn B H → ⊥) → T (impossible A || impossible B)
+      tells : NoneLoads A ⊎ NoneLoads B → T (impossible A || impossible B)
       tells (inl f) = or-l (impossible A) (impossible B) (impossible-side-iff A sa .1 f)
       tells (inr f) = or-r (impossible A) (impossible B) (impossible-side-iff B sb .1 f)
 
@@ -98,7 +84,7 @@ module _ (A B : Side) (sa : Sound A) (sb : Sound B) where
     given = let p = not-or (impossible A) (impossible B) possible in (gives-loads A sa (p .0), gives-loads B sb (p .1))
 
     -- what two sides give is bad together exactly where some graphs that load on them are
-    pub bad-of-loaded : BadRun (join (gives A) (gives B)) mon m ↔ ((G : Graph) × (H : Graph) × LoadsOn A G × LoadsOn B H × BadRun (join G H) mon m)
+    pub bad-of-loaded : BadRun (join (gives A) (gives B)) mon m ↔ SomeBad A B mon m
     bad-of-loaded = (
       λ bad. (gives A, gives B, given .0, given .1, bad),
       λ x. bad-of-sides A B sa sb mon m .1 (x .0, x .1, loads-admitted A (x .0) (x .2), loads-admitted B (x .1) (x .3), x .4),
@@ -106,7 +92,7 @@ module _ (A B : Side) (sa : Sound A) (sb : Sound B) where
 
     -- and clean together exactly where some load, and all that do are
     pub clean-of-loaded : Clean (join (gives A) (gives B)) mon m
-        ↔ (((G : Graph) × LoadsOn A G) × (((H : Graph) × LoadsOn B H) × ((G H : Graph) → LoadsOn A G → LoadsOn B H → Clean (join G H) mon m)))
+        ↔ (SomeLoads A × (SomeLoads B × AllClean A B mon m))
     clean-of-loaded = (
       λ clean. ((gives A, given .0), ((gives B, given .1), λ G H a b. clean-of-sides A B sa sb mon m .0 clean G H (loads-admitted A G a) (loads-admitted B H b))),
       λ x. x .1 .1 (gives A) (gives B) (given .0) (given .1),
@@ -114,23 +100,17 @@ module _ (A B : Side) (sa : Sound A) (sb : Sound B) where
 
 -- ---- what is said
 
--- "the composed verdict becomes "impossible" in place of clean or bad": no values, nothing written
-abbrev pub impossible-said : Said
-impossible-said = record { verdict = 3; values = []; written = [] }
-
-abbrev pub sides-said : Side → Side → Monitor → ℕ → Said
-sides-said A B mon m = cond (impossible A || impossible B) impossible-said (watch-said (join (gives A) (gives B)) mon m)
-
 -- "impossible" exactly where on one of the sides nothing loads; "clean" exactly where something loads on each and all that do, of any size, are clean joined; "bad" exactly
 -- where some that load are not, and then the trail is one of what the sides give, which load. "Clean" speaks for modules without all their entries too.
 pub record SidesSay (A B : Side) (mon : Monitor) (m : ℕ) (s : Said) : Type 0 where
-  pub impossible-is : (s .verdict ≡ 3) ↔ (((G : Graph) → LoadsOn A G → ⊥) ⊎ ((H : Graph) → LoadsOn B H → ⊥))
-  pub clean-is : (s .verdict ≡ 1) ↔ (((G : Graph) × LoadsOn A G) × (((H : Graph) × LoadsOn B H) × ((G H : Graph) → LoadsOn A G → LoadsOn B H → Clean (join G H) mon m)))
-  pub bad-is : (s .verdict ≡ 2) ↔ ((G : Graph) × (H : Graph) × LoadsOn A G × LoadsOn B H × BadRun (join G H) mon m)
+  pub impossible-is : (s .verdict ≡ 3) ↔ (NoneLoads A ⊎ NoneLoads B)
+  pub clean-is : (s .verdict ≡ 1) ↔ (SomeLoads A × (SomeLoads B × AllClean A B mon m))
+  pub bad-is : (s .verdict ≡ 2) ↔ SomeBad A B mon m
   pub clean-without-entries : s .verdict ≡ 1 → (G H : Graph) → Admits A G → Admits B H → Clean (join G H) mon m
   pub given-loads : s .verdict ≡ 2 → LoadsOn A (gives A) × LoadsOn B (gives B)
   pub impossible-writes : s .verdict ≡ 3 → (s .values ≡ []) × (s .written ≡ [])
   pub on-given : (s .verdict ≡ 3 → ⊥) → Watches (join (gives A) (gives B)) mon m s
+  pub three : (s .verdict ≡ 1) ⊎ ((s .verdict ≡ 2) ⊎ (s .verdict ≡ 3))
 
 module _ (A B : Side) (sa : Sound A) (sb : Sound B) (mon : Monitor) (m : ℕ)
     (watches : (s : Said) → s ≡ watch-said (join (gives A) (gives B)) mon m → Watches (join (gives A) (gives B)) mon m s) where
@@ -147,9 +127,10 @@ module _ (A B : Side) (sa : Sound A) (sb : Sound B) (mon : Monitor) (m : ℕ)
         given-loads = λ q. absurd (omega arith);
         impossible-writes = λ q. (ap (λ (x : Said). x .values) e, ap (λ (x : Said). x .written) e);
         on-given = λ f. absurd (f v);
+        three = inr (inr v);
       }
     where
-      nothing : ((G : Graph) → LoadsOn A G → ⊥) ⊎ ((H : Graph) → LoadsOn B H → ⊥) → (G H : Graph) → LoadsOn A G → LoadsOn B H → ⊥
+      nothing : NoneLoads A ⊎ NoneLoads B → (G H : Graph) → LoadsOn A G → LoadsOn B H → ⊥
       nothing (inl f) G H a b = f G a
       nothing (inr f) G H a b = f H b
 
@@ -167,8 +148,13 @@ module _ (A B : Side) (sa : Sound A) (sb : Sound B) (mon : Monitor) (m : ℕ)
         given-loads = λ q. given A B sa sb t mon m;
         impossible-writes = λ q. absurd (watch-no-third (join (gives A) (gives B)) mon m s e q);
         on-given = λ f. w;
+        three = two (ℕ-discrete (s .verdict) 2) w;
       }
     where
+      two : Dec (s .verdict ≡ 2) → Watches (join (gives A) (gives B)) mon m s → (s .verdict ≡ 1) ⊎ ((s .verdict ≡ 2) ⊎ (s .verdict ≡ 3))
+      two (yes q) w = inr (inl q)
+      two (no f) w = inl (w .clean-iff .1 (λ b. f (w .bad-iff .1 b)))
+
       apart : (b : Bool) → T b → T (not b) → ⊥
       apart true x y = y
       apart false x y = x
