@@ -194,7 +194,7 @@ pub fn say_watched(
         Verdict::Impossible => {
             say(
                 stdout,
-                b"impossible since no module with an entry for each provided method satisfies its property\n",
+                b"impossible since on an unwritten side no module with an entry for each provided method satisfies the property\n",
             );
             give_trail(stdout, out, 0, start, at);
         }

@@ -64,7 +64,14 @@ fn join_stored(store: &[u8], work: &mut [u8], limits: Limits, barred: bool, s: S
 {
     let first = Record::LEN * (s.first.nodes + s.first.edges);
     let second = first + Record::LEN * (s.second.nodes + s.second.edges);
-    join_into(&store[..first], &store[first..second], work, limits, barred, s)
+    join_into(
+        &store[..first],
+        &store[first..second],
+        work,
+        limits,
+        barred,
+        s,
+    )
 }
 
 // 11 for the joined graph, "impossible" where it is barred, or the verdict on it. Both graphs stand in `store`, the second behind the first.
@@ -114,16 +121,7 @@ fn watch_second(
                 second: second,
             };
             let lacking = bars(interface, store, at, second);
-            watch_stored(
-                rules,
-                start,
-                out,
-                store,
-                work,
-                limits,
-                barred | lacking,
-                s,
-            )
+            watch_stored(rules, start, out, store, work, limits, barred | lacking, s)
         }
     }
 }
