@@ -15,7 +15,7 @@ use Rattle.judging.specs.Delivered.{deliveries-store}
 use Rattle.judging.specs.Judge.{judge-room}
 use Rattle.maximal.specs.Modelling.{model-room}
 use Rattle.runs.specs.Composing.{compose-store, compose-work}
-use Rattle.runs.specs.Prepared.{watch-room}
+use Rattle.runs.specs.Regions.{watch-room}
 use Rattle.runs.specs.Unwritten.{both-store, both-work}
 use Rattle.exports.specs.declared.Answer.{Answer}
 

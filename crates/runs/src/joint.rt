@@ -13,6 +13,7 @@ ghost use Rattle.judging.specs.Judge.{Strides};
 ghost use Rattle.judging.specs.Refinement.{Both};
 ghost use Rattle.runs.specs.Answer.{watched-answer};
 ghost use Rattle.runs.specs.Composing.Joined.{JoinedInto, JointReady, joint-outcome, joint-graph};
+ghost use Rattle.runs.specs.Regions.{watch-room};
 use crate::answers::Verdict;
 use crate::joining::write_join;
 use crate::watching::watch_runs;
@@ -73,7 +74,7 @@ pub(crate) fn watch_joint(
     work: &[u8],
     s: Sizes,
 ) -> Verdict
-    requires { ⌜ (JointReady s (now work) (now rules) joint) × (46949 ≤ length (now store)) ⌝ }
+    requires { ⌜ (JointReady s (now work) (now rules) joint) × (watch-room ≤ length (now store)) ⌝ }
     ensures { λ v. ⌜ Answers (joint-outcome (joint-graph s (now (work .entry))) (watch (decode-rules (now (rules .entry)))) start (length (now (out .entry))) joint) (now (out .entry)) (now (out .exit)) (watched-answer v) ⌝ }
 {
     match joint {

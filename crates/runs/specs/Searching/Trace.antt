@@ -16,6 +16,7 @@ use Rattle.files.specs.Cells.Laws.{put-at-is, put-front}
 use Rattle.files.specs.Graph.{Graph}
 use Rattle.files.specs.Rules.{Monitor}
 use Rattle.runs.specs.Forward.{turned, turned-length}
+use Rattle.runs.specs.Regions.{points}
 use Rattle.runs.specs.Summary.Trails.{Rec, trail-rec-bytes, end, leaving, trail, trail-bytes}
 use Rattle.runs.specs.Summary.Trails.Laws.{trail-bytes-is}
 use Rattle.runs.specs.Summary.{clean}
@@ -184,11 +185,11 @@ way-short G mon m i w t (suc f) k h l = go (decLt 0 k) (λ p a b. way-short G mo
         zero-is : (0 < k → ⊥) → k ≡ 0
         zero-is n = omega arith
 
-pub writing-small : (G : Graph) (mon : Monitor) (m i : ℕ) (w out₀ out : List ℕ) (at k : ℕ) → Writing G mon m i w out₀ out at k → k ≤ 2048
+pub writing-small : (G : Graph) (mon : Monitor) (m i : ℕ) (w out₀ out : List ℕ) (at k : ℕ) → Writing G mon m i w out₀ out at k → k ≤ points
 writing-small G mon m i w out₀ out at k x =
     let a = way-short G mon m i w (x .traced) at at (omega arith) (x .below) in omega (arith, a, x .place, x .below, x .traced .few)
 
-pub trail-small : (G : Graph) (mon : Monitor) (m i : ℕ) (w : List ℕ) → Traced G mon m i w → length (trail G mon m) ≤ 2048
+pub trail-small : (G : Graph) (mon : Monitor) (m i : ℕ) (w : List ℕ) → Traced G mon m i w → length (trail G mon m) ≤ points
 trail-small G mon m i w t =
     let a = way-short G mon m i w t i i (omega arith) (omega arith) in omega (arith, a, trail-length G mon m i w t, t .few)
 
