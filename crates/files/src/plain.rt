@@ -5,6 +5,7 @@ ghost use mathlib.Core.Path.{_≡_};
 ghost use Prim.Native.Nat.{ℕ, _*_, _≤_, _<_};
 ghost use lib.Dec.{T};
 ghost use lib.ListN.{length};
+ghost use Rattle.files.specs.Places.{record-len};
 ghost use Rattle.files.specs.Record.{count};
 ghost use Rattle.files.specs.Plain.{PlainNode, Inside, PlainEdges, edge-number};
 use crate::parse::edge_wrong;
@@ -37,7 +38,7 @@ fn edge_number(r: Record) -> u32
 
 // Whether an edge is between two of so many nodes, of one method.
 fn inside(records: &[u8], nodes: usize, r: Record) -> bool
-    requires { ⌜ 6 * nodes ≤ length (now records) ⌝ }
+    requires { ⌜ record-len * nodes ≤ length (now records) ⌝ }
     ensures { λ b. ⌜ (T b → Inside (now (records .entry)) nodes r) ⌝ }
 {
     let from = r.first as usize;

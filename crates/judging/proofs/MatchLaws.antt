@@ -15,6 +15,7 @@ use Rattle.files.specs.Cells.{cell, has-bit, put-bit}
 use Rattle.files.specs.Cells.Laws.{zero-byte, zero-bit, bit-byte, bit-same, bit-other}
 use Rattle.files.specs.Decode.{decode-graph}
 use Rattle.files.specs.Graph.{Graph, size}
+use Rattle.judging.specs.Places.{cursors-base, heads-base, held-base, kinds-base, neighbours-base, nexts-base}
 use Rattle.judging.specs.declared.sizes.Sizes.{Sizes}
 use Rattle.files.specs.Basics.First.{last-where}
 use Rattle.judging.specs.Chains.{Outside}
@@ -36,15 +37,15 @@ not-off true e = tt
 not-off false e = subst T e tt
 
 -- a row put where it is held, for one node more
-pub held-turn : (w₀ w w′ r : List ℕ) (n v : ℕ) → v < 256 → ((h : ℕ) → h < 256 → has-bit r 0 h ≡ ltb h n) → ((h : ℕ) → h < 256 → held w′ v h ≡ has-bit r 0 h) → Outside (8192 + 32 * v) (8192 + 32 * v + 32) w w′
-    → ((u h : ℕ) → u < v → h < 256 → held w u h ≡ ltb h n) → Outside 8192 16384 w₀ w → ((u h : ℕ) → u < v + 1 → h < 256 → held w′ u h ≡ ltb h n) × Outside 8192 16384 w₀ w′
+pub held-turn : (w₀ w w′ r : List ℕ) (n v : ℕ) → v < 256 → ((h : ℕ) → h < 256 → has-bit r 0 h ≡ ltb h n) → ((h : ℕ) → h < 256 → held w′ v h ≡ has-bit r 0 h) → Outside (held-base + 32 * v) (held-base + 32 * v + 32) w w′
+    → ((u h : ℕ) → u < v → h < 256 → held w u h ≡ ltb h n) → Outside held-base kinds-base w₀ w → ((u h : ℕ) → u < v + 1 → h < 256 → held w′ u h ≡ ltb h n) × Outside held-base kinds-base w₀ w′
 held-turn w₀ w w′ r n v few is put o was out = (λ u h a b. go u h a b (ℕ-discrete u v), beside)
   where
     go : (u h : ℕ) → u < v + 1 → h < 256 → Dec (u ≡ v) → held w′ u h ≡ ltb h n
     go u h a b (yes e) = subst (λ (k : ℕ). held w′ k h ≡ ltb h n) (sym e) (put h b ∙ is h b)
-    go u h a b (no f) = bit-byte w′ w (8192 + 32 * u) (8192 + 32 * u) h (o (8192 + 32 * u + h / 8) (inl (omega arith))) ∙ was u h (omega arith) b
+    go u h a b (no f) = bit-byte w′ w (held-base + 32 * u) (held-base + 32 * u) h (o (held-base + 32 * u + h / 8) (inl (omega arith))) ∙ was u h (omega arith) b
 
-    beside : Outside 8192 16384 w₀ w′
+    beside : Outside held-base kinds-base w₀ w′
     beside q (inl l) = o q (inl (omega arith)) ∙ out q (inl l)
     beside q (inr l) = o q (inr (omega arith)) ∙ out q (inr l)
 
@@ -149,10 +150,10 @@ module _ (s : Sizes) (f g : List ℕ) (x : Both s f g) where
   -- ---- a walk along the edges of a slot
 
   module _ (k : ℕ) (hk : k < 9 * s .first .nodes) where
-    pub slot-start : (w : List ℕ) (at : ℕ) (D : ℕ → Type 0) → Refining G H w → at ≡ cell w 16960 2 k → Walk (labelled-into G k) (length (G .edges)) at D
+    pub slot-start : (w : List ℕ) (at : ℕ) (D : ℕ → Type 0) → Refining G H w → at ≡ cell w heads-base 2 k → Walk (labelled-into G k) (length (G .edges)) at D
     slot-start w at D r e = walk-start (labelled-into G k) (length (G .edges)) at D (e ∙ r .by-slot .heads-are k (omega (arith, hk, first-size s f g x)))
 
-    pub slot-next : (w : List ℕ) (at next : ℕ) (D : ℕ → Type 0) → Refining G H w → Walk (labelled-into G k) (length (G .edges)) at D → 0 < at → next ≡ cell w 21568 2 (at - 1) → next ≡ last-where (labelled-into G k) (at - 1)
+    pub slot-next : (w : List ℕ) (at next : ℕ) (D : ℕ → Type 0) → Refining G H w → Walk (labelled-into G k) (length (G .edges)) at D → 0 < at → next ≡ cell w nexts-base 2 (at - 1) → next ≡ last-where (labelled-into G k) (at - 1)
     slot-next w at next D r y l e = let i = walk-item (labelled-into G k) (length (G .edges)) at D y l in e ∙ r .by-slot .nexts-are k (at - 1) (omega (arith, hk, first-size s f g x)) (i .1) (i .0)
 
     pub slot-item : (at : ℕ) (D : ℕ → Type 0) → Walk (labelled-into G k) (length (G .edges)) at D → 0 < at → (at - 1 < s .first .edges) × ((edge G (at - 1)) .from < s .first .nodes)
@@ -161,14 +162,14 @@ module _ (s : Sizes) (f g : List ℕ) (x : Both s f g) where
         let e : at - 1 < s .first .edges = omega (arith, i .1, first-edges s f g x) in
         (e, (first-edge-in s f g x (at - 1) e) .0)
 
-    pub slot-less : (w : List ℕ) (at next : ℕ) (D : ℕ → Type 0) → Refining G H w → Walk (labelled-into G k) (length (G .edges)) at D → 0 < at → next ≡ cell w 21568 2 (at - 1) → next < at
+    pub slot-less : (w : List ℕ) (at next : ℕ) (D : ℕ → Type 0) → Refining G H w → Walk (labelled-into G k) (length (G .edges)) at D → 0 < at → next ≡ cell w nexts-base 2 (at - 1) → next < at
     slot-less w at next D r y l e = walk-less (labelled-into G k) at next l (slot-next w at next D r y l e)
 
     -- what the source of an edge is related to is in the row
     abbrev pub Added : List ℕ → List ℕ → ℕ → Type 0
     Added w c e = (h : ℕ) → h < 256 → T (rel w ((edge G e) .from) h) → In c h
 
-    pub source-added : (w c c′ : List ℕ) (at next u : ℕ) → Refining G H w → Walk (labelled-into G k) (length (G .edges)) at (Added w c) → 0 < at → next ≡ cell w 21568 2 (at - 1) → u ≡ (edge G (at - 1)) .from
+    pub source-added : (w c c′ : List ℕ) (at next u : ℕ) → Refining G H w → Walk (labelled-into G k) (length (G .edges)) at (Added w c) → 0 < at → next ≡ cell w nexts-base 2 (at - 1) → u ≡ (edge G (at - 1)) .from
         → ((h : ℕ) → h < 256 → has-bit c′ 0 h ≡ (has-bit c 0 h || has-bit w (32 * u) h)) → Within (s .second .nodes) c → Within (s .second .nodes) c′ × Walk (labelled-into G k) (length (G .edges)) next (Added w c′)
     source-added w c c′ at next u r y l e is bits i = (
       λ h b t. inside h b (or-e (has-bit c 0 h) (has-bit w (32 * u) h) (subst T (bits h b) t)),
@@ -191,7 +192,7 @@ module _ (s : Sizes) (f g : List ℕ) (x : Both s f g) where
     abbrev pub Gone : List ℕ → List ℕ → ℕ → Type 0
     Gone c w e = (h : ℕ) → h < 256 → T (rel w ((edge G e) .from) h) → In c h → ⊥
 
-    pub source-dropped : (w₀ w w′ c : List ℕ) (at next u : ℕ) → Shrank G H w₀ w → Walk (labelled-into G k) (length (G .edges)) at (Gone c w) → 0 < at → next ≡ cell w′ 21568 2 (at - 1) → u ≡ (edge G (at - 1)) .from
+    pub source-dropped : (w₀ w w′ c : List ℕ) (at next u : ℕ) → Shrank G H w₀ w → Walk (labelled-into G k) (length (G .edges)) at (Gone c w) → 0 < at → next ≡ cell w′ nexts-base 2 (at - 1) → u ≡ (edge G (at - 1)) .from
         → ((h : ℕ) → h < 256 → has-bit w′ (32 * u) h ≡ (has-bit w (32 * u) h && not (has-bit c 0 h))) → Outside (32 * u) (32 * u + 32) w w′ → length w′ ≡ length w
         → ((e h : ℕ) → e < s .first .edges → T (labelled-into G k e) → h < 256 → In c h → T (related G H ((edge G e) .from) h) → ⊥)
         → Shrank G H w₀ w′ × Walk (labelled-into G k) (length (G .edges)) next (Gone c w′)
@@ -257,7 +258,7 @@ module _ (s : Sizes) (f g : List ℕ) (x : Both s f g) where
         label-matched G H (first-flow s f g x) (second-flow s f g x) (first-fits s f g x) (second-fits s f g x) (first-edges-fit s f g x) w r v l hl row cont c (replicate 32 0) d w′ k y z
         (λ e h he a b m t. none e h (omega (arith, he, first-edges s f g x)) (slot-told e a b) m t)
 
-    pub label-empty : (at : ℕ) → at ≡ cell w 16960 2 (9 * v + l) → at ≡ 0 → LabelMatched G H w v l row
+    pub label-empty : (at : ℕ) → at ≡ cell w heads-base 2 (9 * v + l) → at ≡ 0 → LabelMatched G H w v l row
     label-empty at e z =
         label-none G H (first-flow s f g x) (second-flow s f g x) (first-fits s f g x) (second-fits s f g x) (first-edges-fit s f g x) w v l row
         (λ d hd a b. (slot-start (9 * v + l) (omega (arith, hv, hl)) w at (λ d. ⊥) r e) .3 d hd (slot-told d a b) (omega (arith, z)))
@@ -289,12 +290,12 @@ module _ (s : Sizes) (f g : List ℕ) (x : Both s f g) where
   contained w r v y e h t = let b = related-e G H (first-flow s f g x) (second-flow s f g x) v h t in subst T (sym (e h (omega (arith, b .1, second-fits s f g x)))) (y .contains v h t)
 
   pub taken : (v : ℕ) → v < s .first .nodes → (w w₁ w₂ r : List ℕ) → ((h : ℕ) → h < 256 → has-bit r 0 h ≡ rel w v h) → Shrank G H w w₁ → ((l : ℕ) → l < 9 → LabelMatched G H w₁ v l r) → ((h : ℕ) → h < 256 → held w₂ v h ≡ has-bit r 0 h)
-      → Outside (8192 + 32 * v) (8192 + 32 * v + 32) w₁ w₂ → length w₂ ≡ length w₁ → Took G H v w w₂
+      → Outside (held-base + 32 * v) (held-base + 32 * v + 32) w₁ w₂ → length w₂ ≡ length w₁ → Took G H v w w₂
   taken v hv w w₁ w₂ r was y all now o long =
       took G H (first-flow s f g x) (second-flow s f g x) (first-fits s f g x) (second-fits s f g x) (first-edges-fit s f g x) v (omega (arith, hv, first-size s f g x)) w w₁ w₂ r was y all
       (λ e he. (first-edge-in s f g x e (omega (arith, he, first-edges s f g x))) .2) now o long
 
-  pub ordered : (w w′ : List ℕ) → Outside 29760 30816 w w′ → length w′ ≡ length w → Refining G H w → Refining G H w′
+  pub ordered : (w w′ : List ℕ) → Outside cursors-base neighbours-base w w′ → length w′ ≡ length w → Refining G H w → Refining G H w′
   ordered w w′ o long r = order-beside G H (first-flow s f g x) (second-flow s f g x) (first-fits s f g x) (second-fits s f g x) (first-edges-fit s f g x) w w′ o long r
 
   -- ---- before any row is taken
@@ -322,7 +323,7 @@ module _ (s : Sizes) (f g : List ℕ) (x : Both s f g) where
       go (yes e) = subst (Leading G H w′) (sym e) z
       go (no d) = leading-kept G H (first-flow s f g x) (second-flow s f g x) (first-fits s f g x) (second-fits s f g x) (first-edges-fit s f g x) w w′ l y (m l (omega arith))
 
-  pub held-beside : (w w′ : List ℕ) → Outside 8192 16384 w w′ → length w′ ≡ length w → Refining G H w → Refining G H w′
+  pub held-beside : (w w′ : List ℕ) → Outside held-base kinds-base w w′ → length w′ ≡ length w → Refining G H w → Refining G H w′
   held-beside w w′ o long r =
       looked-up-kept G H (first-flow s f g x) (second-flow s f g x) (first-fits s f g x) (second-fits s f g x) (first-edges-fit s f g x) w w′ (λ q l d. o q (inr (omega arith))) long r (λ u h a b t. subst T (same u h a b) t)
       (λ u h t. let z = related-e G H (first-flow s f g x) (second-flow s f g x) u h t in subst T (sym (same u h (z .0) (omega (arith, z .1, second-fits s f g x)))) (r .contains u h t))

@@ -10,6 +10,7 @@ use Rattle.files.specs.Graph.{Graph, Flow, node, size}
 use Rattle.files.specs.Refusal.{graph}
 use Rattle.files.specs.Decode.{decode-graph}
 use Rattle.files.specs.Outcome.{Said, Outcome, Answer, refused-answer, verdict-answer, Check, whole-check, file-checks, out-check, answered, Lines, whole-line, file-lines, out-line, short}
+use Rattle.judging.specs.Places.{compare-room}
 use Rattle.judging.specs.declared.answers.Compared.{Compared}
 use Rattle.judging.specs.declared.answers.Compared.the-variants.{Yes, No, Refused}
 use Rattle.judging.specs.Simulation.{Simulation, Covered, Simulates, simulates, uncovered, relation-bytes, related}
@@ -19,10 +20,6 @@ use lib.ListN.{getD}
 pub mod Laws
 pub mod Meaning
 pub mod Examples
-
--- the published length of the work buffer
-abbrev pub compare-room : ℕ
-compare-room = 165152
 
 -- the paper's number and values for each case
 abbrev pub compared-answer : Compared → Answer

@@ -12,6 +12,7 @@ use Rattle.files.specs.Basics.Tests.{any, one}
 use Rattle.files.specs.Cells.{has-bit}
 use Rattle.files.specs.Graph.{Graph, Node, Edge, size, node, no-edge}
 use Rattle.files.specs.View.{Held}
+use Rattle.judging.specs.Places.{compare-room, heads-base, held-base, kinds-base, neighbours-base, nexts-base}
 use Rattle.judging.specs.declared.sizes.Sizes.{Sizes}
 use Rattle.judging.specs.Chains.{Chained}
 use Rattle.judging.specs.Simulation.{alike, related}
@@ -35,7 +36,7 @@ rel w g h = has-bit w (32 * g) h
 
 -- they were when the row of g was last taken
 abbrev pub held : List ℕ → ℕ → ℕ → Bool
-held w g h = has-bit w (8192 + 32 * g) h
+held w g h = has-bit w (held-base + 32 * g) h
 
 -- how many pairs of the first n nodes are held
 abbrev pub load : ℕ → List ℕ → ℕ
@@ -43,7 +44,7 @@ load n w = tally (λ (p : ℕ). held w (p / 256) (p % 256)) (256 * n)
 
 -- row m of neighbours has y
 abbrev pub neighbour : List ℕ → ℕ → ℕ → Bool
-neighbour w m y = has-bit w (30816 + 32 * m) y
+neighbour w m y = has-bit w (neighbours-base + 32 * m) y
 
 -- an edge with label l leads from x to y, looked up by where it comes from
 abbrev pub follows : List ℕ → ℕ → ℕ → ℕ → Bool
@@ -59,7 +60,7 @@ kind v = 2 * v .method + one (v .ret)
 
 -- h stands in the row of kind k
 abbrev pub of-kind : List ℕ → ℕ → ℕ → Bool
-of-kind w k h = has-bit w (16384 + 32 * k) h
+of-kind w k h = has-bit w (kinds-base + 32 * k) h
 
 abbrev pub edge : Graph → ℕ → Edge
 edge G e = getD (G .edges) e no-edge
@@ -144,8 +145,8 @@ module _ (G H : Graph) where
 
   -- nothing of the largest simulation is lost, what is related agrees, and what is looked up stands beside it
   pub record Refining (w : List ℕ) : Type 0 where
-    pub room : 165152 ≤ length w
-    pub by-slot : Chained w 16960 21568 (labelled-into G) (9 * size G) (length (G .edges))
+    pub room : compare-room ≤ length w
+    pub by-slot : Chained w heads-base nexts-base (labelled-into G) (9 * size G) (length (G .edges))
     pub neighbours : Neighbours H (size H) w
     pub inside : (g h : ℕ) → g < size G → h < 256 → T (rel w g h) → (h < size H) × T (alike (node G g) (node H h))
     pub contains : (g h : ℕ) → T (related G H g h) → T (rel w g h)

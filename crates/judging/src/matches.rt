@@ -10,6 +10,7 @@ ghost use Rattle.files.specs.Cells.{has-bit};
 ghost use Rattle.files.specs.Decode.{decode-graph};
 ghost use Rattle.files.specs.Record.{count};
 ghost use Rattle.files.specs.Refusal.{nodes-of};
+ghost use Rattle.judging.specs.Places.{compare-room};
 ghost use Rattle.judging.specs.Refinement.{Both, rel, edge, labelled-into, Within, Preceded, Preceding, Asked, Sifted, LostMet, Contained, Refining, Shrank, NodeMatched, LabelMatched};
 ghost use Rattle.judging.specs.Simulation.{related};
 use crate::rows::any_at;
@@ -54,7 +55,7 @@ fn related_to_sources(first: &[u8], second: &[u8], s: Sizes, work: &[u8], slot: 
 
 // A row together with the predecessors of those nodes of another that stand in its word k.
 fn with_predecessors(work: &[u8], nodes: &[u8], row: &[u8], k: usize) -> [u8; LINE]
-    requires { ⌜ ((32 ≤ length (now nodes)) × (32 ≤ length (now row))) × ((165152 ≤ length (now work)) × (k < 8)) ⌝ }
+    requires { ⌜ ((32 ≤ length (now nodes)) × (32 ≤ length (now row))) × ((compare-room ≤ length (now work)) × (k < 8)) ⌝ }
     ensures { λ r. ⌜ (length r ≡ 32) × (Preceded (now (work .entry)) (now (nodes .entry)) (now (row .entry)) r (32 * k) (32 * k + 32)) ⌝ }
 {
     let mut met = row_at(row, 0);
@@ -70,7 +71,7 @@ fn with_predecessors(work: &[u8], nodes: &[u8], row: &[u8], k: usize) -> [u8; LI
 
 // The predecessors of all nodes of a row.
 fn predecessors(work: &[u8], nodes: &[u8]) -> [u8; LINE]
-    requires { ⌜ (32 ≤ length (now nodes)) × (165152 ≤ length (now work)) ⌝ }
+    requires { ⌜ (32 ≤ length (now nodes)) × (compare-room ≤ length (now work)) ⌝ }
     ensures { λ r. ⌜ (length r ≡ 32) × (Preceded (now (work .entry)) (now (nodes .entry)) (replicate 32 0) r 0 256) ⌝ }
 {
     let mut met = [0u8; LINE];
@@ -102,7 +103,7 @@ fn nodes_near(
 
 // Adds node x, unless an edge of it with this label leads into the row.
 fn sift_at(work: &[u8], label: usize, row: &[u8], gone: &mut [u8], x: usize)
-    requires { ⌜ ((32 ≤ length (now row)) × (32 ≤ length (now gone))) × ((165152 ≤ length (now work)) × ((label < 9) × (x < 256))) ⌝ }
+    requires { ⌜ ((32 ≤ length (now row)) × (32 ≤ length (now gone))) × ((compare-room ≤ length (now work)) × ((label < 9) × (x < 256))) ⌝ }
     ensures { λ _. ⌜ Asked (now (work .entry)) label (now (row .entry)) (now (gone .entry)) (now (gone .exit)) x ⌝ }
 {
     if !meets(
@@ -116,7 +117,7 @@ fn sift_at(work: &[u8], label: usize, row: &[u8], gone: &mut [u8], x: usize)
 
 // The same for those nodes found that stand in word k of their row.
 fn sift_word(work: &[u8], label: usize, row: &[u8], found: &[u8], gone: &mut [u8], k: usize)
-    requires { ⌜ ((32 ≤ length (now row)) × ((32 ≤ length (now found)) × (32 ≤ length (now gone)))) × ((165152 ≤ length (now work)) × ((label < 9) × (k < 8))) ⌝ }
+    requires { ⌜ ((32 ≤ length (now row)) × ((32 ≤ length (now found)) × (32 ≤ length (now gone)))) × ((compare-room ≤ length (now work)) × ((label < 9) × (k < 8))) ⌝ }
     ensures { λ _. ⌜ Sifted (now (work .entry)) label (now (row .entry)) (now (found .entry)) (now (gone .entry)) (now (gone .exit)) (32 * k) (32 * k + 32) ⌝ }
 {
     let mut rest = get32(found, 0, k);
@@ -129,7 +130,7 @@ fn sift_word(work: &[u8], label: usize, row: &[u8], found: &[u8], gone: &mut [u8
 
 // The same for all nodes found.
 fn sift(work: &[u8], label: usize, row: &[u8], found: &[u8], gone: &mut [u8])
-    requires { ⌜ ((32 ≤ length (now row)) × ((32 ≤ length (now found)) × (32 ≤ length (now gone)))) × ((165152 ≤ length (now work)) × (label < 9)) ⌝ }
+    requires { ⌜ ((32 ≤ length (now row)) × ((32 ≤ length (now found)) × (32 ≤ length (now gone)))) × ((compare-room ≤ length (now work)) × (label < 9)) ⌝ }
     ensures { λ _. ⌜ Sifted (now (work .entry)) label (now (row .entry)) (now (found .entry)) (now (gone .entry)) (now (gone .exit)) 0 256 ⌝ }
 {
     let mut k = 0;

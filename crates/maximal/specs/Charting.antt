@@ -15,6 +15,7 @@ use Rattle.files.specs.Decode.{decode-property}
 use Rattle.files.specs.Interface.{Interface}
 use Rattle.files.specs.Property.{Row}
 use Rattle.files.specs.Record.{count}
+use Rattle.maximal.specs.Places.{asked-base, candidates-base, entries-slot, methods-base, order-base, targets-base}
 use Rattle.maximal.specs.declared.places.Scope.{Scope}
 use Rattle.maximal.specs.Collected.{or-count}
 use Rattle.maximal.specs.Masks.{rows, asked-of}
@@ -70,26 +71,26 @@ found w c kind set = least (same-state w kind set) c
 
 -- the method of a slot, 0 where its label is none; and what its state asks for under its label
 abbrev pub method-at : List ℕ → ℕ → ℕ
-method-at w p = cell w 1792 1 p
+method-at w p = cell w methods-base 1 p
 
 abbrev pub asked-at : List ℕ → ℕ → ℕ
-asked-at w p = cell w 4096 4 p
+asked-at w p = cell w asked-base 4 p
 
 -- state t follows by slot p
 abbrev pub target : List ℕ → ℕ → ℕ → Bool
-target w p t = has-bit w 13312 (256 * p + t)
+target w p t = has-bit w targets-base (256 * p + t)
 
 -- the first slot below q with this method that asks for this set, or q
 abbrev pub earlier : List ℕ → ℕ → ℕ → ℕ → ℕ
-earlier w q method set = least (is-pair w 1792 4096 method set) q
+earlier w q method set = least (is-pair w methods-base asked-base method set) q
 
 -- the number of the state that stands k-th
 abbrev pub order-at : List ℕ → ℕ → ℕ
-order-at w k = cell w 1536 1 k
+order-at w k = cell w order-base 1 k
 
 -- at which place state t stands
 abbrev pub rank-at : List ℕ → ℕ → ℕ
-rank-at w t = cell w 87072 1 t
+rank-at w t = cell w candidates-base 1 t
 
 -- the first k states in order have their places
 abbrev pub Ranked : ℕ → List ℕ → Type 0
@@ -101,7 +102,7 @@ comes-before w a b = ltb (kind-at w a) (kind-at w b) || (eqb (kind-at w a) (kind
 
 -- bytes other than those of the states and the rows of bits
 abbrev pub Elsewhere : List ℕ → List ℕ → Type 0
-Elsewhere w w′ = (b : ℕ) → (b < 256) ⊎ ((1536 ≤ b) × (b < 13312)) → getD w′ b 0 ≡ getD w b 0
+Elsewhere w w′ = (b : ℕ) → (b < 256) ⊎ ((order-base ≤ b) × (b < targets-base)) → getD w′ b 0 ≡ getD w b 0
 
 -- the first c states are apart
 abbrev pub Distinct : ℕ → List ℕ → Type 0
@@ -139,7 +140,7 @@ module _ (I : Interface) (P : List Row) where
     pub sets-kept : (i : ℕ) → i < c → set-at w′ i ≡ set-at w i
     pub there : (u : ℕ) → List·Memᴰ u A → (i : ℕ) × (i < c′) × (kind-at w′ i ≡ kind) × (set-at w′ i ≡ u)
     pub marked : (t : ℕ) → t < 256 → target w′ q t ≡ (target w q t || (ltb t c′ && (eqb (kind-at w′ t) kind && any (λ u. eqb (set-at w′ t) u) A)))
-    pub others-kept : (p t : ℕ) → p ≤ 2304 → t < 256 → (p ≡ q → ⊥) → target w′ p t ≡ target w p t
+    pub others-kept : (p t : ℕ) → p ≤ entries-slot → t < 256 → (p ≡ q → ⊥) → target w′ p t ≡ target w p t
     pub elsewhere : Elsewhere w w′
 
   -- slot p is worked: its row has the states that follow, and they are all there
@@ -153,7 +154,7 @@ module _ (I : Interface) (P : List Row) where
   -- the entries are there, and the slots below q are worked
   pub record Charting (c q : ℕ) (w : List ℕ) : Type 0 where
     pub holds : Holds c w
-    pub entry-bits : (t : ℕ) → t < 256 → target w 2304 t ≡ (ltb t c && is-entry I P (stored (length P) w t))
+    pub entry-bits : (t : ℕ) → t < 256 → target w entries-slot t ≡ (ltb t c && is-entry I P (stored (length P) w t))
     pub entries-there : (s : State) → Entry I P s → (t : ℕ) × (t < c) × (stored (length P) w t ≡ s)
     pub followed : (p : ℕ) → p < q → Followed c w p
 
@@ -171,7 +172,7 @@ module _ (I : Interface) (P : List Row) where
   pub record Charted (c : ℕ) (w : List ℕ) : Type 0 where
     pub holds : Holds c w
     pub complete : (s : State) → Reached I P s → (t : ℕ) × (t < c) × (stored (length P) w t ≡ s)
-    pub entries-are : (t : ℕ) → t < c → target w 2304 t ≡ is-entry I P (stored (length P) w t)
+    pub entries-are : (t : ℕ) → t < c → target w entries-slot t ≡ is-entry I P (stored (length P) w t)
     pub follows-are : (i l t : ℕ) → i < c → l < 9 → t < c → target w (9 * i + l) t ≡ is-next I P (stored (length P) w i) l (stored (length P) w t)
 
   -- the states in order

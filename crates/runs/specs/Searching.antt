@@ -15,11 +15,12 @@ use Rattle.files.specs.Basics.Tables.{tally}
 use Rattle.files.specs.Basics.Tests.{any}
 use Rattle.files.specs.Cells.{cell, put-cell, has-bit, put-bit, put-at}
 use Rattle.files.specs.Graph.{Graph, Edge, size, node, no-edge, EntryOf}
+use Rattle.files.specs.Places.{record-len}
 use Rattle.files.specs.Rules.{Monitor, calls}
 use Rattle.maximal.specs.Masks.{member}
 use Rattle.runs.specs.Forward.{Searched, Met, turned}
 use Rattle.runs.specs.Prepared.{Tables}
-use Rattle.runs.specs.Regions.{entered-bits-at, parents-at, points, seen-bits-at, watch-room}
+use Rattle.runs.specs.Regions.{entered-base, parents-base, points, seen-base, watch-room}
 use Rattle.runs.specs.Runs.{meth}
 use Rattle.runs.specs.Summary.{Place, Yields, is-entry-of, callee, spots, clean}
 use Rattle.runs.specs.Summary.Trails.{Rec, trail-rec-bytes, Where, before, here, end, is-bad, started, leaving, trail}
@@ -34,16 +35,16 @@ pub mod Trace
 
 abbrev pub item : List ℕ → ℕ → Rec
 item w i = record {
-  at = getD w (6 * i) 0;
-  state = getD w (6 * i + 1) 0;
-  step = getD w (6 * i + 2) 0;
-  label = getD w (6 * i + 3) 0;
-  to = getD w (6 * i + 4) 0;
-  now = getD w (6 * i + 5) 0;
+  at = getD w (record-len * i) 0;
+  state = getD w (record-len * i + 1) 0;
+  step = getD w (record-len * i + 2) 0;
+  label = getD w (record-len * i + 3) 0;
+  to = getD w (record-len * i + 4) 0;
+  now = getD w (record-len * i + 5) 0;
 }
 
 abbrev pub parent : List ℕ → ℕ → ℕ
-parent w i = cell w parents-at 2 i
+parent w i = cell w parents-base 2 i
 
 -- where item i ends
 abbrev pub item-end : List ℕ → ℕ → Where
@@ -51,15 +52,15 @@ item-end w i = cond (eqb i 0) before (end (item w i))
 
 -- the place of node g and state q was met
 abbrev pub seen : List ℕ → ℕ → ℕ → Bool
-seen w g q = has-bit w seen-bits-at (8 * g + q)
+seen w g q = has-bit w seen-base (8 * g + q)
 
 -- method l was entered in state q
 abbrev pub entered : List ℕ → ℕ → ℕ → Bool
-entered w l q = has-bit w entered-bits-at (8 * l + q)
+entered w l q = has-bit w entered-base (8 * l + q)
 
 -- how many places were met
 pub places-seen : List ℕ → ℕ
-places-seen w = tally (λ (h : ℕ). has-bit w seen-bits-at h) points
+places-seen w = tally (λ (h : ℕ). has-bit w seen-base h) points
 
 abbrev pub rec-of : ℕ → ℕ → ℕ → ℕ → ℕ → ℕ → Rec
 rec-of g q step l h r = record { at = g; state = q; step = step; label = l; to = h; now = r }
@@ -71,7 +72,7 @@ place g q = record { at = g; now = q }
 
 -- the list with one item more, found from item `head` by record r
 abbrev pub with-item : List ℕ → ℕ → ℕ → Rec → List ℕ
-with-item w tail head r = put-bit (put-cell (put-at w (6 * tail) (trail-rec-bytes r)) parents-at 2 tail head) seen-bits-at (8 * r .to + r .now)
+with-item w tail head r = put-bit (put-cell (put-at w (record-len * tail) (trail-rec-bytes r)) parents-base 2 tail head) seen-base (8 * r .to + r .now)
 
 -- nothing, where its place was met
 pub pushed : List ℕ → ℕ → ℕ → Rec → List ℕ

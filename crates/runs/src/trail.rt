@@ -4,6 +4,7 @@ ghost use mathlib.Core.List.{_++_};
 ghost use Prim.Native.Nat.{_*_, _≤_};
 ghost use lib.ListN.{length, drop};
 ghost use Rattle.files.specs.Decode.{decode-graph, decode-rules};
+ghost use Rattle.files.specs.Places.{record-len};
 ghost use Rattle.files.specs.Rules.{watch};
 ghost use Rattle.runs.specs.Regions.{watch-room};
 ghost use Rattle.runs.specs.Searching.{Traced};
@@ -37,7 +38,7 @@ pub(crate) fn write_trail(
     n: usize,
     out: &mut [u8],
 )
-    requires { ⌜ (Traced (decode-graph (now graph)) (watch (decode-rules (now rules))) start i (now work)) × ((watch-room ≤ length (now work)) × ((n ≡ length (trail (decode-graph (now graph)) (watch (decode-rules (now rules))) start)) × (6 * n ≤ length (now out)))) ⌝ }
+    requires { ⌜ (Traced (decode-graph (now graph)) (watch (decode-rules (now rules))) start i (now work)) × ((watch-room ≤ length (now work)) × ((n ≡ length (trail (decode-graph (now graph)) (watch (decode-rules (now rules))) start)) × (record-len * n ≤ length (now out)))) ⌝ }
     ensures { λ _. ⌜ now (out .exit) ≡ trail-bytes (decode-graph (now (graph .entry))) (watch (decode-rules (now (rules .entry)))) start ++ drop (length (trail-bytes (decode-graph (now (graph .entry))) (watch (decode-rules (now (rules .entry)))) start)) (now (out .entry)) ⌝ }
 {
     let mut at = i;

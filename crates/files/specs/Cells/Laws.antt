@@ -15,6 +15,7 @@ use lib.Pow.{shl-exact}
 use lib.Seq.{getD-set-same, getD-set-other, set-out, getD-take, getD-drop, getD-append-add, length-take-le, sets-eq, length-sets, paste, paste-suc, take-length, take-at, drop-append-add, drop-drop}
 use Rattle.files.specs.Basics.Tests.{one, one-true, one-false, all, all-e, upto, upto-i}
 use Rattle.files.specs.Cells.{little, put-little, cell, put-cell, has-bit, put-bit, put-at}
+use Rattle.files.specs.Places.{three-bytes-end, two-bytes-end}
 
 -- ---- numbers of n bytes
 
@@ -215,7 +216,7 @@ cell-two l base i = omega (arith, ap (λ (n : ℕ). getD l n 0) (add-one (base +
 
 pub cell-four : (l : List ℕ) (base i : ℕ)
     → cell l base 4 i
-    ≡ getD l (base + 4 * i) 0 + 256 * getD l (base + 4 * i + 1) 0 + 65536 * getD l (base + 4 * i + 2) 0 + 16777216 * getD l (base + 4 * i + 3) 0
+    ≡ getD l (base + 4 * i) 0 + 256 * getD l (base + 4 * i + 1) 0 + two-bytes-end * getD l (base + 4 * i + 2) 0 + three-bytes-end * getD l (base + 4 * i + 3) 0
 unfolding cell little
 cell-four l base i =
     let p : ℕ = base + 4 * i in
@@ -234,14 +235,14 @@ put-cell-two l base i v = rw add-one
 
 pub put-cell-four : (l : List ℕ) (base i v : ℕ)
     → put-cell l base 4 i v
-    ≡ set (set (set (set l (base + 4 * i) (v % 256)) (base + 4 * i + 1) (v / 256 % 256)) (base + 4 * i + 2) (v / 65536 % 256)) (base + 4 * i + 3) (v / 16777216 % 256)
+    ≡ set (set (set (set l (base + 4 * i) (v % 256)) (base + 4 * i + 1) (v / 256 % 256)) (base + 4 * i + 2) (v / two-bytes-end % 256)) (base + 4 * i + 3) (v / three-bytes-end % 256)
 unfolding put-cell put-little
 put-cell-four l base i v =
     let p : ℕ = base + 4 * i in
     let two : p + 2 ≡ suc (suc p) = omega arith in
     let three : p + 3 ≡ suc (suc (suc p)) = omega arith in
-    let a : v / 65536 ≡ v / 256 / 256 = omega arith in
-    let b : v / 16777216 ≡ v / 256 / 256 / 256 = omega arith in
+    let a : v / two-bytes-end ≡ v / 256 / 256 = omega arith in
+    let b : v / three-bytes-end ≡ v / 256 / 256 / 256 = omega arith in
     rw (add-one, two, three, a, b)
 
 pub has-bit-is : (l : List ℕ) (base h : ℕ) → has-bit l base h ≡ eqb (getD l (base + h / 8) 0 / 2 ^ (h % 8) % 2) 1

@@ -16,8 +16,9 @@ use Rattle.files.specs.Outcome.Calls as calls
 use Rattle.files.specs.Outcome.Laws.{refused-by, accepted-by}
 use Rattle.files.specs.Refusal.{graph, refusal}
 use Rattle.files.specs.declared.record.Limits.{Limits}
+use Rattle.judging.specs.Places.{compare-room}
 use Rattle.judging.specs.TwoFiles.{two-match, two-given, two-say}
-use Rattle.judging.specs.Compare.{compare-room, compare-said, compare-verdict, compare-checks, compare-lines, compared, Lowest, Compares, compared-answer, compare-first}
+use Rattle.judging.specs.Compare.{compare-said, compare-verdict, compare-checks, compare-lines, compared, Lowest, Compares, compared-answer, compare-first}
 use Rattle.judging.specs.Simulation.{Covered, Simulates, covered, simulates, uncovered, relation-bytes, related}
 use Rattle.judging.specs.Simulation.Laws.{verdict, largest, covered-e, covered-i, uncovered-is, uncovered-lowest, simulates-covers, related-simulation, relation-bit}
 use Rattle.files.specs.Outcome.{published}

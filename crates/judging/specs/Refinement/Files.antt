@@ -7,6 +7,7 @@ use lib.ListN.{length}
 use Rattle.files.specs.Basics.Lists.{index-e}
 use Rattle.files.specs.Decode.{decode-graph}
 use Rattle.files.specs.Graph.{Graph, size, no-edge, Flow}
+use Rattle.files.specs.Places.{max-edges}
 use Rattle.files.specs.View.{view-size, view-edges, view-flow, view-filed}
 use Rattle.judging.specs.declared.sizes.Sizes.{Sizes}
 use Rattle.judging.specs.Refinement.{Both, edge}
@@ -42,7 +43,7 @@ module _ (s : Sizes) (f g : List ℕ) (x : Both s f g) where
   pub second-fits : size H ≤ 256
   second-fits = omega (arith, second-size, x .second-held .few-nodes)
 
-  pub first-edges-fit : length (G .edges) ≤ 4096
+  pub first-edges-fit : length (G .edges) ≤ max-edges
   first-edges-fit = omega (arith, first-edges, x .first-held .few-edges)
 
   -- an edge of the first graph leads from node to node, and its label has a row of bits

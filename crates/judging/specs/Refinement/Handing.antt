@@ -13,8 +13,10 @@ use Rattle.files.specs.Basics.Tests.{and-i, and-l, and-r, eq-eqb}
 use Rattle.files.specs.Cells.{has-bit}
 use Rattle.files.specs.Cells.Laws.{bit-byte, cell-agree}
 use Rattle.files.specs.Graph.{Graph, Edge, size, no-edge, Flow}
+use Rattle.files.specs.Places.{max-edges}
 use Rattle.judging.specs.Chains.{Outside}
 use Rattle.judging.specs.Chains.Laws.{chained-same}
+use Rattle.judging.specs.Places.{cursors-base, heads-base, held-base, neighbours-base, nexts-base}
 use Rattle.judging.specs.Refinement.{rel, held, edge, neighbour, follows, comes, labelled-into, Reaches, Neighbours, In, Within, Preceded, Preceding, LostMet, Meets, Sifted, Refining, Shrank, Contained, LabelMatched, NodeMatched, Leading, Candidates}
 use Rattle.judging.specs.Refinement.Preparing.{leads-into-i, leads-into-e, leads-to-i}
 use Rattle.files.specs.Graph.Ends.{from-in, to-in}
@@ -92,13 +94,13 @@ module _ (G H : Graph) where
   pub shrank-on : (u v w : List ℕ) → Shrank G H u v → Shrank G H v w → Shrank G H u w
   shrank-on u v w x y = record { refining = y .refining; rel-less = λ g h a b t. x .rel-less g h a b (y .rel-less g h a b t); held-kept = λ g h a b. y .held-kept g h a b ∙ x .held-kept g h a b }
 
-module _ (G H : Graph) (fl : Flow G) (fk : Flow H) (fg : size G ≤ 256) (fh : size H ≤ 256) (eg : length (G .edges) ≤ 4096) where
+module _ (G H : Graph) (fl : Flow G) (fk : Flow H) (fg : size G ≤ 256) (fh : size H ≤ 256) (eg : length (G .edges) ≤ max-edges) where
   -- what is looked up stands past the rows of the relation and of what is held, and on both sides of the order
-  pub looked-up-kept : (w w′ : List ℕ) → ((q : ℕ) → 16960 ≤ q → (q < 29760) ⊎ (30816 ≤ q) → getD w′ q 0 ≡ getD w q 0) → length w′ ≡ length w → Refining G H w → ((g h : ℕ) → g < size G → h < 256 → T (rel w′ g h) → T (rel w g h))
+  pub looked-up-kept : (w w′ : List ℕ) → ((q : ℕ) → heads-base ≤ q → (q < cursors-base) ⊎ (neighbours-base ≤ q) → getD w′ q 0 ≡ getD w q 0) → length w′ ≡ length w → Refining G H w → ((g h : ℕ) → g < size G → h < 256 → T (rel w′ g h) → T (rel w g h))
       → ((g h : ℕ) → T (related G H g h) → T (rel w′ g h)) → Refining G H w′
   looked-up-kept w w′ past long x less all = record {
     room = omega (arith, long, x .room);
-    by-slot = chained-same w w′ 16960 21568 (labelled-into G) (9 * size G) (length (G .edges)) (λ k h. cell-agree w′ w 16960 2 k (λ q a b. past q (omega arith) (inl (omega arith)))) (λ j h. cell-agree w′ w 21568 2 j (λ q a b. past q (omega arith) (inl (omega arith)))) (x .by-slot);
+    by-slot = chained-same w w′ heads-base nexts-base (labelled-into G) (9 * size G) (length (G .edges)) (λ k h. cell-agree w′ w heads-base 2 k (λ q a b. past q (omega arith) (inl (omega arith)))) (λ j h. cell-agree w′ w nexts-base 2 j (λ q a b. past q (omega arith) (inl (omega arith)))) (x .by-slot);
     neighbours = record {
       successors = λ k l y a b c. row-same (10 * k + l) y ∙ x .neighbours .successors k l y a b c;
       predecessors = λ k y a c. row-same (10 * k + 9) y ∙ x .neighbours .predecessors k y a c;
@@ -108,10 +110,10 @@ module _ (G H : Graph) (fl : Flow G) (fk : Flow H) (fg : size G ≤ 256) (fh : s
   }
     where
       row-same : (m y : ℕ) → neighbour w′ m y ≡ neighbour w m y
-      row-same m y = bit-byte w′ w (30816 + 32 * m) (30816 + 32 * m) y (past (30816 + 32 * m + y / 8) (omega arith) (inr (omega arith)))
+      row-same m y = bit-byte w′ w (neighbours-base + 32 * m) (neighbours-base + 32 * m) y (past (neighbours-base + 32 * m + y / 8) (omega arith) (inr (omega arith)))
 
   -- and so does putting the nodes in order
-  pub order-beside : (w w′ : List ℕ) → Outside 29760 30816 w w′ → length w′ ≡ length w → Refining G H w → Refining G H w′
+  pub order-beside : (w w′ : List ℕ) → Outside cursors-base neighbours-base w w′ → length w′ ≡ length w → Refining G H w → Refining G H w′
   order-beside w w′ o long x = looked-up-kept w w′ (λ q l d. o q d) long x (λ g h a b t. subst T (same g h a b) t) (λ g h t. let z = related-e G H fl fk g h t in subst T (sym (same g h (z .0) (omega (arith, z .1)))) (x .contains g h t))
     where
       same : (g h : ℕ) → g < size G → h < 256 → rel w′ g h ≡ rel w g h
@@ -155,7 +157,7 @@ module _ (G H : Graph) (fl : Flow G) (fk : Flow H) (fg : size G ≤ 256) (fh : s
       record {
         refining = looked-up-kept w w′ (λ q l d. o q (inr (omega arith))) long x (λ g h a b t. less g h b t) all;
         rel-less = λ g h a b t. less g h b t;
-        held-kept = λ g h a b. bit-byte w′ w (8192 + 32 * g) (8192 + 32 * g) h (o (8192 + 32 * g + h / 8) (inr (omega arith)));
+        held-kept = λ g h a b. bit-byte w′ w (held-base + 32 * g) (held-base + 32 * g) h (o (held-base + 32 * g + h / 8) (inr (omega arith)));
       },
       λ h b t i. T-not (has-bit c 0 h) (and-r (rel w u h) (not (has-bit c 0 h)) (subst T (bits h b) t)) i,
     )

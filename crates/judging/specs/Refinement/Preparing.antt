@@ -15,6 +15,7 @@ use Rattle.files.specs.Cells.{has-bit, put-bit}
 use Rattle.files.specs.Cells.Laws.{bit-byte, bit-same, bit-other, bit-outside, length-put-bit}
 use Rattle.files.specs.Graph.{Graph, Node, Edge, node, no-edge}
 use Rattle.judging.specs.Chains.{Outside}
+use Rattle.judging.specs.Places.{heads-base, kinds-base, neighbours-base, neighbours-end}
 use Rattle.judging.specs.Refinement.{kind, of-kind, edge, neighbour, follows, comes, leads-into, leads-to, Reaches, Leads, KindRows, Neighbours}
 use Rattle.judging.specs.Simulation.{alike}
 use Rattle.judging.specs.Simulation.Laws.{alike-e, alike-i}
@@ -43,24 +44,24 @@ one-more n m f = go (decLt n m)
 pub kinds-none : (H : Graph) (w : List ℕ) → ((k h : ℕ) → k < 18 → h < 256 → of-kind w k h ≡ false) → KindRows H 0 w
 kinds-none H w z k h a b = z k h a b ∙ sym (ap (λ (t : Bool). t && eqb (kind (node H h)) k) (le-ltb h 0 (omega arith)))
 
-pub kinds-more : (H : Graph) (n : ℕ) (w w′ : List ℕ) (k : ℕ) → n < 256 → k ≡ kind (node H n) → k < 18 → 16960 ≤ length w → w′ ≡ put-bit w (16384 + 32 * k) n → KindRows H n w → KindRows H (n + 1) w′
+pub kinds-more : (H : Graph) (n : ℕ) (w w′ : List ℕ) (k : ℕ) → n < 256 → k ≡ kind (node H n) → k < 18 → heads-base ≤ length w → w′ ≡ put-bit w (kinds-base + 32 * k) n → KindRows H n w → KindRows H (n + 1) w′
 kinds-more H n w w′ k few is low room put x j h a b = ap (λ (v : List ℕ). of-kind v j h) put ∙ go (ℕ-discrete k j) (ℕ-discrete n h)
   where
-    go : Dec (k ≡ j) → Dec (n ≡ h) → of-kind (put-bit w (16384 + 32 * k) n) j h ≡ (ltb h (n + 1) && eqb (kind (node H h)) j)
+    go : Dec (k ≡ j) → Dec (n ≡ h) → of-kind (put-bit w (kinds-base + 32 * k) n) j h ≡ (ltb h (n + 1) && eqb (kind (node H h)) j)
     go (yes e) (yes d) =
-        subst (λ (y : ℕ). of-kind (put-bit w (16384 + 32 * k) n) y h ≡ (ltb h (n + 1) && eqb (kind (node H h)) y)) e
-        (subst (λ (y : ℕ). of-kind (put-bit w (16384 + 32 * k) n) k y ≡ (ltb y (n + 1) && eqb (kind (node H y)) k)) d
-        (bit-same w (16384 + 32 * k) n (omega arith) ∙ sym (ap₂ _&&_ (lt-ltb n (n + 1) (omega arith)) (eq-eqb (kind (node H n)) k (sym is)))))
+        subst (λ (y : ℕ). of-kind (put-bit w (kinds-base + 32 * k) n) y h ≡ (ltb h (n + 1) && eqb (kind (node H h)) y)) e
+        (subst (λ (y : ℕ). of-kind (put-bit w (kinds-base + 32 * k) n) k y ≡ (ltb y (n + 1) && eqb (kind (node H y)) k)) d
+        (bit-same w (kinds-base + 32 * k) n (omega arith) ∙ sym (ap₂ _&&_ (lt-ltb n (n + 1) (omega arith)) (eq-eqb (kind (node H n)) k (sym is)))))
     go (yes e) (no f) =
-        subst (λ (y : ℕ). of-kind (put-bit w (16384 + 32 * k) n) y h ≡ of-kind w y h) e (bit-other w (16384 + 32 * k) n h f) ∙ x j h a b ∙ ap (λ (t : Bool). t && eqb (kind (node H h)) j) (sym (one-more h n (λ d. f (sym d))))
-    go (no f) (no g) = put-apart w (16384 + 32 * k) n (16384 + 32 * j) h few b (side (decLt k j)) ∙ x j h a b ∙ ap (λ (t : Bool). t && eqb (kind (node H h)) j) (sym (one-more h n (λ d. g (sym d))))
+        subst (λ (y : ℕ). of-kind (put-bit w (kinds-base + 32 * k) n) y h ≡ of-kind w y h) e (bit-other w (kinds-base + 32 * k) n h f) ∙ x j h a b ∙ ap (λ (t : Bool). t && eqb (kind (node H h)) j) (sym (one-more h n (λ d. f (sym d))))
+    go (no f) (no g) = put-apart w (kinds-base + 32 * k) n (kinds-base + 32 * j) h few b (side (decLt k j)) ∙ x j h a b ∙ ap (λ (t : Bool). t && eqb (kind (node H h)) j) (sym (one-more h n (λ d. g (sym d))))
       where
-        side : Dec (k < j) → (16384 + 32 * k + 32 ≤ 16384 + 32 * j) ⊎ (16384 + 32 * j + 32 ≤ 16384 + 32 * k)
+        side : Dec (k < j) → (kinds-base + 32 * k + 32 ≤ kinds-base + 32 * j) ⊎ (kinds-base + 32 * j + 32 ≤ kinds-base + 32 * k)
         side (yes l) = inl (omega arith)
         side (no l) = inr (omega arith)
-    go (no f) (yes d) = put-apart w (16384 + 32 * k) n (16384 + 32 * j) h few b (side (decLt k j)) ∙ x j h a b ∙ both-none (ltb h n) (ltb h (n + 1)) (eqb (kind (node H h)) j) (ne-eqb (kind (node H h)) j (λ e. f (is ∙ ap (λ (y : ℕ). kind (node H y)) d ∙ e)))
+    go (no f) (yes d) = put-apart w (kinds-base + 32 * k) n (kinds-base + 32 * j) h few b (side (decLt k j)) ∙ x j h a b ∙ both-none (ltb h n) (ltb h (n + 1)) (eqb (kind (node H h)) j) (ne-eqb (kind (node H h)) j (λ e. f (is ∙ ap (λ (y : ℕ). kind (node H y)) d ∙ e)))
       where
-        side : Dec (k < j) → (16384 + 32 * k + 32 ≤ 16384 + 32 * j) ⊎ (16384 + 32 * j + 32 ≤ 16384 + 32 * k)
+        side : Dec (k < j) → (kinds-base + 32 * k + 32 ≤ kinds-base + 32 * j) ⊎ (kinds-base + 32 * j + 32 ≤ kinds-base + 32 * k)
         side (yes l) = inl (omega arith)
         side (no l) = inr (omega arith)
 
@@ -152,14 +153,14 @@ putting-none H n w f = record {
 }
 
 -- a bit of row m, put or there before
-module _ (w : List ℕ) (m h : ℕ) (fits : 30816 + 32 * m + h / 8 < length w) (small : h < 256) where
+module _ (w : List ℕ) (m h : ℕ) (fits : neighbours-base + 32 * m + h / 8 < length w) (small : h < 256) where
   abbrev more : List ℕ
-  more = put-bit w (30816 + 32 * m) h
+  more = put-bit w (neighbours-base + 32 * m) h
 
-  side : (k : ℕ) → (m ≡ k → ⊥) → (30816 + 32 * m + 32 ≤ 30816 + 32 * k) ⊎ (30816 + 32 * k + 32 ≤ 30816 + 32 * m)
+  side : (k : ℕ) → (m ≡ k → ⊥) → (neighbours-base + 32 * m + 32 ≤ neighbours-base + 32 * k) ⊎ (neighbours-base + 32 * k + 32 ≤ neighbours-base + 32 * m)
   side k f = go (decLt m k)
     where
-      go : Dec (m < k) → (30816 + 32 * m + 32 ≤ 30816 + 32 * k) ⊎ (30816 + 32 * k + 32 ≤ 30816 + 32 * m)
+      go : Dec (m < k) → (neighbours-base + 32 * m + 32 ≤ neighbours-base + 32 * k) ⊎ (neighbours-base + 32 * k + 32 ≤ neighbours-base + 32 * m)
       go (yes l) = inl (omega arith)
       go (no l) = inr (omega arith)
 
@@ -168,22 +169,22 @@ module _ (w : List ℕ) (m h : ℕ) (fits : 30816 + 32 * m + h / 8 < length w) (
     where
       go : Dec (m ≡ k) → Dec (h ≡ g) → ((m ≡ k) × (h ≡ g)) ⊎ T (neighbour w k g)
       go (yes e) (yes d) = inl (e, d)
-      go (yes e) (no f) = inr (subst (λ (n : ℕ). T (neighbour w n g)) e (subst T (bit-other w (30816 + 32 * m) h g f) (subst (λ (n : ℕ). T (neighbour more n g)) (sym e) t)))
-      go (no f) d = inr (subst T (put-apart w (30816 + 32 * m) h (30816 + 32 * k) g small b (side k f)) t)
+      go (yes e) (no f) = inr (subst (λ (n : ℕ). T (neighbour w n g)) e (subst T (bit-other w (neighbours-base + 32 * m) h g f) (subst (λ (n : ℕ). T (neighbour more n g)) (sym e) t)))
+      go (no f) d = inr (subst T (put-apart w (neighbours-base + 32 * m) h (neighbours-base + 32 * k) g small b (side k f)) t)
 
   put-here : T (neighbour more m h)
-  put-here = subst T (sym (bit-same w (30816 + 32 * m) h fits)) tt
+  put-here = subst T (sym (bit-same w (neighbours-base + 32 * m) h fits)) tt
 
   put-i : (k g : ℕ) → g < 256 → T (neighbour w k g) → T (neighbour more k g)
   put-i k g b t = go (ℕ-discrete m k) (ℕ-discrete h g)
     where
       go : Dec (m ≡ k) → Dec (h ≡ g) → T (neighbour more k g)
       go (yes e) (yes d) = subst (λ (n : ℕ). T (neighbour more n g)) e (subst (λ (n : ℕ). T (neighbour more m n)) d put-here)
-      go (yes e) (no f) = subst (λ (n : ℕ). T (neighbour more n g)) e (subst T (sym (bit-other w (30816 + 32 * m) h g f)) (subst (λ (n : ℕ). T (neighbour w n g)) (sym e) t))
-      go (no f) d = subst T (sym (put-apart w (30816 + 32 * m) h (30816 + 32 * k) g small b (side k f))) t
+      go (yes e) (no f) = subst (λ (n : ℕ). T (neighbour more n g)) e (subst T (sym (bit-other w (neighbours-base + 32 * m) h g f)) (subst (λ (n : ℕ). T (neighbour w n g)) (sym e) t))
+      go (no f) d = subst T (sym (put-apart w (neighbours-base + 32 * m) h (neighbours-base + 32 * k) g small b (side k f))) t
 
 -- edge j more
-module _ (H : Graph) (n j : ℕ) (w : List ℕ) (hj : j < length (H .edges)) (room : 112736 ≤ length w)
+module _ (H : Graph) (n j : ℕ) (w : List ℕ) (hj : j < length (H .edges)) (room : neighbours-end ≤ length w)
     (inside : (d : ℕ) → d < length (H .edges) → ((edge H d) .from < 256) × ((edge H d) .to < 256) × ((edge H d) .label < 9)) (p : Putting H n j w) where
   abbrev fr : ℕ
   fr = (edge H j) .from
@@ -195,19 +196,19 @@ module _ (H : Graph) (n j : ℕ) (w : List ℕ) (hj : j < length (H .edges)) (ro
   to = (edge H j) .to
 
   abbrev once : List ℕ
-  once = put-bit w (30816 + 32 * (10 * fr + lab)) to
+  once = put-bit w (neighbours-base + 32 * (10 * fr + lab)) to
 
   abbrev twice : List ℕ
-  twice = put-bit once (30816 + 32 * (10 * to + 9)) fr
+  twice = put-bit once (neighbours-base + 32 * (10 * to + 9)) fr
 
   abbrev bounds : (fr < 256) × (to < 256) × (lab < 9)
   bounds = inside j hj
 
-  first-fits : 30816 + 32 * (10 * fr + lab) + to / 8 < length w
+  first-fits : neighbours-base + 32 * (10 * fr + lab) + to / 8 < length w
   first-fits = omega (arith, bounds .0, bounds .1, bounds .2)
 
-  second-fits : 30816 + 32 * (10 * to + 9) + fr / 8 < length once
-  second-fits = omega (arith, bounds .0, bounds .1, length-put-bit w (30816 + 32 * (10 * fr + lab)) to)
+  second-fits : neighbours-base + 32 * (10 * to + 9) + fr / 8 < length once
+  second-fits = omega (arith, bounds .0, bounds .1, length-put-bit w (neighbours-base + 32 * (10 * fr + lab)) to)
 
   -- what stands in a row of neighbours after both, and what was there
   both-i : (m y : ℕ) → y < 256 → T (neighbour w m y) → T (neighbour twice m y)

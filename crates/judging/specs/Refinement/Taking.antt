@@ -15,26 +15,28 @@ use Rattle.files.specs.Basics.Tests.{decide, T-eq}
 use Rattle.files.specs.Cells.{has-bit}
 use Rattle.files.specs.Cells.Laws.{bit-byte}
 use Rattle.files.specs.Graph.{Graph, Edge, size, node, no-edge, Flow}
+use Rattle.files.specs.Places.{max-edges}
 use Rattle.judging.specs.Chains.{Outside}
+use Rattle.judging.specs.Places.{held-base}
 use Rattle.judging.specs.Refinement.{rel, held, load, edge, Refining, Shrank, LabelMatched, NodeMatched, Leading, Took, MatchedAt, Matching, Settled}
 use Rattle.judging.specs.Refinement.Handing.{looked-up-kept}
 use Rattle.files.specs.Graph.Ends.{from-in, to-in}
 use Rattle.judging.specs.Simulation.{Simulation, related}
 use Rattle.judging.specs.Simulation.Laws.{alike-e, related-e, largest}
 
-module _ (G H : Graph) (fl : Flow G) (fk : Flow H) (fg : size G ≤ 256) (fh : size H ≤ 256) (eg : length (G .edges) ≤ 4096) where
+module _ (G H : Graph) (fl : Flow G) (fk : Flow H) (fg : size G ≤ 256) (fh : size H ≤ 256) (eg : length (G .edges) ≤ max-edges) where
   -- ---- one row
 
   -- the row of v was r; it is handed on, then held
   module _ (v : ℕ) (hv : v < size G) (w w₁ w₂ r : List ℕ) (was : (h : ℕ) → h < 256 → has-bit r 0 h ≡ rel w v h) (x : Shrank G H w w₁) (all : (l : ℕ) → l < 9 → LabelMatched G H w₁ v l r)
-      (labels : (e : ℕ) → e < length (G .edges) → (edge G e) .label < 9) (now : (h : ℕ) → h < 256 → held w₂ v h ≡ has-bit r 0 h) (o : Outside (8192 + 32 * v) (8192 + 32 * v + 32) w₁ w₂) (long : length w₂ ≡ length w₁) where
+      (labels : (e : ℕ) → e < length (G .edges) → (edge G e) .label < 9) (now : (h : ℕ) → h < 256 → held w₂ v h ≡ has-bit r 0 h) (o : Outside (held-base + 32 * v) (held-base + 32 * v + 32) w₁ w₂) (long : length w₂ ≡ length w₁) where
     rel-same : (g h : ℕ) → g < size G → h < 256 → rel w₂ g h ≡ rel w₁ g h
     rel-same g h a b = bit-byte w₂ w₁ (32 * g) (32 * g) h (o (32 * g + h / 8) (inl (omega arith)))
 
     other : (g h : ℕ) → g < size G → h < 256 → (g ≡ v → ⊥) → held w₂ g h ≡ held w₁ g h
-    other g h a b n = bit-byte w₂ w₁ (8192 + 32 * g) (8192 + 32 * g) h (o (8192 + 32 * g + h / 8) (side (decLt g v)))
+    other g h a b n = bit-byte w₂ w₁ (held-base + 32 * g) (held-base + 32 * g) h (o (held-base + 32 * g + h / 8) (side (decLt g v)))
       where
-        side : Dec (g < v) → (8192 + 32 * g + h / 8 < 8192 + 32 * v) ⊎ (8192 + 32 * v + 32 ≤ 8192 + 32 * g + h / 8)
+        side : Dec (g < v) → (held-base + 32 * g + h / 8 < held-base + 32 * v) ⊎ (held-base + 32 * v + 32 ≤ held-base + 32 * g + h / 8)
         side (yes l) = inl (omega arith)
         side (no l) = inr (omega arith)
 
