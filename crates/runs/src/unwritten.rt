@@ -24,6 +24,7 @@ use crate::joint::Joint;
 use crate::joint::bars;
 use crate::joint::join_into;
 use crate::joint::watch_joint;
+use crate::regions::Regions;
 use files::cells::clear;
 use files::offence::FileKind;
 use files::record::Limits;
@@ -40,9 +41,6 @@ use judging::sizes::Sizes;
 use maximal::answers::Modelled;
 use maximal::build::model_within;
 use maximal::places::Places;
-
-// The published length of `store`: two graph files of 256 nodes and 4,096 edges.
-pub const STORE: usize = 52224;
 
 // The model of a side, behind the first `at` bytes of the buffer, which stay.
 fn model_behind(
@@ -182,7 +180,7 @@ fn check_both(
 ) -> Settled
     ensures { λ r. ⌜ Settles (both-first limits (now (interface1 .entry)) (now (property1 .entry)) (now (interface2 .entry)) (now (property2 .entry)) (now (rules .entry)) start store work) r ⌝ }
 {
-    let room = whole_settled(13, (store < STORE) | (work < Places::ROOM));
+    let room = whole_settled(13, (store < Regions::TWO_GRAPHS) | (work < Places::ROOM));
     let sided1 = then_file(room, FileKind::Interface, interface1, 1, limits);
     let bound1 = then_file(sided1, FileKind::Property, property1, 2, limits);
     let sided2 = then_file(bound1, FileKind::Interface, interface2, 3, limits);
