@@ -11,7 +11,7 @@ ghost use Rattle.files.specs.Decode.{graph-bytes};
 ghost use Rattle.files.specs.Deliveries.{decode-deliveries};
 ghost use Rattle.files.specs.Deliveries.Layout.{nodes-among};
 ghost use Rattle.files.specs.Graph.{size};
-ghost use Rattle.files.specs.Places.{record-len};
+ghost use Rattle.files.specs.Places.{record-len, max-nodes};
 ghost use Rattle.files.specs.Record.{write};
 use crate::cells::copy_at;
 use crate::moved::write_all_moved;
@@ -92,7 +92,7 @@ fn write_all_edges(file: &[u8], kept: &[usize; METHODS], out: &mut [u8], first: 
 
 // Writes the file of the standing graph, which has so many nodes and edges.
 pub fn write_standing(file: &[u8], kept: &[usize; METHODS], view: GraphView, out: &mut [u8])
-    requires { ⌜ (StandsBy (now file) (now kept)) × ((Counts (now file) view) × ((view .nodes ≤ 256) × (record-len * (view .nodes + view .edges) ≤ length (now out)))) ⌝ }
+    requires { ⌜ (StandsBy (now file) (now kept)) × ((Counts (now file) view) × ((view .nodes ≤ max-nodes) × (record-len * (view .nodes + view .edges) ≤ length (now out)))) ⌝ }
     ensures { λ _. ⌜ now (out .exit) ≡ put-at (now (out .entry)) 0 (graph-bytes (standing-graph (now (file .entry)))) ⌝ }
 {
     write_all_nodes(file, kept, out);

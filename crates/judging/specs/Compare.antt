@@ -5,6 +5,7 @@ use mathlib.Core.Bool.{cond}
 use mathlib.Core.List.{List, [], _∷_}
 use Prim.Native.Nat.{ℕ, _<_, _+_, _*_, _/_, _%_}
 use lib.Dec.{T}
+use Rattle.files.specs.Places.{max-nodes}
 use Rattle.files.specs.declared.record.Limits.{Limits}
 use Rattle.files.specs.Graph.{Graph, Flow, node, size}
 use Rattle.files.specs.Refusal.{graph}
@@ -71,4 +72,4 @@ pub record Compares (G H : Graph) (s : Said) : Type 1 where
   pub is-simulation : Simulation G H (λ g h. T (related G H g h))
   pub is-largest : (R : ℕ → ℕ → Type 0) → Simulation G H R → (g h : ℕ) → R g h → T (related G H g h)
   pub writes : s .written ≡ relation-bytes G H
-  pub writes-relation : (g h : ℕ) → g < size G → h < 256 → bit (getD (s .written) (32 * g + h / 8) 0) (h % 8) ≡ one (related G H g h)
+  pub writes-relation : (g h : ℕ) → g < size G → h < max-nodes → bit (getD (s .written) (32 * g + h / 8) 0) (h % 8) ≡ one (related G H g h)

@@ -6,6 +6,7 @@ ghost use Prim.Native.Nat.{_*_, _≤_, _<_};
 ghost use lib.ListN.{length, drop};
 ghost use Rattle.files.specs.Graph.{node};
 ghost use Rattle.files.specs.Decode.{decode-graph};
+ghost use Rattle.files.specs.Places.{line-bytes};
 ghost use Rattle.judging.specs.Places.{compare-room};
 ghost use Rattle.judging.specs.Refinement.{Both, Chosen, Settled};
 ghost use Rattle.judging.specs.Simulation.{covered, uncovered, relation-bytes};
@@ -28,7 +29,7 @@ fn is_entry(first: &[u8], second: &[u8], s: Sizes, h: usize) -> bool
 // The entries of the second graph.
 fn entries(first: &[u8], second: &[u8], s: Sizes) -> [u8; LINE]
     requires { ⌜ Both s (now first) (now second) ⌝ }
-    ensures { λ r. ⌜ (length r ≡ 32) × (Chosen (λ h. (node (decode-graph (now (second .entry))) h) .entry) (s .second .nodes) r) ⌝ }
+    ensures { λ r. ⌜ (length r ≡ line-bytes) × (Chosen (λ h. (node (decode-graph (now (second .entry))) h) .entry) (s .second .nodes) r) ⌝ }
 {
     let mut row = [0u8; LINE];
     let mut h = 0;

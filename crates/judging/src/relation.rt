@@ -9,6 +9,7 @@ ghost use Rattle.files.specs.Access.{GraphFile};
 ghost use Rattle.files.specs.Cells.{put-bit};
 ghost use Rattle.files.specs.Decode.{decode-graph};
 ghost use Rattle.files.specs.Graph.{node};
+ghost use Rattle.files.specs.Places.{line-bytes, max-nodes};
 ghost use Rattle.files.specs.Refusal.{nodes-of};
 ghost use Rattle.judging.specs.Chains.{Chained, Outside};
 ghost use Rattle.judging.specs.Places.{compare-room, cursors-base, heads-base, held-base, kinds-base, neighbours-base, neighbours-end, nexts-base};
@@ -52,7 +53,7 @@ fn put_kinds(first: &[u8], second: &[u8], s: Sizes, work: &mut [u8])
 // Relates every node of the first graph to all of its kind.
 fn relate(first: &[u8], second: &[u8], s: Sizes, work: &mut [u8])
     requires { ⌜ (Both s (now first) (now second)) × ((compare-room ≤ length (now work)) × (KindRows (decode-graph (now second)) (s .second .nodes) (now work))) ⌝ }
-    ensures { λ _. ⌜ ((g h : ℕ) → g < s .first .nodes → h < 256 → rel (now (work .exit)) g h ≡ (ltb h (s .second .nodes) && alike (node (decode-graph (now (first .entry))) g) (node (decode-graph (now (second .entry))) h))) × (Outside 0 held-base (now (work .entry)) (now (work .exit))) ⌝ }
+    ensures { λ _. ⌜ ((g h : ℕ) → g < s .first .nodes → h < max-nodes → rel (now (work .exit)) g h ≡ (ltb h (s .second .nodes) && alike (node (decode-graph (now (first .entry))) g) (node (decode-graph (now (second .entry))) h))) × (Outside 0 held-base (now (work .entry)) (now (work .exit))) ⌝ }
 {
     let mut g = 0;
     while g < s.first.nodes {
@@ -88,7 +89,7 @@ fn link_slots(first: &[u8], second: &[u8], s: Sizes, work: &mut [u8])
 // Puts edge j of the second graph into the successors of where it comes from and the predecessors of where it leads to.
 fn put_edge(first: &[u8], second: &[u8], s: Sizes, work: &mut [u8], j: usize)
     requires { ⌜ (Both s (now first) (now second)) × ((j < s .second .edges) × (compare-room ≤ length (now work))) ⌝ }
-    ensures { λ _. ⌜ now (work .exit) ≡ put-bit (put-bit (now (work .entry)) (neighbours-base + 32 * (10 * (edge (decode-graph (now (second .entry))) j) .from + (edge (decode-graph (now (second .entry))) j) .label)) ((edge (decode-graph (now (second .entry))) j) .to)) (neighbours-base + 32 * (10 * (edge (decode-graph (now (second .entry))) j) .to + 9)) ((edge (decode-graph (now (second .entry))) j) .from) ⌝ }
+    ensures { λ _. ⌜ now (work .exit) ≡ put-bit (put-bit (now (work .entry)) (neighbours-base + line-bytes * (10 * (edge (decode-graph (now (second .entry))) j) .from + (edge (decode-graph (now (second .entry))) j) .label)) ((edge (decode-graph (now (second .entry))) j) .to)) (neighbours-base + line-bytes * (10 * (edge (decode-graph (now (second .entry))) j) .to + 9)) ((edge (decode-graph (now (second .entry))) j) .from) ⌝ }
 {
     let x = edge_at(second, s.second.nodes, j);
     let label = x.label as usize;

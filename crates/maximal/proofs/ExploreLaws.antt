@@ -14,6 +14,7 @@ use Rattle.files.specs.Cells.{put-cell}
 use Rattle.files.specs.Cells.Laws.{byte-outside, cell-agree, cell-same, cell-other, bit-byte}
 use Rattle.files.specs.Decode.{decode-property}
 use Rattle.files.specs.Interface.{Interface, requires-method}
+use Rattle.files.specs.Places.{line-bytes}
 use Rattle.files.specs.Property.{Row, Property}
 use Rattle.judging.specs.Chains.{Outside}
 use Rattle.maximal.specs.Places.{asked-base, entries-slot, methods-base, model-room, sets-end, slots, targets-base}
@@ -118,7 +119,7 @@ module _ (s : Scope) (I : Interface) (p : List ℕ) (scoped : Scoped s p) where
     pub tables₀ : Tables P w₀
     pub charting₀ : Charting I P c (9 * i + label) w₀
     pub blank : (t : ℕ) → t < 256 → target w (9 * i + label) t ≡ false
-    pub beside : Outside (targets-base + 32 * (9 * i + label)) (targets-base + 32 * (9 * i + label) + 32) w₀ w
+    pub beside : Outside (targets-base + line-bytes * (9 * i + label)) (targets-base + line-bytes * (9 * i + label) + 32) w₀ w
     pub told : b ≡ (eqb label 0 || requires-method I label)
 
   module _ {i label c : ℕ} {w₀ w : List ℕ} {b : Bool} (y : Cleared i label c w₀ w b) where
@@ -233,7 +234,7 @@ module _ (s : Scope) (I : Interface) (p : List ℕ) (scoped : Scoped s p) where
 
       -- an earlier slot asks the same
       pub worked-again : (j : ℕ) → j ≡ earlier w q (kind / 2) set → j < q → (w₃ : List ℕ) → ((t : ℕ) → t < 256 → target w₃ q t ≡ target w₂ j t)
-          → Outside (targets-base + 32 * q) (targets-base + 32 * q + 32) w₂ w₃ → Worked s I P c c (q + 1) w₃
+          → Outside (targets-base + line-bytes * q) (targets-base + line-bytes * q + line-bytes) w₂ w₃ → Worked s I P c c (q + 1) w₃
       worked-again j is-j l w₃ row rest =
           worked-all s I P c (q + 1) w₃ (y .in-scope)
           (followed-again I P wf (s .ors) (scoped .enough-ors) c q (kind / 2) set j w₂ w₃ (omega arith) l (omega (arith, z .is-kind, state-i .method-from))

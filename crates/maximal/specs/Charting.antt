@@ -13,6 +13,7 @@ use Rattle.files.specs.Basics.Tests.{any}
 use Rattle.files.specs.Cells.{cell, has-bit}
 use Rattle.files.specs.Decode.{decode-property}
 use Rattle.files.specs.Interface.{Interface}
+use Rattle.files.specs.Places.{max-rows}
 use Rattle.files.specs.Property.{Row}
 use Rattle.files.specs.Record.{count}
 use Rattle.maximal.specs.Places.{asked-base, candidates-base, entries-slot, methods-base, order-base, targets-base}
@@ -33,7 +34,7 @@ pub mod Entries
 pub record Scoped (s : Scope) (p : List ℕ) : Type 0 where
   pub file : PropertyFile p
   pub rows-are : s .rows ≡ count p
-  pub few-rows : s .rows ≤ 32
+  pub few-rows : s .rows ≤ max-rows
   pub enough-ors : or-count (decode-property p) ≤ s .ors
   pub few-ors : s .ors ≤ 12
   pub few-states : s .states ≤ 256

@@ -9,6 +9,7 @@ ghost use lib.ListN.{length};
 ghost use Rattle.files.specs.Interface.{requires-method};
 ghost use Rattle.files.specs.Access.{InterfaceFile};
 ghost use Rattle.files.specs.Decode.{decode-interface, decode-property};
+ghost use Rattle.files.specs.Places.{line-bytes};
 ghost use Rattle.judging.specs.Chains.{Outside};
 ghost use Rattle.maximal.specs.Charting.{Scoped, target, Crowded, Charting, Asking, Charted};
 ghost use Rattle.maximal.specs.Collected.{Tables};
@@ -42,7 +43,7 @@ fn is_label(interface: &[u8], label: u8) -> bool
 // Row q becomes blank.
 fn clear_row(work: &mut [u8], q: usize)
     requires { ⌜ (q ≤ entries-slot) × (model-room ≤ length (now work)) ⌝ }
-    ensures { λ _. ⌜ ((t : ℕ) → t < 256 → target (now (work .exit)) q t ≡ false) × (Outside (targets-base + 32 * q) (targets-base + 32 * q + 32) (now (work .entry)) (now (work .exit))) ⌝ }
+    ensures { λ _. ⌜ ((t : ℕ) → t < 256 → target (now (work .exit)) q t ≡ false) × (Outside (targets-base + line-bytes * q) (targets-base + line-bytes * q + line-bytes) (now (work .entry)) (now (work .exit))) ⌝ }
 {
     let mut k = 0;
     while k < LINE {
@@ -74,7 +75,7 @@ fn enter_entries(interface: &[u8], property: &[u8], s: Scope, work: &mut [u8]) -
 // Row q becomes as row p.
 fn copy_row(work: &mut [u8], p: usize, q: usize)
     requires { ⌜ (p < q) × ((q < slots) × (model-room ≤ length (now work))) ⌝ }
-    ensures { λ _. ⌜ ((t : ℕ) → t < 256 → target (now (work .exit)) q t ≡ target (now (work .entry)) p t) × (Outside (targets-base + 32 * q) (targets-base + 32 * q + 32) (now (work .entry)) (now (work .exit))) ⌝ }
+    ensures { λ _. ⌜ ((t : ℕ) → t < 256 → target (now (work .exit)) q t ≡ target (now (work .entry)) p t) × (Outside (targets-base + line-bytes * q) (targets-base + line-bytes * q + line-bytes) (now (work .entry)) (now (work .exit))) ⌝ }
 {
     let mut k = 0;
     while k < LINE {

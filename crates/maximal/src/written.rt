@@ -8,7 +8,7 @@ ghost use Rattle.files.specs.Access.{PropertyFile};
 ghost use Rattle.files.specs.Basics.Lists.{each, span};
 ghost use Rattle.files.specs.Cells.{has-bit, put-at};
 ghost use Rattle.files.specs.Decode.{decode-interface, decode-property, graph-bytes};
-ghost use Rattle.files.specs.Places.{record-len};
+ghost use Rattle.files.specs.Places.{record-len, line-bytes};
 ghost use Rattle.maximal.specs.Charting.{order-at, Ordered, Ranked, Arranged};
 ghost use Rattle.maximal.specs.Model.{model};
 ghost use Rattle.maximal.specs.Listing.{tally-under, tally-from, tally-upto, node-bytes, under-bytes, from-bytes};
@@ -25,7 +25,7 @@ use files::record::Record;
 // Where the row of the i-th state under this label begins.
 fn row_of(work: &[u8], i: usize, label: usize) -> usize
     requires { ⌜ (i < 256) × ((label < 9) × (model-room ≤ length (now work))) ⌝ }
-    ensures { λ r. ⌜ (r ≡ targets-base + 32 * (9 * order-at (now (work .entry)) i + label)) × (r + 32 ≤ model-room) ⌝ }
+    ensures { λ r. ⌜ (r ≡ targets-base + line-bytes * (9 * order-at (now (work .entry)) i + label)) × (r + 32 ≤ model-room) ⌝ }
 {
     let from = get8(work, Places::ORDER, i) as usize;
     Places::TARGETS + LINE * (9 * from + label)

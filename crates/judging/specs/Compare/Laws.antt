@@ -14,6 +14,7 @@ use Rattle.files.specs.Graph.{Graph, Flow, node, size}
 use Rattle.files.specs.Outcome.{Said, refuses, says, refusal-at, NoneOf, FirstOf, Matches, answer, answered, out-check}
 use Rattle.files.specs.Outcome.Calls as calls
 use Rattle.files.specs.Outcome.Laws.{refused-by, accepted-by}
+use Rattle.files.specs.Places.{max-nodes}
 use Rattle.files.specs.Refusal.{graph, refusal}
 use Rattle.files.specs.declared.record.Limits.{Limits}
 use Rattle.judging.specs.Places.{compare-room}
@@ -80,7 +81,7 @@ compare-cases G H s fg fh e = go (simulates G H) refl (verdict G H fg fh) e
       λ f. simulates-covers G H .1 (λ g h x. let c = f g h x in covered-i G H fg fh g (c .0) (c .1) (c .2)),
     )
 
-    bits : s .written ≡ relation-bytes G H → (g h : ℕ) → g < size G → h < 256 → bit (getD (s .written) (32 * g + h / 8) 0) (h % 8) ≡ one (related G H g h)
+    bits : s .written ≡ relation-bytes G H → (g h : ℕ) → g < size G → h < max-nodes → bit (getD (s .written) (32 * g + h / 8) 0) (h % 8) ≡ one (related G H g h)
     bits w g h hg hh = ap (λ (l : List ℕ). bit (getD l (32 * g + h / 8) 0) (h % 8)) w ∙ relation-bit G H g h hg hh
 
     go : (b : Bool) → simulates G H ≡ b → T b ↔ Simulates G H

@@ -14,6 +14,7 @@ use Rattle.files.specs.Basics.Tests.{one, one-le, one-true, one-false, decide, 
 use Rattle.files.specs.Cells.{cell, put-cell}
 use Rattle.files.specs.Cells.Laws.{length-put-cell, cell-same, cell-apart, cell-other}
 use Rattle.files.specs.Graph.{Graph, size, Flow}
+use Rattle.files.specs.Places.{max-nodes, max-rows}
 use Rattle.files.specs.Property.{Row, Property}
 use Rattle.judging.specs.Chains.Laws.{index-kept}
 use Rattle.judging.specs.Levels.{level}
@@ -123,7 +124,7 @@ module _ (G : Graph) (P : List Row) where
   pub queued-same : (k i : ℕ) (w w′ : List ℕ) → queue-at w′ i ≡ queue-at w i → Queued G P k w i → Queued G P k w′ i
   queued-same k i w w′ e x = record { its-node = x .its-node; its-row = x .its-row; is-node = x .is-node; is-row = x .is-row; is-there = e ∙ x .is-there; is-false = x .is-false }
 
-module _ (G : Graph) (P : List Row) (flow : Flow G) (wf : Property P) (few-nodes : size G ≤ 256) (few-rows : length P ≤ 32) where
+module _ (G : Graph) (P : List Row) (flow : Flow G) (wf : Property P) (few-nodes : size G ≤ max-nodes) (few-rows : length P ≤ max-rows) where
   -- a pair that turns false at level k + 1 and has no rank yet was true at level k
   was-true : (k tail : ℕ) (w : List ℕ) → Finding G P k tail w → (g r : ℕ) → g < size G → r < length P → rank-at w g r ≡ 0 → T (level G P k g r)
   was-true k tail w f g r hg hr e = go (decide (level G P k g r)) (f .ranks g r hg hr)

@@ -15,6 +15,7 @@ use Rattle.files.specs.Basics.Tests.{any, any-i, grid, grid-i, length-grid}
 use Rattle.files.specs.Cells.{cell, put-cell, has-bit, put-bit}
 use Rattle.files.specs.Cells.Laws.{length-put-cell, length-put-bit, byte-outside, bit-outside, cell-agree, cell-same, cell-other, bit-same, bit-other, has-bit-is}
 use Rattle.files.specs.Graph.{Graph, size}
+use Rattle.files.specs.Places.{max-nodes, max-rows}
 use Rattle.files.specs.Property.{Row}
 use Rattle.judging.specs.Levels.Sheet.{same-pair}
 use Rattle.judging.specs.Levels.Sheet.Laws.{same-pair-e, same-pair-refl}
@@ -113,7 +114,7 @@ module _ (w : List ℕ) (tail p : ℕ) (in-marks : p < max-pairs) (in-queue : ta
 
 module _ (G : Graph) (P : List Row) where
   -- what is settled stays so where ranks and first edges read the same
-  pub settled-kept : (w w′ : List ℕ) → judge-room ≤ length w′ → size G ≤ 256 → length P ≤ 32 → ((j : ℕ) → j < max-pairs → cell w′ 0 2 j ≡ cell w 0 2 j)
+  pub settled-kept : (w w′ : List ℕ) → judge-room ≤ length w′ → size G ≤ max-nodes → length P ≤ max-rows → ((j : ℕ) → j < max-pairs → cell w′ 0 2 j ≡ cell w 0 2 j)
       → ((j : ℕ) → j ≤ 256 → cell w′ firsts-base 2 j ≡ cell w firsts-base 2 j) → Settled G P w → Settled G P w′
   settled-kept w w′ long fn fr a b s = record {
     room = long;
@@ -121,7 +122,7 @@ module _ (G : Graph) (P : List Row) where
     firsts = λ g h. b g (omega arith) ∙ s .firsts g h;
   }
 
-  module _ (fn : size G ≤ 256) (fr : length P ≤ 32) (tail : ℕ) (w : List ℕ) (x : Listed G P tail w) (g r : ℕ) (hg : g < size G) (hr : r < length P)
+  module _ (fn : size G ≤ max-nodes) (fr : length P ≤ max-rows) (tail : ℕ) (w : List ℕ) (x : Listed G P tail w) (g r : ℕ) (hg : g < size G) (hr : r < length P)
       (new : has-bit w marks-base (pair g r) ≡ false) where
     unseen : any (same-pair (g, r)) (listed w tail) ≡ false
     unseen = sym (x .marks g r hg hr) ∙ new

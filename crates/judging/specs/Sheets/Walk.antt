@@ -14,7 +14,7 @@ use Rattle.files.specs.Basics.Tests.{any, grid, grid-i, length-grid}
 use Rattle.files.specs.Cells.{put-at, has-bit}
 use Rattle.files.specs.Cells.Laws.{put-at-is, put-front, put-after}
 use Rattle.files.specs.Graph.{Graph, size, Flow}
-use Rattle.files.specs.Places.{record-len}
+use Rattle.files.specs.Places.{record-len, max-nodes, max-rows}
 use Rattle.files.specs.Property.{Row, Property}
 use Rattle.judging.specs.Levels.{satisfies}
 use Rattle.judging.specs.Levels.Sheet.{same-pair, no-cause, causes, failing, pairs, fault, fault-bytes, sheet-bytes}
@@ -68,7 +68,7 @@ module _ (G : Graph) (P : List Row) where
       omega (arith, a, length-grid (size G) (length P), length-listed w n)
 
   -- before the walk nothing is listed
-  pub listed-start : (w : List ℕ) → Settled G P w → size G ≤ 256 → length P ≤ 32 → ((p : ℕ) → p < max-pairs → has-bit w marks-base p ≡ false) → Listed G P 0 w
+  pub listed-start : (w : List ℕ) → Settled G P w → size G ≤ max-nodes → length P ≤ max-rows → ((p : ℕ) → p < max-pairs → has-bit w marks-base p ≡ false) → Listed G P 0 w
   listed-start w s fn fr z = record {
     settled = s;
     marks = λ g r hg hr. z (pair g r) (omega arith) ∙ ap (any (same-pair (g, r))) (sym (listed-none w));

@@ -12,6 +12,7 @@ use lib.ListN.{length, getD}
 use Rattle.files.specs.Basics.Binary.{value}
 use Rattle.files.specs.Basics.Tests.{decide, T-eq, and-l, and-r, any}
 use Rattle.files.specs.Interface.{Interface, provides}
+use Rattle.files.specs.Places.{line-bytes}
 use Rattle.files.specs.Property.{Row, Property}
 use Rattle.maximal.specs.Collected.{or-count, supports-of}
 use Rattle.maximal.specs.Charting.{flag-of, kind-at, set-at, state-of, stored, method-at, asked-at, target, Followed, Charting, Asking, Charted}
@@ -71,7 +72,7 @@ module _ (I : Interface) (P : List Row) where
 
   -- row q made as that of an earlier slot p with the same method that asks for the same set
   pub followed-again : (wf : Property P) (k : ℕ) (enough : or-count P ≤ k) (c q method set p : ℕ) (w w′ : List ℕ) → q < 9 * c → p < q → 0 < method → method-at w p ≡ method → asked-at w p ≡ set
-      → Asking I P c q method set w → ((t : ℕ) → t < 256 → target w′ q t ≡ target w p t) → ((b : ℕ) → (b < targets-base + 32 * q) ⊎ (targets-base + 32 * q + 32 ≤ b) → getD w′ b 0 ≡ getD w b 0)
+      → Asking I P c q method set w → ((t : ℕ) → t < 256 → target w′ q t ≡ target w p t) → ((b : ℕ) → (b < targets-base + line-bytes * q) ⊎ (targets-base + line-bytes * q + line-bytes ≤ b) → getD w′ b 0 ≡ getD w b 0)
       → Charting I P c (q + 1) w′
   followed-again wf k enough c q method set p w w′ in-slots pq pos at-p asked-p asking row rest = record {
     holds = holds-same I P c w w′ kind-same set-same (x .holds);

@@ -15,7 +15,7 @@ use Rattle.files.specs.Basics.Tests.{any-i, any-e, same-test, eq-eqb}
 use Rattle.files.specs.Cells.{has-bit, put-bit}
 use Rattle.files.specs.Cells.Laws.{length-put-bit, bit-other, bit-outside, bit-byte, cell-agree}
 use Rattle.files.specs.Graph.{Graph, Edge, size, Flow, EntryOf}
-use Rattle.files.specs.Places.{max-edges}
+use Rattle.files.specs.Places.{max-edges, max-nodes}
 use Rattle.files.specs.Rules.{Monitor, Event, calls, returns-to}
 use Rattle.maximal.specs.Masks.{member}
 use Rattle.maximal.specs.Masks.Laws.{member-one}
@@ -43,7 +43,7 @@ sooner-in (x ∷ rs) more r t a k n = go (List·Memᴰ·cases-cons k) (λ j. soo
     go (inl e) f = subst (λ (u : Rec). Sooner u t) (sym e) (a .0 t (Memᴰ·append-right rs n))
     go (inr j) f = f j
 
-module _ (G : Graph) (mon : Monitor) (m : ℕ) (few-nodes : size G ≤ 256) (few-edges : length (G .edges) ≤ max-edges) where
+module _ (G : Graph) (mon : Monitor) (m : ℕ) (few-nodes : size G ≤ max-nodes) (few-edges : length (G .edges) ≤ max-edges) where
   -- records to places that are met
   pub looked-seen : (head tail : ℕ) (rs : List Rec) (w : List ℕ) → head < tail → ((r : Rec) → List·Memᴰ r rs → Leaving G mon m head w r × T (seen w (r .to) (r .now)))
       → Looked G mon m head rs tail tail w w

@@ -8,7 +8,7 @@ use lib.Dec.{T}
 use lib.ListN.{length}
 use Rattle.files.specs.Basics.Order.{Ascends}
 use Rattle.files.specs.Graph.{Graph, Edge, size, Flow}
-use Rattle.files.specs.Places.{max-edges}
+use Rattle.files.specs.Places.{max-edges, max-nodes}
 use Rattle.files.specs.Rules.{Monitor, Event}
 use Rattle.runs.specs.Regions.{points}
 use Rattle.runs.specs.Summary.{Place}
@@ -65,7 +65,7 @@ module _ (G : Graph) (mon : Monitor) (m : ℕ) where
   }
 
   -- one record
-  module _ (few-nodes : size G ≤ 256) (few-edges : length (G .edges) ≤ max-edges) (head tail : ℕ) (r : Rec) (w : List ℕ) (below : head < tail) (may : May G mon m head (r ∷ []) tail w)
+  module _ (few-nodes : size G ≤ max-nodes) (few-edges : length (G .edges) ≤ max-edges) (head tail : ℕ) (r : Rec) (w : List ℕ) (below : head < tail) (may : May G mon m head (r ∷ []) tail w)
       (lv : Leaving G mon m head w r) where
     -- there is room for an item
     pub room-for : T (not (seen w (r .to) (r .now))) → tail ≤ points

@@ -17,7 +17,7 @@ use Rattle.files.specs.Basics.Tests.{eq-eqb, T-eq}
 use Rattle.files.specs.Cells.{cell, put-cell, has-bit, put-bit, put-at}
 use Rattle.files.specs.Cells.Laws.{length-put-cell, byte-outside, cell-same, cell-other, cell-agree, length-put-bit, bit-same, bit-other, bit-outside, bit-byte, length-put-at, at-inside, at-outside}
 use Rattle.files.specs.Graph.{Graph, size}
-use Rattle.files.specs.Places.{max-edges, record-len}
+use Rattle.files.specs.Places.{max-edges, record-len, max-nodes}
 use Rattle.files.specs.Rules.{Monitor}
 use Rattle.judging.specs.Ranking.Stores.{tally-one, tally-room}
 use Rattle.runs.specs.Forward.{Searched, Met, fewer-due, found-more}
@@ -170,7 +170,7 @@ here-at x y e = (ap place-at e, ap place-now e)
     place-now before = 0
     place-now (here x) = x .now
 
-module _ (G : Graph) (mon : Monitor) (m : ℕ) (few-nodes : size G ≤ 256) (few-edges : length (G .edges) ≤ max-edges) (head tail : ℕ) (r : Rec) (rs : List Rec) (w : List ℕ)
+module _ (G : Graph) (mon : Monitor) (m : ℕ) (few-nodes : size G ≤ max-nodes) (few-edges : length (G .edges) ≤ max-edges) (head tail : ℕ) (r : Rec) (rs : List Rec) (w : List ℕ)
     (s : Searching G mon m head tail (r ∷ rs) w) (below : head < tail) (lv : Leaving G mon m head w r) (asc : (t : Rec) → List·Memᴰ t rs → Sooner r t) where
   low : (t : Rec) → List·Memᴰ t (r ∷ rs) → Before (trail-rec-bytes t) (trail-rec-bytes r) → ⊥
   low t k b = go (List·Memᴰ·cases-cons k)

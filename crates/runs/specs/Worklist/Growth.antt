@@ -17,7 +17,7 @@ use Rattle.files.specs.Basics.Tests.{any, any-i, any-e, and-i, and-e, or-l, or-
 use Rattle.files.specs.Cells.{cell, put-cell}
 use Rattle.files.specs.Cells.Laws.{length-put-cell, byte-outside, cell-same, cell-apart, cell-other}
 use Rattle.files.specs.Graph.{Graph, size}
-use Rattle.files.specs.Places.{max-edges}
+use Rattle.files.specs.Places.{max-edges, max-nodes}
 use Rattle.files.specs.Rules.{Monitor}
 use Rattle.judging.specs.Ranking.Stores.{tally-room}
 use Rattle.maximal.specs.Masks.{member}
@@ -221,7 +221,7 @@ module _ (G : Graph) (mon : Monitor) where
           on (inl z) = inl z
           on (inr k) = inr (k .0, k .1, omega (arith, k .2, y .longer), y .queue-kept (k .0) (k .2) ∙ k .3)
 
-  module _ (few-nodes : size G ≤ 256) (few-edges : length (G .edges) ≤ max-edges) (tail : ℕ) (w : List ℕ) (now : Holding G mon tail w) (g p y : ℕ) (hg : g < size G) (hp : p < 8) (small : y < 256) where
+  module _ (few-nodes : size G ≤ max-nodes) (few-edges : length (G .edges) ≤ max-edges) (tail : ℕ) (w : List ℕ) (now : Holding G mon tail w) (g p y : ℕ) (hg : g < size G) (hp : p < 8) (small : y < 256) where
     abbrev old : ℕ
     old = reach w g p
 

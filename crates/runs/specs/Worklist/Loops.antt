@@ -12,6 +12,7 @@ use Rattle.files.specs.Basics.Lists.{index-i}
 use Rattle.files.specs.Basics.Tests.{eq-eqb}
 use Rattle.files.specs.Cells.Laws.{cell-one}
 use Rattle.files.specs.Graph.{Graph, Edge, size, node, no-edge, Flow}
+use Rattle.files.specs.Places.{max-nodes}
 use Rattle.files.specs.Rules.{Monitor, Event}
 use Rattle.maximal.specs.Masks.{member}
 use Rattle.maximal.specs.Masks.Laws.{member-none}
@@ -59,7 +60,7 @@ module _ (G : Graph) (mon : Monitor) where
   -- ---- a buffer of zeros
 
   module _ (flow : Flow G) (labels-small : (e : Edge) → List·Memᴰ e (G .edges) → e .label < 9) (mon-small : (q : ℕ) (v : Event) → q < 8 → mon q v < 8)
-      (few-nodes : size G ≤ 256) (w : List ℕ) (zeros : (q : ℕ) → reached-base ≤ q → getD w q 0 ≡ 0) where
+      (few-nodes : size G ≤ max-nodes) (w : List ℕ) (zeros : (q : ℕ) → reached-base ≤ q → getD w q 0 ≡ 0) where
     reach-zero : (g p : ℕ) → reach w g p ≡ 0
     reach-zero g p = cell-one w reached-base (point g p) ∙ zeros (reached-base + point g p) (omega arith)
 

@@ -18,7 +18,7 @@ use Rattle.files.specs.Basics.Tables.{tally-le, tally-same}
 use Rattle.files.specs.Cells.{cell, put-cell}
 use Rattle.files.specs.Cells.Laws.{length-put-cell, byte-outside, cell-same, cell-apart, cell-other}
 use Rattle.files.specs.Graph.{Graph, Edge, size, node, Flow}
-use Rattle.files.specs.Places.{max-edges}
+use Rattle.files.specs.Places.{max-edges, max-nodes}
 use Rattle.files.specs.Rules.{Monitor, Event, calls, returns-to}
 use Rattle.maximal.specs.Masks.{member}
 use Rattle.maximal.specs.Masks.Laws.{member-or, member-one}
@@ -214,7 +214,7 @@ module _ (G : Graph) (mon : Monitor) (flow : Flow G) (labels-small : (e : Edge) 
 
   -- ---- a point is taken
 
-  module _ (few-nodes : size G ≤ 256) (few-edges : length (G .edges) ≤ max-edges) (t : List (List ℕ)) (head tail : ℕ) (w : List ℕ) (s : Spread G mon t head tail w) (some : head < tail)
+  module _ (few-nodes : size G ≤ max-nodes) (few-edges : length (G .edges) ≤ max-edges) (t : List (List ℕ)) (head tail : ℕ) (w : List ℕ) (s : Spread G mon t head tail w) (some : head < tail)
       (g p : ℕ) (hg : g < size G) (hp : p < 8) (there : queue w head ≡ point g p) where
     abbrev taken : List ℕ
     taken = put-cell w waiting-base 1 (point g p) 0
