@@ -22,7 +22,7 @@ use Rattle.files.specs.Decode.Graphs.{decoded-size, decoded-edges, decoded-flow
 use Rattle.files.specs.Record.{count}
 use Rattle.files.specs.Refusal.{nodes-of}
 use Rattle.files.specs.declared.property.PropertyRow.{PropertyRow}
-use Rattle.judging.specs.Places.{judge-room, node-heads-base, node-nexts-base, row-heads-base, row-nexts-base}
+use Rattle.judging.specs.Places.{judge-room, node-heads-base, node-nexts-base, row-heads-base, row-nexts-base, node-heads-bytes}
 use Rattle.judging.specs.declared.shape.Shape.{Shape}
 use Rattle.judging.specs.Chains.{Chained, Outside, linked, into, uses, named, named-or, is-row, operand-of, Index}
 use Rattle.judging.specs.Chains.Laws.{chained-none, chained-kept, linked-is, linked-outside, test-turned, chain-more, chain-on, chain-skip}
@@ -146,9 +146,9 @@ module _ (s : Shape) (g p : List ℕ) (ready : Ready s g p) where
 
   -- heads that were cleared
   module _ (w ys : List ℕ) (room : judge-room ≤ length w) where
-    pub edges-none : ys ≡ replicate (length (midOf node-heads-base 512 w)) 0 → Chained (putMid node-heads-base 512 w ys) node-heads-base node-nexts-base (into (decode-graph g)) (size (decode-graph g)) 0
-    edges-none z = chained-none (putMid node-heads-base 512 w ys) node-heads-base node-nexts-base (into (decode-graph g)) (size (decode-graph g))
-        (λ q a b. cleared-inside node-heads-base 512 w ys z (omega arith) q a (omega (arith, size-is s g p ready, ready .held .few-nodes)))
+    pub edges-none : ys ≡ replicate (length (midOf node-heads-base node-heads-bytes w)) 0 → Chained (putMid node-heads-base node-heads-bytes w ys) node-heads-base node-nexts-base (into (decode-graph g)) (size (decode-graph g)) 0
+    edges-none z = chained-none (putMid node-heads-base node-heads-bytes w ys) node-heads-base node-nexts-base (into (decode-graph g)) (size (decode-graph g))
+        (λ q a b. cleared-inside node-heads-base node-heads-bytes w ys z (omega arith) q a (omega (arith, size-is s g p ready, ready .held .few-nodes)))
 
     pub places-none : ys ≡ replicate (length (midOf row-heads-base 64 w)) 0 → Chained (putMid row-heads-base 64 w ys) row-heads-base row-nexts-base (uses (decode-property p)) (s .rows) 0
     places-none z = chained-none (putMid row-heads-base 64 w ys) row-heads-base row-nexts-base (uses (decode-property p)) (s .rows)

@@ -20,8 +20,11 @@ queue-base = ranks-base + 2 * max-pairs
 abbrev pub node-heads-base : ℕ
 node-heads-base = queue-base + 2 * max-pairs
 
+abbrev pub node-heads-bytes : ℕ
+node-heads-bytes = 2 * max-nodes
+
 abbrev pub node-nexts-base : ℕ
-node-nexts-base = node-heads-base + 2 * max-nodes
+node-nexts-base = node-heads-base + node-heads-bytes
 
 -- operands by the row they name
 abbrev pub row-heads-base : ℕ

@@ -14,7 +14,7 @@ use Rattle.files.specs.Interface.{Interface}
 use Rattle.files.specs.Property.{Row}
 use Rattle.judging.specs.Chains.{Outside}
 use Rattle.judging.specs.Sheets.Queue.{table-more}
-use Rattle.maximal.specs.Places.{candidates-base, entries-slot, model-room, order-base, targets-base}
+use Rattle.maximal.specs.Places.{candidates-base, entries-slot, model-room, order-base, targets-base, kinds-base, max-states, sets-base}
 use Rattle.maximal.specs.declared.places.Scope.{Scope}
 use Rattle.maximal.specs.Charting.{Scoped, kind-at, set-at, Known, Holds, Admitted}
 use Rattle.maximal.specs.Charting.Files.{rows-fit}
@@ -29,7 +29,7 @@ use Rattle.maximal.proofs.StateLaws.{Entered}
 pub record Entering (s : Scope) (I : Interface) (P : List Row) (c kind q : ℕ) (w₀ : List ℕ) (k total : ℕ) (w : List ℕ) : Type 0 where
   pub fits : total ≤ s .states
   pub admitted : Admitted I P c total kind (listed w₀ k) q w₀ w
-  pub outside : Outside 256 candidates-base w₀ w
+  pub outside : Outside kinds-base candidates-base w₀ w
 
 module _ (s : Scope) (I : Interface) (P : List Row) (c kind q : ℕ) (w₀ : List ℕ) where
   pub entering-none : c ≤ s .states → q ≤ entries-slot → Holds I P c w₀ → Entering s I P c kind q w₀ 0 c w₀
@@ -61,15 +61,15 @@ module _ (I : Interface) (P : List Row) (c kind q : ℕ) (hq : q ≤ entries-slo
   -- the candidates stand behind all else
   only-listed : Admitted I P c c kind [] q w w₁
   only-listed = admitted-unmarked I P c c kind q w w₁ (holds-same I P c w w₁ kinds sets h) (omega arith) kinds sets hq
-      (λ p t l m. bit-byte w₁ w targets-base targets-base (256 * p + t) (o (targets-base + (256 * p + t) / 8) (inl (omega arith)))) (λ b d. o b (inl (before b d)))
+      (λ p t l m. bit-byte w₁ w targets-base targets-base (max-states * p + t) (o (targets-base + (max-states * p + t) / 8) (inl (omega arith)))) (λ b d. o b (inl (before b d)))
     where
       kinds : (i : ℕ) → i < c → kind-at w₁ i ≡ kind-at w i
-      kinds i l = cell-agree w₁ w 256 1 i (λ b m n. o b (inl (omega (arith, h .few))))
+      kinds i l = cell-agree w₁ w kinds-base 1 i (λ b m n. o b (inl (omega (arith, h .few))))
 
       sets : (i : ℕ) → i < c → set-at w₁ i ≡ set-at w i
-      sets i l = cell-agree w₁ w 512 4 i (λ b m n. o b (inl (omega (arith, h .few))))
+      sets i l = cell-agree w₁ w sets-base 4 i (λ b m n. o b (inl (omega (arith, h .few))))
 
-      before : (b : ℕ) → (b < 256) ⊎ ((order-base ≤ b) × (b < targets-base)) → b < candidates-base
+      before : (b : ℕ) → (b < kinds-base) ⊎ ((order-base ≤ b) × (b < targets-base)) → b < candidates-base
       before b (inl l) = omega arith
       before b (inr l) = omega (arith, l .1)
 

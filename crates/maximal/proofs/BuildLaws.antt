@@ -20,7 +20,7 @@ use Rattle.files.specs.Record.{count}
 use Rattle.files.specs.Refusal.{property, refusal}
 use Rattle.files.specs.declared.record.Limits.{Limits}
 use Rattle.files.specs.declared.refusal.Refusal.{Refusal}
-use Rattle.maximal.specs.Places.{max-followers}
+use Rattle.maximal.specs.Places.{max-followers, max-states}
 use Rattle.maximal.specs.declared.places.Scope.{Scope}
 use Rattle.maximal.specs.Charting.{Scoped, Crowded, Arranged}
 use Rattle.maximal.specs.Charting.Files.{file-named}
@@ -49,12 +49,12 @@ scope-of L p b a =
 
 -- ---- the model
 
-total-few : (w : List ℕ) (c n : ℕ) → c ≤ 256 → total w c n ≤ max-followers * n
+total-few : (w : List ℕ) (c n : ℕ) → c ≤ max-states → total w c n ≤ max-followers * n
 total-few w c zero h = omega arith
 total-few w c (suc n) h = omega (arith, total-few w c n h, tally-from-le w c n 9 h)
 
 -- what is counted fits a length
-pub edges-few : (w : List ℕ) (c limit n : ℕ) → c ≤ 256 → n ≡ tally-upto w c limit c → n ≤ max-followers * c
+pub edges-few : (w : List ℕ) (c limit n : ℕ) → c ≤ max-states → n ≡ tally-upto w c limit c → n ≤ max-followers * c
 edges-few w c limit n h e = go (upto-is w c limit c)
   where
     go : (tally-upto w c limit c ≡ total w c c) ⊎ ((limit < tally-upto w c limit c) × (tally-upto w c limit c ≤ total w c c)) → n ≤ max-followers * c

@@ -14,7 +14,7 @@ use Rattle.files.specs.Interface.{Interface, provides}
 use Rattle.files.specs.Places.{line-bytes}
 use Rattle.files.specs.Property.{Row, Property}
 use Rattle.judging.specs.Chains.{Outside}
-use Rattle.maximal.specs.Places.{entries-slot, targets-base}
+use Rattle.maximal.specs.Places.{entries-slot, targets-base, max-states}
 use Rattle.maximal.specs.declared.places.Scope.{Scope}
 use Rattle.maximal.specs.Charting.{Scoped, flag-of, state-of, target, Known, Admitted}
 use Rattle.maximal.specs.Charting.Entries.{EntriesBelow, entries-none, entries-more}
@@ -34,7 +34,7 @@ pub record KindsEntered (s : Scope) (I : Interface) (P : List Row) (long₀ k c 
   pub entries : EntriesBelow I P k c w
 
 -- the tables stand before the rows, so a row may be cleared
-pub kinds-none : (s : Scope) (I : Interface) (p : List ℕ) → Scoped s p → (w w′ : List ℕ) → Tables (decode-property p) w → ((t : ℕ) → t < 256 → target w′ entries-slot t ≡ false) → Outside (targets-base + line-bytes * entries-slot) (targets-base + line-bytes * entries-slot + line-bytes) w w′
+pub kinds-none : (s : Scope) (I : Interface) (p : List ℕ) → Scoped s p → (w w′ : List ℕ) → Tables (decode-property p) w → ((t : ℕ) → t < max-states → target w′ entries-slot t ≡ false) → Outside (targets-base + line-bytes * entries-slot) (targets-base + line-bytes * entries-slot + line-bytes) w w′
     → KindsEntered s I (decode-property p) (length w′) 2 0 w′
 kinds-none s I p scoped w w′ x blank o = record {
   fits = omega arith;

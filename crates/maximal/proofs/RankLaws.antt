@@ -20,7 +20,7 @@ use Rattle.maximal.specs.Charting.{order-at, rank-at, Ordered, Ranked}
 use Rattle.maximal.specs.Listing.{leads, tally-under}
 use Rattle.maximal.specs.Listing.Laws.{keep-tally}
 use Rattle.maximal.proofs.SlotLaws.{in-row}
-use Rattle.maximal.specs.Places.{targets-base}
+use Rattle.maximal.specs.Places.{targets-base, max-states}
 
 -- ---- tallies along a function
 
@@ -83,13 +83,13 @@ module _ (c : ℕ) (w : List ℕ) (ord : Ordered c w) (ranked : Ranked c w) wher
   pub tally-row : (i l r : ℕ) → r ≡ targets-base + line-bytes * (9 * order-at w i + l) → tally (has-bit w r) c ≡ tally-under w c i l
   tally-row i l r e =
       ap (λ (b : ℕ). tally (has-bit w b) c) e
-      ∙ tally-same (has-bit w (targets-base + line-bytes * (9 * order-at w i + l))) (λ t. has-bit w targets-base (256 * (9 * order-at w i + l) + t)) c (λ t h. sym (in-row w (9 * order-at w i + l) t))
-      ∙ sym (tally-in-order (λ t. has-bit w targets-base (256 * (9 * order-at w i + l) + t)))
+      ∙ tally-same (has-bit w (targets-base + line-bytes * (9 * order-at w i + l))) (λ t. has-bit w targets-base (max-states * (9 * order-at w i + l) + t)) c (λ t h. sym (in-row w (9 * order-at w i + l) t))
+      ∙ sym (tally-in-order (λ t. has-bit w targets-base (max-states * (9 * order-at w i + l) + t)))
 
   -- ---- a row whose bits are moved
 
   module _ (base : ℕ) where
-    pub marked-none : (row : List ℕ) → row ≡ replicate 32 0 → c ≤ 256 → Marked c w base 0 row
+    pub marked-none : (row : List ℕ) → row ≡ replicate 32 0 → c ≤ max-states → Marked c w base 0 row
     marked-none row e few j h =
         has-bit-is row 0 j
         ∙ ap (λ (x : ℕ). eqb (x / 2 ^ (j % 8) % 2) 1) (ap (λ (l : List ℕ). getD l (0 + j / 8) 0) e ∙ getD-replicate {A = ℕ} 32 (0 + j / 8) 0 0 (omega arith))

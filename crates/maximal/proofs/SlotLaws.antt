@@ -11,10 +11,10 @@ use lib.Dec.{eqb}
 use lib.ListN.{length, getD}
 use Rattle.files.specs.Cells.{cell, put-cell, has-bit}
 use Rattle.files.specs.Cells.Laws.{length-put-cell, cell-same, cell-other, cell-apart, cell-one, byte-outside, has-bit-is}
-use Rattle.files.specs.Places.{line-bytes}
+use Rattle.files.specs.Places.{line-bytes, byte-end}
 use Rattle.judging.specs.Chains.{Outside}
 use Rattle.maximal.specs.Charting.{method-at, asked-at, target}
-use Rattle.maximal.specs.Places.{asked-base, entries-slot, methods-base, model-room, sets-end, slots, targets-base}
+use Rattle.maximal.specs.Places.{asked-base, entries-slot, methods-base, model-room, sets-end, slots, targets-base, max-states}
 
 -- ---- a row of bits filled
 
@@ -25,9 +25,9 @@ Filled w₀ q f k w = ((i : ℕ) → i < k → getD w (targets-base + line-bytes
 -- a row has 32 bytes
 pub in-row : (w : List ℕ) (p t : ℕ) → target w p t ≡ has-bit w (targets-base + line-bytes * p) t
 in-row w p t =
-    let a : targets-base + (256 * p + t) / 8 ≡ targets-base + line-bytes * p + t / 8 = omega arith in
-    let b : (256 * p + t) % 8 ≡ t % 8 = omega arith in
-    has-bit-is w targets-base (256 * p + t) ∙ ap₂ (λ (n k : ℕ). eqb (getD w n 0 / 2 ^ k % 2) 1) a b ∙ sym (has-bit-is w (targets-base + line-bytes * p) t)
+    let a : targets-base + (max-states * p + t) / 8 ≡ targets-base + line-bytes * p + t / 8 = omega arith in
+    let b : (max-states * p + t) % 8 ≡ t % 8 = omega arith in
+    has-bit-is w targets-base (max-states * p + t) ∙ ap₂ (λ (n k : ℕ). eqb (getD w n 0 / 2 ^ k % 2) 1) a b ∙ sym (has-bit-is w (targets-base + line-bytes * p) t)
 
 module _ (w₀ w : List ℕ) (q k : ℕ) (f : ℕ → ℕ) (x : Filled w₀ q f k w) where
   -- one byte more
@@ -51,7 +51,7 @@ module _ (w₀ w : List ℕ) (q k : ℕ) (f : ℕ → ℕ) (x : Filled w₀ q f 
       beside b′ (inr l) = byte-outside w (targets-base + line-bytes * q) 1 k b b′ (inr (omega arith)) ∙ x .1 b′ (inr l)
 
   -- all bytes
-  filled-all : 32 ≤ k → (t : ℕ) → t < 256 → target w q t ≡ eqb (f (t / 8) / 2 ^ (t % 8) % 2) 1
+  filled-all : 32 ≤ k → (t : ℕ) → t < max-states → target w q t ≡ eqb (f (t / 8) / 2 ^ (t % 8) % 2) 1
   filled-all l t ht = in-row w q t ∙ has-bit-is w (targets-base + line-bytes * q) t ∙ ap (λ (y : ℕ). eqb (y / 2 ^ (t % 8) % 2) 1) (x .0 (t / 8) (omega arith))
 
 -- with the bytes of row p
@@ -62,11 +62,11 @@ row-bytes w p i = getD w (targets-base + line-bytes * p + i) 0
 pub copied-byte : (w₀ w : List ℕ) (p q k b : ℕ) → p < q → k < 32 → Outside (targets-base + line-bytes * q) (targets-base + line-bytes * q + line-bytes) w₀ w → b ≡ cell w (targets-base + line-bytes * p) 1 k → b ≡ row-bytes w₀ p k
 copied-byte w₀ w p q k b pq hk o e = e ∙ cell-one w (targets-base + line-bytes * p) k ∙ o (targets-base + line-bytes * p + k) (inl (omega arith))
 
-pub copied-all : (w₀ w : List ℕ) (p q k : ℕ) → Filled w₀ q (row-bytes w₀ p) k w → 32 ≤ k → (t : ℕ) → t < 256 → target w q t ≡ target w₀ p t
+pub copied-all : (w₀ w : List ℕ) (p q k : ℕ) → Filled w₀ q (row-bytes w₀ p) k w → 32 ≤ k → (t : ℕ) → t < max-states → target w q t ≡ target w₀ p t
 copied-all w₀ w p q k x l t ht = filled-all w₀ w q k (row-bytes w₀ p) x l t ht ∙ sym (in-row w₀ p t ∙ has-bit-is w₀ (targets-base + line-bytes * p) t)
 
 -- with zeros
-pub cleared-all : (w₀ w : List ℕ) (q k : ℕ) → Filled w₀ q (λ (i : ℕ). 0) k w → 32 ≤ k → (t : ℕ) → t < 256 → target w q t ≡ false
+pub cleared-all : (w₀ w : List ℕ) (q k : ℕ) → Filled w₀ q (λ (i : ℕ). 0) k w → 32 ≤ k → (t : ℕ) → t < max-states → target w q t ≡ false
 cleared-all w₀ w q k x l t ht = filled-all w₀ w q k (λ (i : ℕ). 0) x l t ht ∙ ap (λ (y : ℕ). eqb (y % 2) 1) (zero-div (2 ^ (t % 8)))
 
 -- ---- the methods and what is asked for
@@ -98,7 +98,7 @@ module _ (q method set : ℕ) (w w₁ w₂ : List ℕ) (hq : q < slots) (room : 
   )
 
   -- the slot itself
-  pub slot-same : method < 256 → set < sets-end → (method-at w₂ q ≡ method) × (asked-at w₂ q ≡ set)
+  pub slot-same : method < byte-end → set < sets-end → (method-at w₂ q ≡ method) × (asked-at w₂ q ≡ set)
   slot-same l m = (
     ap (λ (u : List ℕ). method-at u q) is-both ∙ cell-apart once asked-base 4 q set methods-base 1 q (inl (omega arith)) ∙ cell-same w methods-base 1 q method (omega arith) l,
     ap (λ (u : List ℕ). asked-at u q) is-both ∙ cell-same once asked-base 4 q set (omega (arith, length-put-cell w methods-base 1 q method)) m,

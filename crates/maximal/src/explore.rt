@@ -14,7 +14,7 @@ ghost use Rattle.judging.specs.Chains.{Outside};
 ghost use Rattle.maximal.specs.Charting.{Scoped, target, Crowded, Charting, Asking, Charted};
 ghost use Rattle.maximal.specs.Collected.{Tables};
 ghost use Rattle.maximal.specs.Masks.{Boxes};
-ghost use Rattle.maximal.specs.Places.{entries-slot, model-room, slots, targets-base};
+ghost use Rattle.maximal.specs.Places.{entries-slot, model-room, slots, targets-base, max-states};
 use crate::masks::LABELS;
 use crate::masks::asked;
 use crate::masks::boxes_by_label;
@@ -43,7 +43,7 @@ fn is_label(interface: &[u8], label: u8) -> bool
 // Row q becomes blank.
 fn clear_row(work: &mut [u8], q: usize)
     requires { ⌜ (q ≤ entries-slot) × (model-room ≤ length (now work)) ⌝ }
-    ensures { λ _. ⌜ ((t : ℕ) → t < 256 → target (now (work .exit)) q t ≡ false) × (Outside (targets-base + line-bytes * q) (targets-base + line-bytes * q + line-bytes) (now (work .entry)) (now (work .exit))) ⌝ }
+    ensures { λ _. ⌜ ((t : ℕ) → t < max-states → target (now (work .exit)) q t ≡ false) × (Outside (targets-base + line-bytes * q) (targets-base + line-bytes * q + line-bytes) (now (work .entry)) (now (work .exit))) ⌝ }
 {
     let mut k = 0;
     while k < LINE {
@@ -75,7 +75,7 @@ fn enter_entries(interface: &[u8], property: &[u8], s: Scope, work: &mut [u8]) -
 // Row q becomes as row p.
 fn copy_row(work: &mut [u8], p: usize, q: usize)
     requires { ⌜ (p < q) × ((q < slots) × (model-room ≤ length (now work))) ⌝ }
-    ensures { λ _. ⌜ ((t : ℕ) → t < 256 → target (now (work .exit)) q t ≡ target (now (work .entry)) p t) × (Outside (targets-base + line-bytes * q) (targets-base + line-bytes * q + line-bytes) (now (work .entry)) (now (work .exit))) ⌝ }
+    ensures { λ _. ⌜ ((t : ℕ) → t < max-states → target (now (work .exit)) q t ≡ target (now (work .entry)) p t) × (Outside (targets-base + line-bytes * q) (targets-base + line-bytes * q + line-bytes) (now (work .entry)) (now (work .exit))) ⌝ }
 {
     let mut k = 0;
     while k < LINE {

@@ -11,7 +11,7 @@ ghost use Rattle.files.specs.Decode.{decode-interface, decode-property};
 ghost use Rattle.judging.specs.Chains.{Outside};
 ghost use Rattle.maximal.specs.Charting.{Scoped, flag-of, is-pair, Known, Holds, Crowded, Admitted};
 ghost use Rattle.maximal.specs.Collected.{Tables, listed, supports-of};
-ghost use Rattle.maximal.specs.Places.{candidates-base, entries-slot, max-candidates, model-room};
+ghost use Rattle.maximal.specs.Places.{candidates-base, entries-slot, max-candidates, model-room, kinds-base};
 use crate::places::Places;
 use crate::places::Scope;
 use crate::supports::supports;
@@ -90,7 +90,7 @@ fn enter(
     set: u32,
 ) -> usize
     requires { ⌜ (Scoped s (now property)) × ((q ≤ entries-slot) × ((c ≤ s .states) × ((model-room ≤ length (now work)) × ((Holds (decode-interface (now interface)) (decode-property (now property)) c (now work)) × (Known (decode-interface (now interface)) (decode-property (now property)) kind set))))) ⌝ }
-    ensures { λ t. ⌜ (t ≤ s .states → (Admitted (decode-interface (now (interface .entry))) (decode-property (now (property .entry))) c t kind (set ∷ []) q (now (work .entry)) (now (work .exit))) × (Outside 256 candidates-base (now (work .entry)) (now (work .exit)))) × ((t ≤ s .states + 1) × (s .states < t → Crowded (decode-interface (now (interface .entry))) (decode-property (now (property .entry))) (s .states))) ⌝ }
+    ensures { λ t. ⌜ (t ≤ s .states → (Admitted (decode-interface (now (interface .entry))) (decode-property (now (property .entry))) c t kind (set ∷ []) q (now (work .entry)) (now (work .exit))) × (Outside kinds-base candidates-base (now (work .entry)) (now (work .exit)))) × ((t ≤ s .states + 1) × (s .states < t → Crowded (decode-interface (now (interface .entry))) (decode-property (now (property .entry))) (s .states))) ⌝ }
 {
     let t = find_pair(work, Places::KINDS, Places::SETS, c, kind, set);
     if t < c {

@@ -19,7 +19,7 @@ use Rattle.maximal.specs.Masks.{member, rows, asked-of}
 use Rattle.maximal.specs.Model.{State, Entry, Next, is-entry, is-next}
 use Rattle.maximal.specs.Model.Computed.{entry-e, next-e}
 use Rattle.maximal.specs.Model.Supports.{length-tab}
-use Rattle.maximal.specs.Places.{asked-base, entries-slot, methods-base, slots}
+use Rattle.maximal.specs.Places.{asked-base, entries-slot, methods-base, slots, max-states}
 
 module _ (I : Interface) (P : List Row) where
   abbrev n : ℕ
@@ -36,7 +36,7 @@ module _ (I : Interface) (P : List Row) where
 
   -- nothing is marked where the rows of bits stay
   pub admitted-unmarked : (c c′ kind q : ℕ) (w w′ : List ℕ) → Holds I P c′ w′ → c ≤ c′ → ((i : ℕ) → i < c → kind-at w′ i ≡ kind-at w i) → ((i : ℕ) → i < c → set-at w′ i ≡ set-at w i) → q ≤ entries-slot
-      → ((p t : ℕ) → p ≤ entries-slot → t < 256 → target w′ p t ≡ target w p t) → Elsewhere w w′ → Admitted I P c c′ kind [] q w w′
+      → ((p t : ℕ) → p ≤ entries-slot → t < max-states → target w′ p t ≡ target w p t) → Elsewhere w w′ → Admitted I P c c′ kind [] q w w′
   admitted-unmarked c c′ kind q w w′ h more kinds sets hq bits rest = record {
     holds = h;
     more = more;
@@ -72,7 +72,7 @@ module _ (I : Interface) (P : List Row) where
         back (inr z) = let s = any-e (λ e. eqb t e) B z in any-i (λ e. eqb t e) (A ++ B) (s .0) (Memᴰ·append-right A (s .1)) (s .2)
 
     -- a state that was there before is marked by either list; one that was not can only be of the second
-    either-marked : (t : ℕ) → t < 256 → target w q t ≡ (target u q t || (ltb t b && (eqb (kind-at w t) kind && any (λ e. eqb (set-at w t) e) (A ++ B))))
+    either-marked : (t : ℕ) → t < max-states → target w q t ≡ (target u q t || (ltb t b && (eqb (kind-at w t) kind && any (λ e. eqb (set-at w t) e) (A ++ B))))
     either-marked t l =
         y .marked t l ∙ ap (λ (z : Bool). z || (ltb t b && (eqb (kind-at w t) kind && any (λ e. eqb (set-at w t) e) B))) (x .marked t l)
         ∙ go (decLt t a)
@@ -171,8 +171,8 @@ module _ (I : Interface) (P : List Row) where
       asked-is = λ t. asked-kept p l ∙ f .asked-is t ∙ ap (λ (k : ℕ). asked-of P k (p % 9)) (sym (x .sets-kept (p / 9) h));
     }
 
-    pub entry-bits-kept : (q ≡ entries-slot → ⊥) → ((t : ℕ) → t < 256 → target w entries-slot t ≡ (ltb t c && is-entry I P (stored n w t)))
-        → ((s : State) → Entry I P s → (t : ℕ) × (t < c) × (stored n w t ≡ s)) → (t : ℕ) → t < 256 → target w′ entries-slot t ≡ (ltb t c′ && is-entry I P (stored n w′ t))
+    pub entry-bits-kept : (q ≡ entries-slot → ⊥) → ((t : ℕ) → t < max-states → target w entries-slot t ≡ (ltb t c && is-entry I P (stored n w t)))
+        → ((s : State) → Entry I P s → (t : ℕ) × (t < c) × (stored n w t ≡ s)) → (t : ℕ) → t < max-states → target w′ entries-slot t ≡ (ltb t c′ && is-entry I P (stored n w′ t))
     entry-bits-kept d f g t m =
         x .others-kept entries-slot t (omega arith) m (λ e. d (sym e)) ∙ f t m
         ∙ tested (is-entry I P) (λ i k z. same-place i (stored n w′ i) k refl (g (stored n w′ i) (entry-e I P wf (stored n w′ i) (rows-of i) z))) t

@@ -21,7 +21,7 @@ use Rattle.maximal.specs.Masks.Laws.{value-lt}
 use Rattle.maximal.specs.Model.{State, Entry, is-entry}
 use Rattle.maximal.specs.Model.Computed.{entry-e, entry-i}
 use Rattle.maximal.specs.Model.Supports.{length-tab}
-use Rattle.maximal.specs.Places.{entries-slot}
+use Rattle.maximal.specs.Places.{entries-slot, max-states}
 
 module _ (I : Interface) (P : List Row) where
   abbrev n : ℕ
@@ -34,12 +34,12 @@ module _ (I : Interface) (P : List Row) where
   -- those are there, and marked
   pub record EntriesBelow (k c : ℕ) (w : List ℕ) : Type 0 where
     pub holds : Holds I P c w
-    pub bits : (t : ℕ) → t < 256 → target w entries-slot t ≡ (ltb t c && early k (stored n w t))
+    pub bits : (t : ℕ) → t < max-states → target w entries-slot t ≡ (ltb t c && early k (stored n w t))
     pub there : (s : State) → Entry I P s → kind-of s < k → (t : ℕ) × (t < c) × (stored n w t ≡ s)
 
   -- ---- before all kinds
 
-  pub entries-none : (w : List ℕ) → ((t : ℕ) → t < 256 → target w entries-slot t ≡ false) → EntriesBelow 2 0 w
+  pub entries-none : (w : List ℕ) → ((t : ℕ) → t < max-states → target w entries-slot t ≡ false) → EntriesBelow 2 0 w
   entries-none w blank = record {
     holds = record { few = omega arith; known = λ i l. absurd (omega arith); once = λ i j l m. absurd (omega arith) };
     bits = λ t l. blank t l ∙ sym (off (ltb t 0 && early 2 (stored n w t)) (λ z. absurd (below-none t (ltb→lt t 0 (and-l (ltb t 0) (early 2 (stored n w t)) z)))));

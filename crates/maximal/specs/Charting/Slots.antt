@@ -23,7 +23,7 @@ use Rattle.maximal.specs.Masks.Laws.{value-lt}
 use Rattle.maximal.specs.Model.{State, Next, Reached, at-entry, at-next, is-entry, is-label, is-next}
 use Rattle.maximal.specs.Model.Computed.{next-e, next-i, label-i}
 use Rattle.maximal.specs.Model.Supports.{length-tab}
-use Rattle.maximal.specs.Places.{entries-slot, slots, targets-base}
+use Rattle.maximal.specs.Places.{entries-slot, slots, targets-base, max-states}
 
 module _ (I : Interface) (P : List Row) where
   abbrev n : ℕ
@@ -31,7 +31,7 @@ module _ (I : Interface) (P : List Row) where
 
   -- ---- a slot without a label, and one that asks as an earlier one did
 
-  pub followed-none : (wf : Property P) (c q : ℕ) (w : List ℕ) → ((t : ℕ) → t < 256 → target w q t ≡ false) → method-at w q ≡ 0 → (T (is-label I P (q % 9)) → ⊥) → Charting I P c q w → Charting I P c (q + 1) w
+  pub followed-none : (wf : Property P) (c q : ℕ) (w : List ℕ) → ((t : ℕ) → t < max-states → target w q t ≡ false) → method-at w q ≡ 0 → (T (is-label I P (q % 9)) → ⊥) → Charting I P c q w → Charting I P c (q + 1) w
   followed-none wf c q w blank none no-label x = record {
     holds = x .holds;
     entry-bits = x .entry-bits;
@@ -72,7 +72,7 @@ module _ (I : Interface) (P : List Row) where
 
   -- row q made as that of an earlier slot p with the same method that asks for the same set
   pub followed-again : (wf : Property P) (k : ℕ) (enough : or-count P ≤ k) (c q method set p : ℕ) (w w′ : List ℕ) → q < 9 * c → p < q → 0 < method → method-at w p ≡ method → asked-at w p ≡ set
-      → Asking I P c q method set w → ((t : ℕ) → t < 256 → target w′ q t ≡ target w p t) → ((b : ℕ) → (b < targets-base + line-bytes * q) ⊎ (targets-base + line-bytes * q + line-bytes ≤ b) → getD w′ b 0 ≡ getD w b 0)
+      → Asking I P c q method set w → ((t : ℕ) → t < max-states → target w′ q t ≡ target w p t) → ((b : ℕ) → (b < targets-base + line-bytes * q) ⊎ (targets-base + line-bytes * q + line-bytes ≤ b) → getD w′ b 0 ≡ getD w b 0)
       → Charting I P c (q + 1) w′
   followed-again wf k enough c q method set p w w′ in-slots pq pos at-p asked-p asking row rest = record {
     holds = holds-same I P c w w′ kind-same set-same (x .holds);
@@ -99,7 +99,7 @@ module _ (I : Interface) (P : List Row) where
       asked-same : (i : ℕ) → i < slots → asked-at w′ i ≡ asked-at w i
       asked-same = row-asked q w w′ rest
 
-      other : (i t : ℕ) → i ≤ entries-slot → t < 256 → (i ≡ q → ⊥) → target w′ i t ≡ target w i t
+      other : (i t : ℕ) → i ≤ entries-slot → t < max-states → (i ≡ q → ⊥) → target w′ i t ≡ target w i t
       other = row-others q w w′ rest
 
       test : (f : State → Bool) (t : ℕ) → (ltb t c && f (stored n w t)) ≡ (ltb t c && f (stored n w′ t))

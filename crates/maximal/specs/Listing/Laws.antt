@@ -25,6 +25,7 @@ use Rattle.maximal.specs.Listing.{leads, tally-under, tally-from, tally-
 use Rattle.maximal.specs.Model.{State, no-state, is-next, states, model}
 use Rattle.maximal.specs.Model.Computed.{model-size}
 use Rattle.maximal.specs.Model.Listed.{made-node, made-edge, model-nodes, model-edges}
+use Rattle.maximal.specs.Places.{max-states}
 
 -- ---- lists over a span
 
@@ -88,7 +89,7 @@ module _ (w : List ℕ) (c : ℕ) where
   tally-from-none i = refl
 
   -- at most 256 states follow under a label
-  pub tally-from-le : (i n : ℕ) → c ≤ 256 → tally-from w c i n ≤ 256 * n
+  pub tally-from-le : (i n : ℕ) → c ≤ max-states → tally-from w c i n ≤ max-states * n
   tally-from-le i zero h = omega (arith, tally-from-none i)
   tally-from-le i (suc n) h = omega (arith, tally-from-more i n, tally-le (leads w i n) c, tally-from-le i n h)
 
