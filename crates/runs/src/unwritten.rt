@@ -18,13 +18,13 @@ ghost use Rattle.runs.specs.Composing.Joined.{JoinedInto};
 ghost use Rattle.runs.specs.Unwritten.{composed-both, both-first, both-last, both-said};
 ghost use Rattle.runs.specs.Unwritten.Work.{PairRoom};
 use crate::answers::Verdict;
-use crate::composing::join_into;
-use crate::watching::watch_runs;
+use crate::joint::Joint;
+use crate::joint::join_into;
+use crate::joint::watch_joint;
 use files::cells::clear;
 use files::offence::FileKind;
 use files::record::Limits;
 use files::record::Record;
-use files::refusal::Refusal;
 use files::settle::Settled;
 use files::settle::clear_after;
 use files::settle::then_apart;
@@ -57,9 +57,9 @@ fn model_behind(
 }
 
 // The join of two graphs that stand in one buffer, the second behind the first.
-fn join_stored(store: &[u8], work: &mut [u8], limits: Limits, s: Sizes) -> bool
+fn join_stored(store: &[u8], work: &mut [u8], limits: Limits, s: Sizes) -> Joint
     requires { ⌜ (Both s (take (6 * (s .first .nodes + s .first .edges)) (now store)) (take (6 * (s .second .nodes + s .second .edges)) (drop (6 * (s .first .nodes + s .first .edges)) (now store)))) × ((Strides limits) × ((52224 ≤ length (now store)) × (103456 ≤ length (now work)))) ⌝ }
-    ensures { λ ok. ⌜ JoinedInto limits s (take (6 * (s .first .nodes + s .first .edges)) (now (store .entry))) (take (6 * (s .second .nodes + s .second .edges)) (drop (6 * (s .first .nodes + s .first .edges)) (now (store .entry)))) (now (work .entry)) (now (work .exit)) ok ⌝ }
+    ensures { λ j. ⌜ JoinedInto limits s (take (6 * (s .first .nodes + s .first .edges)) (now (store .entry))) (take (6 * (s .second .nodes + s .second .edges)) (drop (6 * (s .first .nodes + s .first .edges)) (now (store .entry)))) (now (work .entry)) (now (work .exit)) j ⌝ }
 {
     let first = Record::LEN * (s.first.nodes + s.first.edges);
     let second = first + Record::LEN * (s.second.nodes + s.second.edges);
@@ -79,15 +79,8 @@ fn watch_stored(
     requires { ⌜ (Both s (take (6 * (s .first .nodes + s .first .edges)) (now store)) (take (6 * (s .second .nodes + s .second .edges)) (drop (6 * (s .first .nodes + s .first .edges)) (now store)))) × ((RulesFile (now rules)) × ((Strides limits) × ((52224 ≤ length (now store)) × (103456 ≤ length (now work))))) ⌝ }
     ensures { λ v. ⌜ Answers (answered (from-joined limits (decode-graph (take (6 * (s .first .nodes + s .first .edges)) (now (store .entry)))) (decode-graph (take (6 * (s .second .nodes + s .second .edges)) (drop (6 * (s .first .nodes + s .first .edges)) (now (store .entry))))) (watch (decode-rules (now (rules .entry)))) start (length (now (out .entry)))) (joined-verdict limits (decode-graph (take (6 * (s .first .nodes + s .first .edges)) (now (store .entry)))) (decode-graph (take (6 * (s .second .nodes + s .second .edges)) (drop (6 * (s .first .nodes + s .first .edges)) (now (store .entry))))) (watch (decode-rules (now (rules .entry)))) start (length (now (out .entry))))) (now (out .entry)) (now (out .exit)) (watched-answer v) ⌝ }
 {
-    if !join_stored(store, work, limits, s) {
-        return Verdict::Refused(Refusal::whole(11));
-    }
-    let whole = GraphView {
-        nodes: s.first.nodes + s.second.nodes,
-        edges: s.first.edges + s.second.edges,
-    };
-    let end = Record::LEN * (whole.nodes + whole.edges);
-    watch_runs(&work[..end], rules, start, out, store, whole)
+    let joint = join_stored(store, work, limits, s);
+    watch_joint(joint, rules, start, out, store, work, s)
 }
 
 // The second side's model goes behind the first's, which stands at the start of `store`, or is refused by 11; then the rest, with the first model as the known graph.

@@ -1,11 +1,9 @@
 -- The counts of both tell 11; else the join is written.
-use mathlib.Core.Path.{_≡_}
-use Prim.Native.Nat.{ℕ}
 use native.Mathlib.Omega.{arith}
 use Rattle.runs.specs.Joining.Sizes.{nodes-few, edges-few}
 use borrow.Author.Needs.{needs}
-use Rattle.runs.proofs.composing.join_into.Statement.{statement}
-use Rattle.runs.proofs.composing.join_into.Tie as tie
+use Rattle.runs.proofs.joint.join_into.Statement.{statement}
+use Rattle.runs.proofs.joint.join_into.Tie as tie
 
 add-nodes : tie.Need-add-nodes
 add-nodes c = search needs
@@ -14,7 +12,7 @@ add-edges : tie.Need-add-edges
 add-edges c = search needs
 
 returns : tie.Need-returns
-returns c = record { asked = c .if1 .taken; stored = λ e. let z : _≡_ {A = ℕ} 0 1 = cc in absurd (omega arith) }
+returns c = c .if1 .taken
 
 write-join-requires : tie.Need-write-join-requires
 write-join-requires c κs =
@@ -28,7 +26,7 @@ same-length : tie.Need-same-length
 same-length c = search needs
 
 returns-2 : tie.Need-returns-2
-returns-2 c = record { asked = c .before .before .before .before .if1 .left; stored = λ e. c .before .before .write-join .ensures }
+returns-2 c = (c .before .before .before .before .if1 .left, c .before .before .write-join .ensures)
 
 pub join-into-spec : {M : Type 1} → statement M
 join-into-spec =
