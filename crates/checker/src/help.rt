@@ -94,7 +94,7 @@ pub fn say_help(stdout: &mut [u8; BUFFERED]) {
     say(stdout, b"\n");
     say(
         stdout,
-        b"Files are named in this order. The first line is the verdict; its first word is holds, fails, yes, no, written, shown, clean, bad, refused or error. Sheet, relation,\n",
+        b"Files are named in this order. The first line is the verdict; its first word is holds, fails, yes, no, written, shown, clean, bad, impossible, refused or error. Sheet, relation,\n",
     );
     say(
         stdout,

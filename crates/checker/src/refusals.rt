@@ -84,6 +84,12 @@ fn say_call_fault(stdout: &mut [u8; BUFFERED], number: u8) {
     if number == 14 {
         say(stdout, b"two deliveries of one method with equal revision");
     }
+    if number == 16 {
+        say(
+            stdout,
+            b"the known graph lacks an entry for a method that it provides",
+        );
+    }
 }
 
 // File f of a call is the argument after the one that names the command and the f - 1 before it.

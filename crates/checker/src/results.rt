@@ -191,5 +191,12 @@ pub fn say_watched(
             give_trail(stdout, out, records, start, at);
         }
         Verdict::Refused(r) => say_refused(stdout, r),
+        Verdict::Impossible => {
+            say(
+                stdout,
+                b"impossible since on an unwritten side no module with an entry for each provided method satisfies the property\n",
+            );
+            give_trail(stdout, out, 0, start, at);
+        }
     }
 }

@@ -133,5 +133,6 @@ pub(crate) fn say_watched(stdout: &mut [u8; BUFFERED], answer: Verdict, out: &[u
             say_refused(stdout, r);
             say(stdout, b"\n");
         }
+        Verdict::Impossible => say(stdout, b": impossible\n"),
     }
 }

@@ -105,7 +105,7 @@ joined-heard = record { hear = λ a. joined-of (as-answer a); hears = back }
     back (joined-variants.Written n e p q) = refl
     back (joined-variants.Refused x) = refl
 
--- watching and the composed verdict: verdict 1 clean; 2 bad, with the records of the trail
+-- watching and the composed verdict: verdict 1 clean; 2 bad, with the records of the trail; 3 impossible, of composed verdicts only
 abbrev pub verdict-told : Verdict → Answer
 verdict-told c = answer-numbers (watched-answer c)
 
@@ -116,6 +116,7 @@ verdict-heard = record { hear = λ a. verdict-of (as-answer a); hears = back }
     back verdict-variants.Clean = refl
     back (verdict-variants.Bad n) = refl
     back (verdict-variants.Refused x) = refl
+    back verdict-variants.Impossible = refl
 
 -- ---- the calls (what is shown: Shown)
 

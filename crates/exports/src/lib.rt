@@ -340,6 +340,14 @@ fn watched_answer(v: Verdict) -> Answer
             fourth: 0,
         },
         Verdict::Refused(r) => refused(r),
+        Verdict::Impossible => Answer {
+            verdict: 3,
+            number: 0,
+            first: 0,
+            second: 0,
+            third: 0,
+            fourth: 0,
+        },
     }
 }
 
@@ -358,7 +366,8 @@ pub extern "C" fn tintboulder_watch(
     watched_answer(runs::watch(interface, graph, rules, start, out, work))
 }
 
-// The composed verdict: verdict 1 clean with every module that conforms, 2 bad, with the number of records of the trail, which is written to `out`.
+// The composed verdict: verdict 1 clean with every module that conforms, 2 bad, with the number of records of the trail, which is written to `out`, 3 impossible: no module with
+// an entry for each provided method satisfies the property.
 #[no_mangle]
 pub extern "C" fn tintboulder_compose(
     known_interface: &[u8],

@@ -3,6 +3,7 @@ use mathlib.Core.Path.{_≡_}
 use mathlib.Core.Bool.{Bool, false}
 use mathlib.Core.List.{List, List·Memᴰ}
 use Prim.Native.Nat.{ℕ, _<_}
+use lib.Dec.{T}
 use lib.ListN.{length, getD}
 pub mod Ends
 
@@ -39,3 +40,9 @@ pub record Flow (G : Graph) : Type 0 where
   pub from-node : (e : Edge) → List·Memᴰ e (G .edges) → e .from < size G
   pub to-node : (e : Edge) → List·Memᴰ e (G .edges) → e .to < size G
   pub one-method : (e : Edge) → List·Memᴰ e (G .edges) → (node G (e .to)) .method ≡ (node G (e .from)) .method
+
+-- n is an entry node of method m
+pub record EntryOf (G : Graph) (m n : ℕ) : Type 0 where
+  pub is-node : n < size G
+  pub is-entry : T ((node G n) .entry)
+  pub in-method : (node G n) .method ≡ m

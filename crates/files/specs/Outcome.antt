@@ -172,7 +172,7 @@ pub data Entry : Type 0 where
 
 abbrev pub published-order : List Entry
 published-order =
-    of-call 13 ∷ of-each-file (1 ∷ 2 ∷ 3 ∷ 4 ∷ 5 ∷ 6 ∷ 7 ∷ 8 ∷ []) ∷ of-call 3 ∷ of-call 7 ∷ of-call 14 ∷ of-graphs-first 9 ∷ of-call 10 ∷ of-call 11 ∷ of-call 12 ∷ []
+    of-call 13 ∷ of-each-file (1 ∷ 2 ∷ 3 ∷ 4 ∷ 5 ∷ 6 ∷ 7 ∷ 8 ∷ []) ∷ of-call 3 ∷ of-call 7 ∷ of-call 14 ∷ of-graphs-first 9 ∷ of-call 16 ∷ of-call 10 ∷ of-call 11 ∷ of-call 12 ∷ []
 
 -- where n stands among numbers, or their count
 abbrev pub index-of : ℕ → List ℕ → ℕ

@@ -1,12 +1,14 @@
-// Refusals 9 and 10 of accepted graphs and interfaces: the first record of a graph that is not of its interface, a method that two sides provide, and one that
-// nobody provides.
+// Refusals 9, 10 and 16 of accepted graphs and interfaces: the first record of a graph that is not of its interface, a method that two sides provide, one that nobody
+// provides, and one that has no entry.
 ghost use mathlib.Core.Path.{_≡_};
 ghost use Prim.Native.Nat.{_+_, _*_, _≤_};
 ghost use lib.ListN.{length};
 ghost use Rattle.files.specs.Record.{parsed-at};
-ghost use Rattle.files.specs.Decode.{decode-interface};
-ghost use Rattle.files.specs.Sides.{foreign-node, foreign-call, foreign-of, first-foreign-record, shares, lacks, unprovided};
+ghost use Rattle.files.specs.Decode.{decode-graph, decode-interface};
+ghost use Rattle.files.specs.Sides.{foreign-node, foreign-call, foreign-of, first-foreign-record, shares, lacks, unprovided, has-entry, lacks-entry};
+ghost use Rattle.files.specs.Refusal.{nodes-of};
 ghost use Rattle.files.specs.Access.{GraphFile, InterfaceFile};
+use crate::graph::node_at;
 use crate::interface::in_set;
 use crate::interface::provided_methods;
 use crate::interface::provides;
@@ -98,4 +100,35 @@ pub(crate) fn unprovided(provided: u8, required: u8, start: u8) -> bool
     ensures { λ r. ⌜ r ≡ unprovided (record { provided = provided; required = required }) start ⌝ }
 {
     !in_set(provided, start) | lacks(provided, required)
+}
+
+// Some entry is of method m.
+fn has_entry(graph: &[u8], nodes: usize, m: u8) -> bool
+    requires { ⌜ (GraphFile (now graph)) × (nodes ≡ nodes-of (now graph)) ⌝ }
+    ensures { λ r. ⌜ r ≡ has-entry (decode-graph (now (graph .entry))) m ⌝ }
+{
+    let mut n = 0;
+    while n < nodes {
+        let v = node_at(graph, n);
+        if v.entry & (v.method == m) {
+            return true;
+        }
+        n += 1;
+    }
+    false
+}
+
+// A method that the interface provides has no entry in the graph.
+pub fn lacks_entry(interface: &[u8], graph: &[u8], nodes: usize) -> bool
+    requires { ⌜ (InterfaceFile (now interface)) × ((GraphFile (now graph)) × (nodes ≡ nodes-of (now graph))) ⌝ }
+    ensures { λ r. ⌜ r ≡ lacks-entry (decode-interface (now (interface .entry))) (decode-graph (now (graph .entry))) ⌝ }
+{
+    let mut m = 1;
+    while m < 9 {
+        if provides(interface, m) & !has_entry(graph, nodes, m) {
+            return true;
+        }
+        m += 1;
+    }
+    false
 }

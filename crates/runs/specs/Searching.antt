@@ -14,12 +14,12 @@ use Rattle.files.specs.Basics.Order.{Ascends}
 use Rattle.files.specs.Basics.Tables.{tally}
 use Rattle.files.specs.Basics.Tests.{any}
 use Rattle.files.specs.Cells.{cell, put-cell, has-bit, put-bit, put-at}
-use Rattle.files.specs.Graph.{Graph, Edge, size, node, no-edge}
+use Rattle.files.specs.Graph.{Graph, Edge, size, node, no-edge, EntryOf}
 use Rattle.files.specs.Rules.{Monitor, calls}
 use Rattle.maximal.specs.Masks.{member}
 use Rattle.runs.specs.Forward.{Searched, Met, turned}
 use Rattle.runs.specs.Prepared.{Tables}
-use Rattle.runs.specs.Runs.{meth, EntryOf}
+use Rattle.runs.specs.Runs.{meth}
 use Rattle.runs.specs.Summary.{Place, Yields, is-entry-of, callee, spots, clean}
 use Rattle.runs.specs.Summary.Trails.{Rec, trail-rec-bytes, Where, before, here, end, is-bad, started, leaving, trail}
 pub mod Pushes

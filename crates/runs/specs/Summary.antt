@@ -8,9 +8,9 @@ use lib.Dec.{T, eqb, ltb}
 use Rattle.files.specs.Basics.Closure.{closed}
 use Rattle.files.specs.Basics.Lists.{each, span}
 use Rattle.files.specs.Basics.Tests.{any}
-use Rattle.files.specs.Graph.{Graph, Edge, size, node}
+use Rattle.files.specs.Graph.{Graph, Edge, size, node, EntryOf}
 use Rattle.files.specs.Rules.{calls, returns-to, Monitor}
-use Rattle.runs.specs.Runs.{meth, EntryOf, Runs}
+use Rattle.runs.specs.Runs.{meth, Runs}
 pub mod Frames
 pub mod Exact
 pub mod Balanced

@@ -15,8 +15,7 @@ use Rattle.files.specs.Rules.{watch}
 use Rattle.files.specs.Sides.{shares, Shares, unprovided, Unprovided}
 use Rattle.files.specs.declared.record.Limits.{Limits}
 use Rattle.maximal.specs.Modelling.{model-room}
-use Rattle.runs.specs.Composing.{Side, unwritten, gives}
-use Rattle.runs.specs.Watching.{watch-said}
+use Rattle.runs.specs.Composing.{Side, unwritten, gives, sides-said}
 pub mod Laws
 pub mod Work
 pub mod Meaning
@@ -45,7 +44,7 @@ both-sides i₁ i₂ = united (decode-interface i₁) (decode-interface i₂)
 
 -- "and watch": trails use the joined numbers
 abbrev pub both-said : List ℕ → List ℕ → List ℕ → List ℕ → List ℕ → ℕ → Said
-both-said i₁ p₁ i₂ p₂ r m = watch-said (both-graph i₁ p₁ i₂ p₂) (watch (decode-rules r)) m
+both-said i₁ p₁ i₂ p₂ r m = sides-said (first-side i₁ p₁) (second-side i₂ p₂) (watch (decode-rules r)) m
 
 -- the checks that come before the models: 9 has no graph file here
 abbrev pub both-first : Limits → List ℕ → List ℕ → List ℕ → List ℕ → List ℕ → ℕ → ℕ → ℕ → List Check → List Check

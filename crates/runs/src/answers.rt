@@ -19,9 +19,10 @@ pub enum Shown {
     Refused(Refusal),
 }
 
-// No run turns the monitor bad, or some does, with a trail of so many records.
+// No run turns the monitor bad, or some does, with a trail of so many records. Of composed verdicts also: no module can be loaded on a side that is not written.
 pub enum Verdict {
     Clean,
     Bad(usize),
     Refused(Refusal),
+    Impossible,
 }

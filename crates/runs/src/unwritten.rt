@@ -19,6 +19,7 @@ ghost use Rattle.runs.specs.Unwritten.{composed-both, both-first, both-l
 ghost use Rattle.runs.specs.Unwritten.Work.{PairRoom};
 use crate::answers::Verdict;
 use crate::joint::Joint;
+use crate::joint::bars;
 use crate::joint::join_into;
 use crate::joint::watch_joint;
 use files::cells::clear;
@@ -57,16 +58,23 @@ fn model_behind(
 }
 
 // The join of two graphs that stand in one buffer, the second behind the first.
-fn join_stored(store: &[u8], work: &mut [u8], limits: Limits, s: Sizes) -> Joint
+fn join_stored(store: &[u8], work: &mut [u8], limits: Limits, barred: bool, s: Sizes) -> Joint
     requires { ⌜ (Both s (take (6 * (s .first .nodes + s .first .edges)) (now store)) (take (6 * (s .second .nodes + s .second .edges)) (drop (6 * (s .first .nodes + s .first .edges)) (now store)))) × ((Strides limits) × ((52224 ≤ length (now store)) × (103456 ≤ length (now work)))) ⌝ }
-    ensures { λ j. ⌜ JoinedInto limits s (take (6 * (s .first .nodes + s .first .edges)) (now (store .entry))) (take (6 * (s .second .nodes + s .second .edges)) (drop (6 * (s .first .nodes + s .first .edges)) (now (store .entry)))) (now (work .entry)) (now (work .exit)) j ⌝ }
+    ensures { λ j. ⌜ JoinedInto limits barred s (take (6 * (s .first .nodes + s .first .edges)) (now (store .entry))) (take (6 * (s .second .nodes + s .second .edges)) (drop (6 * (s .first .nodes + s .first .edges)) (now (store .entry)))) (now (work .entry)) (now (work .exit)) j ⌝ }
 {
     let first = Record::LEN * (s.first.nodes + s.first.edges);
     let second = first + Record::LEN * (s.second.nodes + s.second.edges);
-    join_into(&store[..first], &store[first..second], work, limits, s)
+    join_into(
+        &store[..first],
+        &store[first..second],
+        work,
+        limits,
+        barred,
+        s,
+    )
 }
 
-// 11 for the joined graph; then it is watched. Both graphs stand in `store`, the second behind the first.
+// 11 for the joined graph, "impossible" where it is barred, or the verdict on it. Both graphs stand in `store`, the second behind the first.
 fn watch_stored(
     rules: &[u8],
     start: u8,
@@ -74,12 +82,13 @@ fn watch_stored(
     store: &mut [u8],
     work: &mut [u8],
     limits: Limits,
+    barred: bool,
     s: Sizes,
 ) -> Verdict
     requires { ⌜ (Both s (take (6 * (s .first .nodes + s .first .edges)) (now store)) (take (6 * (s .second .nodes + s .second .edges)) (drop (6 * (s .first .nodes + s .first .edges)) (now store)))) × ((RulesFile (now rules)) × ((Strides limits) × ((52224 ≤ length (now store)) × (103456 ≤ length (now work))))) ⌝ }
-    ensures { λ v. ⌜ Answers (answered (from-joined limits (decode-graph (take (6 * (s .first .nodes + s .first .edges)) (now (store .entry)))) (decode-graph (take (6 * (s .second .nodes + s .second .edges)) (drop (6 * (s .first .nodes + s .first .edges)) (now (store .entry))))) (watch (decode-rules (now (rules .entry)))) start (length (now (out .entry)))) (joined-verdict limits (decode-graph (take (6 * (s .first .nodes + s .first .edges)) (now (store .entry)))) (decode-graph (take (6 * (s .second .nodes + s .second .edges)) (drop (6 * (s .first .nodes + s .first .edges)) (now (store .entry))))) (watch (decode-rules (now (rules .entry)))) start (length (now (out .entry))))) (now (out .entry)) (now (out .exit)) (watched-answer v) ⌝ }
+    ensures { λ v. ⌜ Answers (answered (from-joined limits barred (decode-graph (take (6 * (s .first .nodes + s .first .edges)) (now (store .entry)))) (decode-graph (take (6 * (s .second .nodes + s .second .edges)) (drop (6 * (s .first .nodes + s .first .edges)) (now (store .entry))))) (watch (decode-rules (now (rules .entry)))) start (length (now (out .entry)))) (joined-verdict limits barred (decode-graph (take (6 * (s .first .nodes + s .first .edges)) (now (store .entry)))) (decode-graph (take (6 * (s .second .nodes + s .second .edges)) (drop (6 * (s .first .nodes + s .first .edges)) (now (store .entry))))) (watch (decode-rules (now (rules .entry)))) start (length (now (out .entry))))) (now (out .entry)) (now (out .exit)) (watched-answer v) ⌝ }
 {
-    let joint = join_stored(store, work, limits, s);
+    let joint = join_stored(store, work, limits, barred, s);
     watch_joint(joint, rules, start, out, store, work, s)
 }
 
@@ -93,10 +102,11 @@ fn watch_second(
     store: &mut [u8],
     work: &mut [u8],
     limits: Limits,
+    barred: bool,
     first: GraphView,
 ) -> Verdict
     requires { ⌜ (Held first (take (6 * (first .nodes + first .edges)) (now store))) × ((OtherSide limits (now interface) (now property)) × ((RulesFile (now rules)) × (PairRoom limits (now store) (now work)))) ⌝ }
-    ensures { λ v. ⌜ Answers (answered (compose-last limits (take (6 * (first .nodes + first .edges)) (now (store .entry))) (now (interface .entry)) (now (property .entry)) (now (rules .entry)) start (length (now (out .entry)))) (compose-said (take (6 * (first .nodes + first .edges)) (now (store .entry))) (now (interface .entry)) (now (property .entry)) (now (rules .entry)) start)) (now (out .entry)) (now (out .exit)) (watched-answer v) ⌝ }
+    ensures { λ v. ⌜ Answers (answered (compose-last limits barred (take (6 * (first .nodes + first .edges)) (now (store .entry))) (now (interface .entry)) (now (property .entry)) (now (rules .entry)) start (length (now (out .entry)))) (compose-said barred (take (6 * (first .nodes + first .edges)) (now (store .entry))) (now (interface .entry)) (now (property .entry)) (now (rules .entry)) start)) (now (out .entry)) (now (out .exit)) (watched-answer v) ⌝ }
 {
     let at = Record::LEN * (first.nodes + first.edges);
     match model_behind(interface, property, store, at, work, limits) {
@@ -110,7 +120,8 @@ fn watch_second(
                 first: first,
                 second: second,
             };
-            watch_stored(rules, start, out, store, work, limits, s)
+            let lacking = bars(interface, store, at, second);
+            watch_stored(rules, start, out, store, work, limits, barred | lacking, s)
         }
     }
 }
@@ -138,6 +149,7 @@ fn watch_models(
                 nodes: nodes,
                 edges: edges,
             };
+            let barred = bars(interface1, store, 0, first);
             watch_second(
                 interface2,
                 property2,
@@ -147,6 +159,7 @@ fn watch_models(
                 store,
                 work,
                 limits,
+                barred,
                 first,
             )
         }

@@ -43,6 +43,7 @@ pub fn of_the_paper() -> Vec<Example> {
     vec![
         whole("two-sides", &CALLING, &CALLED),
         whole("empty-sides", &none, &none),
+        whole("method-without-an-entry", &[[5, 5, 2, 0, 0, 0], ENTRY], &CALLED),
         whole("9-both-provide-1", &CALLING, &CALLING),
         whole("9-first-graph-node", &[of_one, ENTRY, CALLEE], &CALLED),
         whole("9-first-graph-call", &[of_one, ENTRY, [2, 0, 2, 0, 0, 0]], &CALLED),

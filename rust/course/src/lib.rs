@@ -5,6 +5,7 @@ mod cases;
 mod compared;
 mod composed;
 mod delivered;
+mod entered;
 mod examples;
 mod joined;
 mod judged;
@@ -68,6 +69,7 @@ pub fn examples() -> io::Result<Vec<Example>> {
     all.extend(delivered::of_lent_buffers());
     all.extend(delivered::of_judging());
     all.extend(unwritten::all(&cases));
+    all.extend(entered::all());
     Ok(all)
 }
 

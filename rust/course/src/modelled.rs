@@ -47,6 +47,7 @@ pub fn of_the_paper() -> Vec<Example> {
         simple("p1-no-call-and-return", &P1),
         simple("p2-or-of-itself", &[ONE, ITSELF]),
         simple("p3-root-false", &[[5, 255, 255, 0, 0, 0], FALSE]),
+        simple("method-without-an-entry", &[[5, 6, 0, 0, 0, 0], [3, 3, 2, 0, 0, 0]]),
         simple("11-336-states", &LARGE),
         simple("interface-refused", &[[5, 1, 0, 1, 0, 0], ITSELF]),
         simple("property-refused", &[ONE]),

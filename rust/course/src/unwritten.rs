@@ -235,6 +235,8 @@ fn at_the_limits() -> Vec<Example> {
         whole("11-2304-and-2048-edges", both(["5 15 255", &of_15], [others, &of_15])),
         whole("256-and-0-nodes", both(of_256_states, [one, FALSE])),
         whole("0-and-256-nodes", both([one, FALSE], of_256_states)),
+        whole("256-nodes-and-nothing-provided", both(of_256_states, ["5", FALSE])),
+        whole("nothing-provided-and-256-nodes", both(["5", FALSE], of_256_states)),
         whole("11-256-and-4-nodes", both(of_256_states, [one, TRUE])),
         whole("11-first-model-of-264-states", both(of_264_states, [one, FALSE])),
         whole("11-second-model-of-264-states", both([one, FALSE], of_264_states)),

@@ -46,6 +46,7 @@ pub fn of_the_paper() -> Vec<Example> {
         whole("p11", INTERFACE, &P11, &RULES, 1),
         whole("p11-without-rules", INTERFACE, &P11, &[], 1),
         whole("p11-no-node", INTERFACE, &[], &RULES, 1),
+        whole("method-without-an-entry", [5, 7, 1, 0, 0, 0], &P11, &RULES, 1),
         whole("seven-calls-deep", INTERFACE, &P10, &by_depth(), 1),
         whole("3-start-method-0", INTERFACE, &P11, &RULES, 0),
         whole("3-start-method-9", INTERFACE, &P11, &RULES, 9),
@@ -112,6 +113,7 @@ pub fn verdict_lines(name: &str, said: Outcome) -> String {
     match said {
         Outcome::Refused(r) => format!("{name}: refused {} {} {}\n", r.number, r.file, r.record),
         Outcome::Said { verdict: 1, .. } => format!("{name}: clean\n"),
+        Outcome::Said { verdict: 3, .. } => format!("{name}: impossible\n"),
         Outcome::Said { values, written, .. } => {
             format!("{name}: bad {}\n{}", values[0], decimals(&written, 6))
         }

@@ -3,7 +3,7 @@
 use crate::deliveries::{check_deliveries, has_repeated_revision, standing_within, Delivery};
 use crate::files::{check_graph, check_interface, check_property, check_rules, Fault};
 use crate::graph::Graph;
-use crate::join::joined_within;
+use crate::join::{fit_joined, joined, joined_within};
 use crate::model::maximal_model;
 use crate::monitor::Monitor;
 use crate::record::{method, Interface, Limits, Record, Row, Rule, INTERNAL, RECORD_LEN};
@@ -18,6 +18,8 @@ use crate::{Outcome, Sides, Unwritten};
 const POSITIVE: u32 = 1;
 /// Fails, no or bad.
 const NEGATIVE: u32 = 2;
+/// No graph conforms to an unwritten side and has all its entries.
+const IMPOSSIBLE: u32 = 3;
 
 /// Judging: does the graph satisfy the property?
 pub fn judge(
@@ -220,6 +222,14 @@ enum Code {
 }
 
 impl Side {
+    /// A graph without an entry is refused; whether a model lacks one is for the verdict to say.
+    fn check_entries(&self) -> Result<(), Refusal> {
+        match &self.code {
+            Code::Graph(graph) => check(graph.has_all_entries(&self.interface), number::NO_ENTRY),
+            Code::Unwritten(_) => Ok(()),
+        }
+    }
+
     fn graph(self, limits: &Limits) -> Result<Graph, Refusal> {
         match self.code {
             Code::Graph(graph) => Ok(graph),
@@ -325,8 +335,9 @@ fn say_runs(
     say_records(bad_trail(graph, &Monitor::new(rules), start), out_len)
 }
 
-/// Both sides joined and watched, unless they share a method, leave one unprovided, or pass the
-/// limits, alone or together.
+/// Both sides joined and watched, or impossible where a model lacks an entry; unless they share a
+/// method, the known graph lacks an entry, a method is left unprovided, or they pass the limits,
+/// alone or together.
 fn say_composed(
     limits: &Limits,
     [first, second]: [Side; 2],
@@ -335,8 +346,14 @@ fn say_composed(
     out_len: usize,
 ) -> Result<Outcome, Refusal> {
     check_disjoint(&first.interface, &second.interface)?;
+    [&first, &second].into_iter().try_for_each(Side::check_entries)?;
     check_provided(&first.interface.united(&second.interface), start)?;
+    let interfaces = [first.interface, second.interface];
     let [first, second] = [first.graph(limits)?, second.graph(limits)?];
-    let graph = small(joined_within(limits, &first, &second))?;
-    say_runs(&graph, rules, start, out_len)
+    // What is refused does not depend on the verdict, so the sizes come first.
+    check(fit_joined(limits, &first, &second), number::TOO_LARGE)?;
+    if !(first.has_all_entries(&interfaces[0]) && second.has_all_entries(&interfaces[1])) {
+        return say(IMPOSSIBLE, vec![], vec![], out_len);
+    }
+    say_runs(&joined(&first, &second), rules, start, out_len)
 }

@@ -1,6 +1,6 @@
 //! Flow graphs with their edges found by source and by target.
 
-use crate::record::{Edge, Node, LABELS};
+use crate::record::{Edge, Interface, Node, LABELS};
 
 /// A flow graph. Its edges ascend by (from, label, to).
 #[derive(Clone, Debug)]
@@ -91,5 +91,10 @@ impl Graph {
     /// The entry nodes of one method, ascending.
     pub(crate) fn entries_of(&self, method: usize) -> impl Iterator<Item = usize> + '_ {
         self.entries().filter(move |&node| self.nodes[node].method == method)
+    }
+
+    /// Whether each provided method has an entry node: a loader rejects the graph otherwise.
+    pub(crate) fn has_all_entries(&self, interface: &Interface) -> bool {
+        interface.provided_methods().all(|method| self.entries_of(method).next().is_some())
     }
 }

@@ -31,8 +31,8 @@ pub use refusal::Refusal;
 #[derive(Clone, Debug, PartialEq, Eq)]
 pub enum Outcome {
     Refused(Refusal),
-    /// Verdict 1 is holds, yes, written, shown or clean; 2 is fails, no or bad. The values are the
-    /// numbers that belong to the verdict, `written` the result bytes.
+    /// Verdict 1 is holds, yes, written, shown or clean; 2 is fails, no or bad; 3 is impossible.
+    /// The values are the numbers that belong to the verdict, `written` the result bytes.
     Said {
         verdict: u32,
         values: Vec<u64>,

@@ -9,7 +9,7 @@ use std::collections::BTreeMap;
 /// The maximal model; `None` when it passes the limits on nodes or edges.
 pub(crate) fn maximal_model(limits: &Limits, interface: &Interface, rows: &[Row]) -> Option<Graph> {
     let mut builder = Builder::new(limits, interface, rows);
-    for method in provided(interface) {
+    for method in interface.provided_methods() {
         builder.successors(method, ByteSet::single(0))?;
     }
     let entries = builder.states.len();
@@ -17,10 +17,6 @@ pub(crate) fn maximal_model(limits: &Limits, interface: &Interface, rows: &[Row]
         builder.explore(builder.steps.len())?;
     }
     Some(builder.graph(entries))
-}
-
-fn provided(interface: &Interface) -> impl Iterator<Item = usize> + '_ {
-    (1..=METHODS).filter(|&method| interface.provides(method))
 }
 
 /// States are ordered by method, flag, then the sum of 2^row.
@@ -58,7 +54,7 @@ impl<'a> Builder<'a> {
             limits,
             rows,
             labels: std::iter::once(INTERNAL).chain(required).collect(),
-            places: provided(interface).map(|method| (method, place(method))).collect(),
+            places: interface.provided_methods().map(|method| (method, place(method))).collect(),
             states: Vec::new(),
             found: BTreeMap::new(),
             targets: Vec::new(),

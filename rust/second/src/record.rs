@@ -269,6 +269,11 @@ impl Interface {
         self.required >> (method - 1) & 1 == 1
     }
 
+    /// The methods that are provided, ascending.
+    pub(crate) fn provided_methods(&self) -> impl Iterator<Item = usize> + '_ {
+        (1..=METHODS).filter(|&method| self.provides(method))
+    }
+
     pub(crate) fn united(&self, other: &Interface) -> Interface {
         Interface {
             provided: self.provided | other.provided,

@@ -16,6 +16,7 @@ pub mod number {
     pub const SHORT_OUTPUT: u8 = 12;
     pub const SHORT_WORK: u8 = 13;
     pub const REPEATED_REVISION: u8 = 14;
+    pub const NO_ENTRY: u8 = 16;
 }
 
 /// A refusal with its place: the file's position from 1 and the first offending record from 0.

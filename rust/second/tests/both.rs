@@ -47,19 +47,6 @@ fn either_property_can_keep_it_clean() {
 const AFTER_A_STEP: &str = "1 0 0 0 1 0 / 1 0 1 0 0 0 / 0 0 2 2 5 7";
 
 #[test]
-fn a_side_without_a_model_enters_nothing() {
-    let any_call = "4 0 1 1 2 7 / 4 0 1 2 1 7 / 4 0 2 1 2 7 / 4 0 2 2 1 7";
-    for (property1, property2) in [(TRUE, FALSE), (FALSE, TRUE), (FALSE, FALSE)] {
-        for start in [1, 2] {
-            assert_eq!(calling(property1, property2, any_call, start), positive());
-        }
-    }
-    // The other side is still there: it calls itself.
-    let own_call = in_decimals(["5 1 3", TRUE, "5 2 1", FALSE], "4 0 1 1 1 7", 1);
-    assert_eq!(own_call, explained("1 0 0 0 1 0 / 1 0 2 1 1 7"));
-}
-
-#[test]
 fn a_side_may_provide_nothing() {
     let own_call = "4 0 1 1 1 7";
     let trail = "1 0 0 0 1 0 / 1 0 2 1 1 7";

@@ -140,7 +140,7 @@ fn work_space() {
     let (one, two, property) = (file("5 1"), file("5 2"), file("3 1"));
     let sides = Sides {
         known_interface: &one,
-        known_graph: &[],
+        known_graph: &graph(1, 1, 0),
         other_interface: &two,
         property: &property,
     };

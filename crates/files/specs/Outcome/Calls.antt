@@ -50,7 +50,8 @@ works compose-both = true
 
 -- what follows the files, number and file. "then the start method's 3; then 9 to 12": 9 for each graph that comes with its interface, then for a shared method where
 -- there are two sides; 10 for "watching or composed verdict"; 11 for "model or joined graph"; 12 for each call that has an output. Showing has its own 7 alone. Of
--- deliveries: "14, two deliveries of one method with equal revision, after 8", "11 the result".
+-- deliveries: "14, two deliveries of one method with equal revision, after 8", "11 the result". Of entries: "16, a known graph lacking an entry for a provided method, in
+-- composed verdicts, after 9".
 abbrev pub follows : Call → List (ℕ × ℕ)
 follows judge = (12, 0) ∷ []
 follows compare = (12, 0) ∷ []
@@ -58,7 +59,7 @@ follows model = (11, 0) ∷ (12, 0) ∷ []
 follows join = (9, 2) ∷ (9, 4) ∷ (9, 0) ∷ (11, 0) ∷ (12, 0) ∷ []
 follows show = (7, 0) ∷ []
 follows watch = (3, 0) ∷ (9, 2) ∷ (10, 0) ∷ (12, 0) ∷ []
-follows compose = (3, 0) ∷ (9, 2) ∷ (9, 0) ∷ (10, 0) ∷ (11, 0) ∷ (12, 0) ∷ []
+follows compose = (3, 0) ∷ (9, 2) ∷ (9, 0) ∷ (16, 0) ∷ (10, 0) ∷ (11, 0) ∷ (12, 0) ∷ []
 follows assemble = (14, 0) ∷ (11, 0) ∷ (12, 0) ∷ []
 follows judge-deliveries = (14, 0) ∷ (11, 0) ∷ (12, 0) ∷ []
 follows compose-both = (3, 0) ∷ (9, 0) ∷ (10, 0) ∷ (11, 0) ∷ (12, 0) ∷ []

@@ -7,7 +7,6 @@ use Prim.Native.Nat.{ℕ}
 use Rattle.files.specs.Graph.{Graph, Flow}
 use Rattle.files.specs.Interface.{Interface}
 use Rattle.files.specs.Join.{join}
-use Rattle.files.specs.Outcome.{Lines, NoneOf}
 use Rattle.files.specs.Property.{Row, Property}
 use Rattle.files.specs.Rules.{Monitor}
 use Rattle.judging.specs.Simulation.{Simulates}
@@ -19,9 +18,6 @@ use Rattle.runs.specs.Composing.{Conforms, Side, known, unwritten, gives
 use Rattle.runs.specs.Join.{join-simulates}
 use Rattle.runs.specs.Runs.{Bad as BadRun, Clean}
 use Rattle.runs.specs.Runs.Laws.{simulates-bad}
-use Rattle.runs.specs.Watching.Meaning.{VerdictMeans}
-use Rattle.runs.specs.declared.answers.Verdict.{Verdict}
-use Rattle.runs.specs.declared.answers.Verdict.the-variants as verdict
 
 -- the model is one of the graphs that conform
 pub model-conforms : (I : Interface) (P : List Row) → Property P → Conforms I P (model I P)
@@ -64,35 +60,3 @@ module _ (A B : Side) (sa : Sound A) (sb : Sound B) (mon : Monitor) (m : ℕ) wh
   -- and clean together exactly where all graphs that may stand on them are
   pub clean-of-sides : Clean (join (gives A) (gives B)) mon m ↔ ((G H : Graph) → Admits A G → Admits B H → Clean (join G H) mon m)
   clean-of-sides = (λ clean G H a b bad. clean (matched G H a b bad), λ all. all (gives A) (gives B) (gives-admitted A sa) (gives-admitted B sb))
-
--- K joined with the model is clean exactly where K joined with any graph that conforms is
-pub clean-for-all : (K : Graph) → Flow K → (I : Interface) (P : List Row) → Property P → (mon : Monitor) (m : ℕ)
-    → Clean (join K (model I P)) mon m ↔ ((G : Graph) → Conforms I P G → Clean (join K G) mon m)
-clean-for-all K fk I P wf mon m =
-    let both = clean-of-sides (known K) (unwritten I P) fk wf mon m in
-    (λ clean G c. both .0 clean K G refl c, λ all. both .1 (λ X G e c. subst (λ (Y : Graph). Clean (join Y G) mon m) (sym e) (all G c)))
-
--- ---- what is returned
-
--- `Clean` is returned exactly where nothing is refused and, whatever graphs of any size come to stand on the two sides, no run of them joined turns the monitor bad; `Bad n`
--- exactly where for some graphs a run does. The trail written is one of what the sides give, which may stand on them. `tell` is how a case is returned: as itself, or in numbers.
-pub record SidesMeans {R : Type 0} (tell : Verdict → R) (ls : Lines) (A B : Side) (mon : Monitor) (m : ℕ) (out out′ : List ℕ) (v : R) : Type 0 where
-  pub clean-iff : (v ≡ tell verdict.Clean) ↔ (NoneOf ls × ((G H : Graph) → Admits A G → Admits B H → Clean (join G H) mon m))
-  pub bad-iff : ((n : ℕ) × (v ≡ tell (verdict.Bad n))) ↔ (NoneOf ls × ((G : Graph) × (H : Graph) × Admits A G × Admits B H × BadRun (join G H) mon m))
-  pub given : (n : ℕ) → v ≡ tell (verdict.Bad n) → Admits A (gives A) × Admits B (gives B)
-  pub on-given : VerdictMeans tell ls (join (gives A) (gives B)) mon m out out′ v
-
-pub sides-tell : {R : Type 0} (tell : Verdict → R) (ls : Lines) (A B : Side) (mon : Monitor) (m : ℕ) (out out′ : List ℕ) (v : R) → (NoneOf ls → Sound A × Sound B)
-    → VerdictMeans tell ls (join (gives A) (gives B)) mon m out out′ v → SidesMeans tell ls A B mon m out out′ v
-sides-tell tell ls A B mon m out out′ v sound told = record {
-  clean-iff = (
-    λ q. let a = told .clean-iff .0 q in (a .0, clean-of-sides A B (sound (a .0) .0) (sound (a .0) .1) mon m .0 (a .1)),
-    λ a. told .clean-iff .1 (a .0, clean-of-sides A B (sound (a .0) .0) (sound (a .0) .1) mon m .1 (a .1)),
-  );
-  bad-iff = (
-    λ q. let a = told .bad-iff .0 q in (a .0, bad-of-sides A B (sound (a .0) .0) (sound (a .0) .1) mon m .0 (a .1)),
-    λ a. told .bad-iff .1 (a .0, bad-of-sides A B (sound (a .0) .0) (sound (a .0) .1) mon m .1 (a .1)),
-  );
-  given = λ n q. let t = told .bad-iff .0 (n, q) .0 in (gives-admitted A (sound t .0), gives-admitted B (sound t .1));
-  on-given = told;
-}

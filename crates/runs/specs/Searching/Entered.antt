@@ -14,13 +14,13 @@ use Rattle.files.specs.Basics.Tables.{tally-same}
 use Rattle.files.specs.Basics.Tests.{any-i, any-e, same-test, eq-eqb}
 use Rattle.files.specs.Cells.{has-bit, put-bit}
 use Rattle.files.specs.Cells.Laws.{length-put-bit, bit-other, bit-outside, bit-byte, cell-agree}
-use Rattle.files.specs.Graph.{Graph, Edge, size, Flow}
+use Rattle.files.specs.Graph.{Graph, Edge, size, Flow, EntryOf}
 use Rattle.files.specs.Rules.{Monitor, Event, calls, returns-to}
 use Rattle.maximal.specs.Masks.{member}
 use Rattle.maximal.specs.Masks.Laws.{member-one}
 use Rattle.runs.specs.Forward.{Met, searched-same}
 use Rattle.runs.specs.Prepared.Files.{tables-kept}
-use Rattle.runs.specs.Runs.{meth, EntryOf}
+use Rattle.runs.specs.Runs.{meth}
 use Rattle.runs.specs.Summary.{Inside, callee, spots}
 use Rattle.runs.specs.Summary.Moves.{callee-i, callee-e, out}
 use Rattle.runs.specs.Summary.Spots.{spot, spots-sound, spots-complete, inside-now}

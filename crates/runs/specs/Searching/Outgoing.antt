@@ -15,9 +15,9 @@ use Rattle.files.specs.Basics.Lists.{put, keep, keep-i, keep-e, each, each-i, e
 use Rattle.files.specs.Basics.Order.{Ascends, ascends-append, ascends-map, ascends-keep, ascends-each, Less, span-ascends}
 use Rattle.files.specs.Basics.Tests.{any-i, any-e, eq-eqb, T-eq}
 use Rattle.files.specs.Decode.{key}
-use Rattle.files.specs.Graph.{Graph, Edge, size, node, no-edge, Flow}
+use Rattle.files.specs.Graph.{Graph, Edge, size, node, no-edge, Flow, EntryOf}
 use Rattle.files.specs.Rules.{Monitor, Event, calls}
-use Rattle.runs.specs.Runs.{meth, EntryOf, Runs}
+use Rattle.runs.specs.Runs.{meth, Runs}
 use Rattle.runs.specs.Summary.{Place, is-entry-of}
 use Rattle.runs.specs.Summary.Moves.{entry-e, entry-i}
 use Rattle.runs.specs.Summary.Trails.{Rec, before, started, internal-rec, entered-rec, passed-rec, leaving}

@@ -3,9 +3,9 @@ use mathlib.Core.Path.{refl, sym}
 use mathlib.Core.Logic.{_↔_}
 use mathlib.Core.List.{List, [], _∷_, append-nil}
 use Prim.Native.Nat.{ℕ}
-use Rattle.files.specs.Graph.{Graph}
+use Rattle.files.specs.Graph.{Graph, EntryOf}
 use Rattle.files.specs.Rules.{Monitor}
-use Rattle.runs.specs.Runs.{Config, cfg, plain, EntryOf, internal, call, return, Run, start, then}
+use Rattle.runs.specs.Runs.{Config, cfg, plain, internal, call, return, Run, start, then}
 use Rattle.runs.specs.Summary.{Inside, enter, inner, over, Trail, starts, steps, enters, passes}
 use Rattle.runs.specs.Summary.Frames.{Frames, bottom, frame, step-frames}
 

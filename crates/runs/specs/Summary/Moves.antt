@@ -7,9 +7,9 @@ use mathlib.Core.List.{List, List·Memᴰ}
 use Prim.Native.Nat.{ℕ, _<_}
 use lib.Dec.{T, eqb, eqb→eq, ltb, ltb→lt, lt→ltb}
 use Rattle.files.specs.Basics.Tests.{and-i, and-e, or-e, or-l, or-r, any, any-i, any-e, eq-eqb, and-map, or-map, any-map}
-use Rattle.files.specs.Graph.{Graph, Edge, size, node}
+use Rattle.files.specs.Graph.{Graph, Edge, size, node, EntryOf}
 use Rattle.files.specs.Rules.{calls, returns-to, Monitor}
-use Rattle.runs.specs.Runs.{meth, EntryOf, Runs}
+use Rattle.runs.specs.Runs.{meth, Runs}
 use Rattle.runs.specs.Summary.{Inside, Spot, is-entry-of, callee, moves, leads-from, along}
 
 pub no-ret : (G : Graph) (g : ℕ) (e : Edge) → Runs G g e → T (not ((node G (e .from)) .ret))

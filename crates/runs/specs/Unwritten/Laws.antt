@@ -22,7 +22,7 @@ use Rattle.maximal.specs.Model.{model}
 use Rattle.maximal.specs.Model.Filed.{model-is-flow, model-is-of}
 use Rattle.runs.specs.Composing.{gives}
 use Rattle.runs.specs.Unwritten.{both-store, both-work, first-side, second-side, both-graph, both-sides, both-said, both-first, both-last, both-checks, both-lines, composed-both}
-use Rattle.runs.specs.Watching.{Watches}
+use Rattle.runs.specs.Composing.Entries.{SidesSay, sides-say}
 use Rattle.runs.specs.Watching.Laws.{watch-cases, filed-monitor}
 
 module _ (L : Limits) (i₁ p₁ i₂ p₂ r : List ℕ) (m out store work : ℕ) where
@@ -61,9 +61,8 @@ module _ (L : Limits) (i₁ p₁ i₂ p₂ r : List ℕ) (m out store work : ℕ
   unfolding composed-both
   both-accepted = accepted-by _ _ both-match said
 
-  -- what acceptance gives: two properties, and the verdict of watching the two models joined
-  pub both-says : (s : Said) → composed-both L i₁ p₁ i₂ p₂ r m out store work ≡ says s
-      → Property (decode-property p₁) × Property (decode-property p₂) × Watches (both-graph i₁ p₁ i₂ p₂) (watch (decode-rules r)) m s
+  -- what acceptance gives: what is said of the two sides
+  pub both-says : (s : Said) → composed-both L i₁ p₁ i₂ p₂ r m out store work ≡ says s → SidesSay (first-side i₁ p₁) (second-side i₂ p₂) (watch (decode-rules r)) m s
   unfolding composed-both
   both-says s e =
       let a = verdict-is _ _ both-match said s e in
@@ -77,10 +76,8 @@ module _ (L : Limits) (i₁ p₁ i₂ p₂ r : List ℕ) (m out store work : ℕ
       let P = decode-property p₁ in
       let Q = decode-property p₂ in
       let wp = decoded-property L p₁ (b2 .0) .rows-named in
-      let wq = decoded-property L p₂ (b4 .0) .rows-named in (
-        wp,
-        wq,
-        watch-cases (both-graph i₁ p₁ i₂ p₂) (watch (decode-rules r)) m (join-flow (model I P) (model J Q) (model-is-flow I P wp) (model-is-flow J Q wq))
-            (join-labels (model I P) (model J Q) 9 (λ x k. labelled-small I (x .label) (model-is-of I P wp .calls x k)) (λ x k. labelled-small J (x .label) (model-is-of J Q wq .calls x k)))
-            (filed-monitor (decode-rules r) (decoded-rules L r (b5 .0))) s (a .0),
-      )
+      let wq = decoded-property L p₂ (b4 .0) .rows-named in
+      sides-say (first-side i₁ p₁) (second-side i₂ p₂) wp wq (watch (decode-rules r)) m
+      (watch-cases (both-graph i₁ p₁ i₂ p₂) (watch (decode-rules r)) m (join-flow (model I P) (model J Q) (model-is-flow I P wp) (model-is-flow J Q wq))
+      (join-labels (model I P) (model J Q) 9 (λ x k. labelled-small I (x .label) (model-is-of I P wp .calls x k)) (λ x k. labelled-small J (x .label) (model-is-of J Q wq .calls x k)))
+      (filed-monitor (decode-rules r) (decoded-rules L r (b5 .0)))) s (a .0)

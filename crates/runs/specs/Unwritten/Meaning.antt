@@ -3,18 +3,16 @@ use mathlib.Core.Path.{_≡_}
 use mathlib.Core.List.{List}
 use Prim.Native.Nat.{ℕ}
 use lib.ListN.{length}
-use Rattle.files.specs.Decode.{decode-property, decode-rules}
+use Rattle.files.specs.Decode.{decode-rules}
 use Rattle.files.specs.Outcome.{Outcome, answer, Lines, NoneOf, DoesBoth}
-use Rattle.files.specs.Outcome.Meaning.{Decided, Clears, Heard, itself, heard-itself, only-verdict, outcome-case}
-use Rattle.files.specs.Property.{Property}
+use Rattle.files.specs.Outcome.Meaning.{Decided, Clears, Heard, itself, heard-itself, only-verdict, outcome-case, clears-by}
 use Rattle.files.specs.Rules.{watch}
 use Rattle.files.specs.declared.record.Limits.{Limits}
 use Rattle.runs.specs.Answer.{watched-answer, verdict-enum}
-use Rattle.runs.specs.Composing.Sides.{SidesMeans, sides-tell}
-use Rattle.runs.specs.Unwritten.{first-side, second-side, both-graph, both-said, both-checks, both-lines, composed-both}
+use Rattle.runs.specs.Composing.Entries.{SidesSay}
+use Rattle.runs.specs.Composing.Returned.{SidesMeans, sides-tell, sides-numbered, sides-told}
+use Rattle.runs.specs.Unwritten.{first-side, second-side, both-said, both-checks, both-lines, composed-both}
 use Rattle.runs.specs.Unwritten.Laws.{both-refused, both-accepted, both-says}
-use Rattle.runs.specs.Watching.{Watches}
-use Rattle.runs.specs.Watching.Meaning.{verdict-tells, verdict-clears, watch-numbered, watch-told}
 use Rattle.runs.specs.declared.answers.Verdict.{Verdict}
 use Rattle.runs.specs.declared.answers.Verdict.the-variants.{Refused}
 
@@ -31,12 +29,12 @@ module _ (L : Limits) (i₁ p₁ i₂ p₂ r : List ℕ) (m out store work : ℕ
     refused = both-refused L i₁ p₁ i₂ p₂ r m out store work;
     accepted = both-accepted L i₁ p₁ i₂ p₂ r m out store work;
     only = only-verdict (both-checks L i₁ p₁ i₂ p₂ r m out store work) (both-said i₁ p₁ i₂ p₂ r m);
-    numbered = watch-numbered (both-graph i₁ p₁ i₂ p₂) (watch (decode-rules r)) m;
+    numbered = sides-numbered (first-side i₁ p₁) (second-side i₂ p₂) (watch (decode-rules r)) m;
   }
 
   -- every outcome is a case of the enum
   pub both-case : (c : Verdict) × (watched-answer c ≡ answer (composed-both L i₁ p₁ i₂ p₂ r m out store work))
-  both-case = let x = watch-told (both-graph i₁ p₁ i₂ p₂) (watch (decode-rules r)) m in outcome-case verdict-enum _ _ _ both-decided (x .0) (x .1)
+  both-case = let x = sides-told (first-side i₁ p₁) (second-side i₂ p₂) (watch (decode-rules r)) m in outcome-case verdict-enum _ _ _ both-decided (x .0) (x .1)
 
 module _ {R : Type 0} (tell : Verdict → R) (heard : Heard tell) (L : Limits) (i₁ p₁ i₂ p₂ r : List ℕ) (m : ℕ) (out store work out′ store′ work′ : List ℕ) (c : Verdict)
     (does : DoesBoth (composed-both L i₁ p₁ i₂ p₂ r m (length out) (length store) (length work)) out store work out′ store′ work′ (watched-answer c)) where
@@ -49,19 +47,15 @@ module _ {R : Type 0} (tell : Verdict → R) (heard : Heard tell) (L : Limits) (
   d : Decided o (both-said i₁ p₁ i₂ p₂ r m) ls
   d = both-decided L i₁ p₁ i₂ p₂ r m (length out) (length store) (length work)
 
-  says-so : NoneOf ls → Property (decode-property p₁) × Property (decode-property p₂) × Watches (both-graph i₁ p₁ i₂ p₂) (watch (decode-rules r)) m (both-said i₁ p₁ i₂ p₂ r m)
-  says-so t = both-says L i₁ p₁ i₂ p₂ r m (length out) (length store) (length work) (both-said i₁ p₁ i₂ p₂ r m) (d .accepted .1 t)
+  means : NoneOf ls → SidesSay (first-side i₁ p₁) (second-side i₂ p₂) (watch (decode-rules r)) m (both-said i₁ p₁ i₂ p₂ r m)
+  means t = both-says L i₁ p₁ i₂ p₂ r m (length out) (length store) (length work) (both-said i₁ p₁ i₂ p₂ r m) (d .accepted .1 t)
 
   pub both-tells : BothMeans tell L i₁ p₁ i₂ p₂ r m out store work out′ store′ work′ (tell c)
-  both-tells =
-      let mon = watch (decode-rules r) in
-      let J = both-graph i₁ p₁ i₂ p₂ in
-      record {
-        sides = sides-tell tell ls (first-side i₁ p₁) (second-side i₂ p₂) mon m out out′ (tell c) (λ t. (says-so t .0, says-so t .1))
-            (verdict-tells tell heard o (both-said i₁ p₁ i₂ p₂ r m) ls d J mon m (λ t. says-so t .2) out out′ c (does .answers));
-        clears-store = verdict-clears tell heard o (both-said i₁ p₁ i₂ p₂ r m) ls d J mon m (λ t. says-so t .2) out out′ c (does .answers) store store′ (does .store-is);
-        clears-work = verdict-clears tell heard o (both-said i₁ p₁ i₂ p₂ r m) ls d J mon m (λ t. says-so t .2) out out′ c (does .answers) work work′ (does .work-is);
-      }
+  both-tells = record {
+    sides = sides-tell tell heard o (both-said i₁ p₁ i₂ p₂ r m) ls d (first-side i₁ p₁) (second-side i₂ p₂) (watch (decode-rules r)) m means out out′ c (does .answers);
+    clears-store = clears-by verdict-enum tell heard o (both-said i₁ p₁ i₂ p₂ r m) ls d c (does .answers .answer-is) store store′ (does .store-is);
+    clears-work = clears-by verdict-enum tell heard o (both-said i₁ p₁ i₂ p₂ r m) ls d c (does .answers .answer-is) work work′ (does .work-is);
+  }
 
 -- The returned value, from what the contract states of it.
 pub both-means : (L : Limits) (i₁ p₁ i₂ p₂ r : List ℕ) (m : ℕ) (out store work out′ store′ work′ : List ℕ) (v : Verdict)

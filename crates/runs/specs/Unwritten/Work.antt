@@ -13,22 +13,21 @@ use Rattle.files.specs.Access.{InterfaceFile}
 use Rattle.files.specs.Decode.{decode-graph, decode-interface, decode-rules}
 use Rattle.files.specs.Graph.{Graph}
 use Rattle.files.specs.Join.{join}
-use Rattle.files.specs.Outcome.{Said, refuses, Answer, Answers, refused-answer, Check, whole-check, file-checks, out-check, answered, refusal-at, no-start, short, too-large}
+use Rattle.files.specs.Outcome.{Said, Outcome, refuses, Answer, Answers, refused-answer, Check, whole-check, file-checks, out-check, answered, refusal-at, no-start, short, too-large}
 use Rattle.files.specs.Outcome.Ends.{whole-refuses, answers-refused, answers-same}
 use Rattle.files.specs.Refusal.{property, rules, interface, refusal}
 use Rattle.files.specs.Rules.{watch}
 use Rattle.files.specs.Settling.{Row, Settles}
 use Rattle.files.specs.Settling.Laws.{whole-known, file-known}
-use Rattle.files.specs.Sides.{shares, unprovided}
+use Rattle.files.specs.Sides.{shares, lacks-entry, unprovided}
 use Rattle.files.specs.declared.record.Limits.{Limits}
 use Rattle.files.specs.declared.refusal.Refusal.{Refusal}
 use Rattle.files.specs.declared.settle.Settled.the-variants.{Passed}
 use Rattle.judging.specs.Judge.{Strides}
 use Rattle.maximal.specs.Modelling.{Bounded}
-use Rattle.runs.specs.Composing.{gives, compose-said, compose-last, OtherSide}
+use Rattle.runs.specs.Composing.{gives, joined-verdict, compose-said, compose-last, OtherSide}
 use Rattle.runs.specs.Composing.Work.{both-long}
 use Rattle.runs.specs.Unwritten.{both-store, both-work, first-side, second-side, both-graph, both-sides, both-said, both-first, both-last}
-use Rattle.runs.specs.Watching.{watch-said}
 
 -- both buffers are long enough for limits such as these
 pub record PairRoom (L : Limits) (store work : List ℕ) : Type 0 where
@@ -96,13 +95,20 @@ module _ (L : Limits) (i₁ p₁ i₂ p₂ r : List ℕ) (m : ℕ) (out : List �
       (whole-refuses 11 (too-large L M || (too-large L N || too-large L (both-graph i₁ p₁ i₂ p₂))) (out-check (length out) said) said (ap (λ (c : Bool). c || (too-large L N || too-large L (both-graph i₁ p₁ i₂ p₂))) b)
       ∙ ap refuses (sym e))
 
-  -- a first model within the limits is the known graph of what is left, by whatever bytes it is given
-  pub first-small : too-large L M ≡ false → (kg : List ℕ) → decode-graph kg ≡ M → (out′ : List ℕ) (a : Answer)
-      → Answers (answered (compose-last L kg i₂ p₂ r m (length out)) (compose-said kg i₂ p₂ r m)) out out′ a → Answers (answered on-size said) out out′ a
-  first-small b kg e out′ a =
-      answers-same (answered (compose-last L kg i₂ p₂ r m (length out)) (compose-said kg i₂ p₂ r m)) (answered on-size said) out out′ a
+  -- what is left once the first model stands, or whatever graph it is, barred or not
+  abbrev on-first : Bool → Graph → Outcome
+  on-first t X =
+      let s = joined-verdict L (t || lacks-entry (decode-interface i₂) N) X N (watch (decode-rules r)) m (length out) in
+      answered (whole-check 11 (too-large L N || too-large L (join X N)) (out-check (length out) s)) s
+
+  -- a first model within the limits is the known graph of what is left, by whatever bytes it is given, barred where it lacks an entry
+  pub first-small : too-large L M ≡ false → (kg : List ℕ) → decode-graph kg ≡ M → (t : Bool) → t ≡ lacks-entry (decode-interface i₁) (decode-graph kg) → (out′ : List ℕ) (a : Answer)
+      → Answers (answered (compose-last L t kg i₂ p₂ r m (length out)) (compose-said t kg i₂ p₂ r m)) out out′ a → Answers (answered on-size said) out out′ a
+  first-small b kg e t d out′ a =
+      answers-same (answered (compose-last L t kg i₂ p₂ r m (length out)) (compose-said t kg i₂ p₂ r m)) (answered on-size said) out out′ a
       (ap (λ (c : Bool). answered (whole-check 11 (c || (too-large L N || too-large L (both-graph i₁ p₁ i₂ p₂))) (out-check (length out) said)) said) b
-      ∙ ap (λ (X : Graph). answered (whole-check 11 (too-large L N || too-large L (join X N)) (out-check (length out) (watch-said (join X N) (watch (decode-rules r)) m))) (watch-said (join X N) (watch (decode-rules r)) m)) (sym e))
+      ∙ ap (λ (X : Graph). on-first (lacks-entry (decode-interface i₁) X) X) (sym e)
+      ∙ ap (λ (c : Bool). on-first c (decode-graph kg)) (sym d))
 
 -- ---- a part of a buffer, from some place on
 

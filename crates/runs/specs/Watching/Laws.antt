@@ -144,6 +144,15 @@ unfolding watch-said
 bad-said G mon m e =
     ap (λ (b : Bool). cond b (record { verdict = 1; values = []; written = [] }) (record { verdict = 2; values = length (trail G mon m) ∷ []; written = trail-bytes G mon m })) e
 
+-- watching says clean or bad
+pub watch-no-third : (G : Graph) (mon : Monitor) (m : ℕ) (s : Said) → s ≡ watch-said G mon m → s .verdict ≡ 3 → ⊥
+unfolding watch-said
+watch-no-third G mon m s e v = go (clean G mon m) e
+  where
+    go : (b : Bool) → s ≡ cond b (record { verdict = 1; values = []; written = [] }) (record { verdict = 2; values = length (trail G mon m) ∷ []; written = trail-bytes G mon m }) → ⊥
+    go true q = let w : s .verdict ≡ 1 = ap (λ (x : Said). x .verdict) q in absurd (omega arith)
+    go false q = let w : s .verdict ≡ 2 = ap (λ (x : Said). x .verdict) q in absurd (omega arith)
+
 -- whatever files are accepted, of one interface that provides what is required, with room enough, get the verdict of what they hold
 pub watch-on : (L : Limits) (i g r : List ℕ) (m out work : ℕ) (I : Interface) (G : Graph) (mon : Monitor) (s : Said)
     → refusal L interface i ≡ none → refusal L graph g ≡ none → refusal L rules r ≡ none → (NoStart m → ⊥)

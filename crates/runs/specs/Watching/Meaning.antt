@@ -3,6 +3,7 @@ use mathlib.Core.Path.{_≡_, refl, sym, ap, subst, _∙_}
 use mathlib.Core.Logic.{_↔_}
 use mathlib.Core.List.{List, [], _∷_}
 use Prim.Native.Nat.{ℕ, _*_, _<_}
+use native.Mathlib.Omega.{arith}
 use lib.Dec.{lit<}
 use lib.ListN.{length, getD, take, drop}
 use Rattle.files.specs.Decode.{decode-graph, decode-interface, decode-rules}
@@ -50,50 +51,50 @@ unfolding watch-said
 watch-told J mon m = case-cond verdict-enum (clean J mon m) _ _ Clean (Bad (length (trail J mon m))) refl refl
 
 module _ {R : Type 0} (tell : Verdict → R) (heard : Heard tell) (o : Outcome) (said : Said) (ls : Lines) (d : Decided o said ls) (J : Graph) (mon : Monitor) (m : ℕ)
-    (means : NoneOf ls → Watches J mon m said) (out out′ : List ℕ) (c : Verdict) (answers : Answers o out out′ (watched-answer c)) where
-  is-clean : (tell c ≡ tell Clean) ↔ (NoneOf ls × (said .verdict ≡ 1) × (said .values ≡ []))
+    (means : NoneOf ls → (said .verdict ≡ 3 → ⊥) → Watches J mon m said) (out out′ : List ℕ) (c : Verdict) (answers : Answers o out out′ (watched-answer c)) where
+  pub is-clean : (tell c ≡ tell Clean) ↔ (NoneOf ls × (said .verdict ≡ 1) × (said .values ≡ []))
   is-clean = said-iff verdict-enum tell heard o said ls d c (answers .answer-is) Clean 1 [] (lit< tt) refl
 
-  is-bad : (n : ℕ) → (tell c ≡ tell (Bad n)) ↔ (NoneOf ls × (said .verdict ≡ 2) × (said .values ≡ n ∷ []))
+  pub is-bad : (n : ℕ) → (tell c ≡ tell (Bad n)) ↔ (NoneOf ls × (said .verdict ≡ 2) × (said .values ≡ n ∷ []))
   is-bad n = said-iff verdict-enum tell heard o said ls d c (answers .answer-is) (Bad n) 2 (n ∷ []) (lit< tt) refl
 
   counts : (n : ℕ) → tell c ≡ tell (Bad n) → length (trail J mon m) ≡ n
-  counts n q = let a = is-bad n .0 q in ap (λ (xs : List ℕ). getD xs 0 0) (sym (means (a .0) .bad-writes (a .1) .0) ∙ a .2)
+  counts n q = let a = is-bad n .0 q in ap (λ (xs : List ℕ). getD xs 0 0) (sym (means (a .0) (λ z. omega (arith, a .1)) .bad-writes (a .1) .0) ∙ a .2)
 
-  wrote : (n : ℕ) → tell c ≡ tell (Bad n) → Wrote (6 * n) (trail-bytes J mon m) out out′
+  pub wrote : (n : ℕ) → tell c ≡ tell (Bad n) → Wrote (6 * n) (trail-bytes J mon m) out out′
   wrote n q =
       let a = is-bad n .0 q in
-      let w = means (a .0) .bad-writes (a .1) .1 in
+      let w = means (a .0) (λ z. omega (arith, a .1)) .bad-writes (a .1) .1 in
       subst (λ (ws : List ℕ). Wrote (6 * n) ws out out′) w
       (wrote-by o said ls d out out′ (answers .out-is) (a .0) (6 * n) (ap length w ∙ trail-bytes-length J mon m ∙ ap (λ (k : ℕ). 6 * k) (counts n q)))
 
-  writes : (n : ℕ) → tell c ≡ tell (Bad n) → WrittenTrail J mon m n (take (6 * n) out′)
+  pub writes : (n : ℕ) → tell c ≡ tell (Bad n) → WrittenTrail J mon m n (take (6 * n) out′)
   writes n q =
       let a = is-bad n .0 q in
       let e = ap read-trail (wrote n q .result) ∙ trail-read J mon m in
-      record { is-the-trail = e; counted = ap length e ∙ counts n q; shows = subst (TrailShows J mon m) (sym e) (means (a .0) .bad-shows (a .1)) }
+      record { is-the-trail = e; counted = ap length e ∙ counts n q; shows = subst (TrailShows J mon m) (sym e) (means (a .0) (λ z. omega (arith, a .1)) .bad-shows (a .1)) }
 
-  leaves : tell c ≡ tell Clean → out′ ≡ out
-  leaves q = let a = is-clean .0 q in wrote-by o said ls d out out′ (answers .out-is) (a .0) 0 (ap length (means (a .0) .clean-writes (a .1) .1)) .rest
+  pub leaves : tell c ≡ tell Clean → out′ ≡ out
+  leaves q = let a = is-clean .0 q in wrote-by o said ls d out out′ (answers .out-is) (a .0) 0 (ap length (means (a .0) (λ z. omega (arith, a .1)) .clean-writes (a .1) .1)) .rest
 
-  pub verdict-tells : VerdictMeans tell ls J mon m out out′ (tell c)
-  verdict-tells = record {
+  pub verdict-clears : (work work′ : List ℕ) → work′ ≡ work-after o work → Clears (λ x. tell (Refused x)) work work′ (tell c)
+  verdict-clears = clears-by verdict-enum tell heard o said ls d c (answers .answer-is)
+
+  pub verdict-tells : (NoneOf ls → Watches J mon m said) → VerdictMeans tell ls J mon m out out′ (tell c)
+  verdict-tells sure = record {
     refuses = refuses-by verdict-enum tell heard o said ls d c (answers .answer-is) out out′ (answers .out-is);
     clean-iff = (
-      λ q. let a = is-clean .0 q in (a .0, means (a .0) .clean-iff .0 (a .1)),
-      λ a. let v = means (a .0) .clean-iff .1 (a .1) in is-clean .1 (a .0, v, means (a .0) .clean-writes v .0),
+      λ q. let a = is-clean .0 q in (a .0, sure (a .0) .clean-iff .0 (a .1)),
+      λ a. let v = sure (a .0) .clean-iff .1 (a .1) in is-clean .1 (a .0, v, sure (a .0) .clean-writes v .0),
     );
     bad-iff = (
-      λ q. let a = is-bad (q .0) .0 (q .1) in (a .0, means (a .0) .bad-iff .0 (a .1)),
-      λ a. let v = means (a .0) .bad-iff .1 (a .1) in (length (trail J mon m), is-bad (length (trail J mon m)) .1 (a .0, v, means (a .0) .bad-writes v .0)),
+      λ q. let a = is-bad (q .0) .0 (q .1) in (a .0, sure (a .0) .bad-iff .0 (a .1)),
+      λ a. let v = sure (a .0) .bad-iff .1 (a .1) in (length (trail J mon m), is-bad (length (trail J mon m)) .1 (a .0, v, sure (a .0) .bad-writes v .0)),
     );
     clean-leaves = leaves;
     bad-writes = writes;
     past-unchanged = λ n q. wrote n q .rest;
   }
-
-  pub verdict-clears : (work work′ : List ℕ) → work′ ≡ work-after o work → Clears (λ x. tell (Refused x)) work work′ (tell c)
-  verdict-clears = clears-by verdict-enum tell heard o said ls d c (answers .answer-is)
 
 -- ---- watching
 
@@ -126,10 +127,10 @@ watch-tells tell heard L i g r m out work out′ work′ c does =
     let ls = watch-lines L i g r m (length out) (length work) in
     let d = watch-decided L i g r m (length out) (length work) in
     let f : NoneOf ls → Watches (decode-graph g) (watch (decode-rules r)) m said = λ t. watch-says L i g r m (length out) (length work) said (d .accepted .1 t) in
-    let v = verdict-tells tell heard o said ls d (decode-graph g) (watch (decode-rules r)) m f out out′ c (does .answers) in
+    let v = verdict-tells tell heard o said ls d (decode-graph g) (watch (decode-rules r)) m (λ t q. f t) out out′ c (does .answers) f in
     record {
       verdict = v;
-      clears = verdict-clears tell heard o said ls d (decode-graph g) (watch (decode-rules r)) m f out out′ c (does .answers) work work′ (does .work-is);
+      clears = verdict-clears tell heard o said ls d (decode-graph g) (watch (decode-rules r)) m (λ t q. f t) out out′ c (does .answers) work work′ (does .work-is);
       own-graph = λ of k q. watch-own L i g r m (length out) (length work) of k (v .refuses .refused-iff (refusal-at 9 2 k) .0 q);
     }
 

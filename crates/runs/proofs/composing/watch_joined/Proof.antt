@@ -38,7 +38,7 @@ watch-joint-requires c κs =
     let k = c .before .before .before .before .before .before .before .before .before .before .before .before .before .before in
     let a = k .args in
     let j = c .before .before .before .before .before .join-into in
-    (joint-ready (a .limits) (a .s) (a .graph .now) (second (a .s) (a .store .now)) (a .rules .now) (a .start) (a .out .now) (k .pre .0) (k .pre .1 .0) (k .pre .1 .1 .0) (a .work .now) (j .last .1 .1 .0) (omega (arith, k .pre .1 .1 .1 .1, j .kept .1 .1 .0)) (j .result) (j .ensures), omega (arith, k .pre .1 .1 .1 .0))
+    (joint-ready (a .limits) (a .barred) (a .s) (a .graph .now) (second (a .s) (a .store .now)) (a .rules .now) (a .start) (a .out .now) (k .pre .0) (k .pre .1 .0) (k .pre .1 .1 .0) (a .work .now) (j .last .1 .1 .0) (omega (arith, k .pre .1 .1 .1 .1, j .kept .1 .1 .0)) (j .result) (j .ensures), omega (arith, k .pre .1 .1 .1 .0))
 
 same-length : tie.Need-same-length
 same-length c = search needs
@@ -55,7 +55,7 @@ returns c =
     let a = k .args in
     let j = c .before .before .before .before .before .before .before .before .before .before .join-into in
     let t = c .before .before .before .before .watch-joint in
-    joint-told (a .limits) (a .s) (a .graph .now) (second (a .s) (a .store .now)) (a .rules .now) (a .start) (a .out .now) (k .pre .0) (a .work .now) (j .last .1 .1 .0) (t .last .1 .1 .1 .0) (watched-answer (t .result)) (j .result) (j .ensures) (t .ensures)
+    joint-told (a .limits) (a .barred) (a .s) (a .graph .now) (second (a .s) (a .store .now)) (a .rules .now) (a .start) (a .out .now) (k .pre .0) (a .work .now) (j .last .1 .1 .0) (t .last .1 .1 .1 .0) (watched-answer (t .result)) (j .result) (j .ensures) (t .ensures)
 
 pub watch-joined-spec : {M : Type 1} → statement M
 watch-joined-spec =

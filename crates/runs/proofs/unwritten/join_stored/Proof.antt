@@ -62,7 +62,7 @@ returns c =
     let at : ℕ = 6 * (s .first .nodes + s .first .edges) in
     let e : at + 6 * (s .second .nodes + s .second .edges) - at ≡ 6 * (s .second .nodes + s .second .edges) = omega arith in
     let j = c .before .before .join-into in
-    subst (λ (n : ℕ). JoinedInto (a .limits) s (take at l) (take n (drop at l)) (a .work .now) (j .last .1 .1 .0) (j .result)) e (j .ensures)
+    subst (λ (n : ℕ). JoinedInto (a .limits) (a .barred) s (take at l) (take n (drop at l)) (a .work .now) (j .last .1 .1 .0) (j .result)) e (j .ensures)
 
 pub join-stored-spec : {M : Type 1} → statement M
 join-stored-spec =

@@ -18,13 +18,24 @@ enum-known-refusal c = search needs
 enum-known-nodes : tie.Need-enum-known-nodes
 enum-known-nodes c = search needs
 
-watch-second-requires : tie.Need-watch-second-requires
-watch-second-requires c κs =
-    let k = c .before .before .before .before .before .before .before .before .before .before .before .before .before .before .before .before .before .before .before .before .before in
+bars-requires : tie.Need-bars-requires
+bars-requires c κs =
+    let k = c .before .before .before .before .before .before .before .before .before .before .before .before .before .before .before .before .before .before .before in
     let a = k .args in
     let room = k .pre .1 .1 .1 in
-    let x = c .before .before .before .before .before .before .before .before .before .before .model-within in
-    let d = c .before .before .before .before .nodes .given in (
+    let x = c .before .before .before .before .before .before .before .before .model-within in
+    let d = c .before .before .nodes .given in
+    let h = model-held (a .limits) (a .interface1 .now) (a .property1 .now) (a .store .now) (a .work .now) (k .pre .0) (room .strides) (omega (arith, room .store-long)) (room .work-long)
+    (x .last .1 .1 .0) (x .last .1 .1 .1 .0) (x .result) (x .ensures) (d .0 .0) (d .0 .1 .0) (d .1) in
+    (record { limits = a .limits; accepted = k .pre .0 .interface-within }, (h, omega (arith, h .few-nodes, h .few-edges, room .store-long, x .kept .1 .1 .0)))
+
+watch-second-requires : tie.Need-watch-second-requires
+watch-second-requires c κs =
+    let k = c .before .before .before .before .before .before .before .before .before .before .before .before .before .before .before .before .before .before .before .before .before .before .before in
+    let a = k .args in
+    let room = k .pre .1 .1 .1 in
+    let x = c .before .before .before .before .before .before .before .before .before .before .before .before .model-within in
+    let d = c .before .before .before .before .before .before .nodes .given in (
       model-held (a .limits) (a .interface1 .now) (a .property1 .now) (a .store .now) (a .work .now) (k .pre .0) (room .strides) (omega (arith, room .store-long)) (room .work-long) (x .last .1 .1 .0) (x .last .1 .1 .1 .0) (x .result) (x .ensures) (d .0 .0) (d .0 .1 .0) (d .1),
       (k .pre .1 .0, (k .pre .1 .1 .0, record { strides = room .strides; bounded = room .bounded; store-long = omega (arith, room .store-long, x .kept .1 .1 .0); work-long = omega (arith, room .work-long, x .kept .1 .1 .1 .0) })),
     )
@@ -56,15 +67,15 @@ same-length-5 c = search needs
 
 returns-2 : tie.Need-returns-2
 returns-2 c =
-    let k = c .before .before .before .before .before .before .before .before .before .before .before .before .before .before .before .before .before .before .before .before .before .before .before .before .before .before .before .before in
+    let k = c .before .before .before .before .before .before .before .before .before .before .before .before .before .before .before .before .before .before .before .before .before .before .before .before .before .before .before .before .before .before in
     let a = k .args in
     let room = k .pre .1 .1 .1 in
-    let x = c .before .before .before .before .before .before .before .before .before .before .before .before .before .before .before .before .before .model-within in
-    let d = c .before .before .before .before .before .before .before .before .before .before .before .nodes .given in
+    let x = c .before .before .before .before .before .before .before .before .before .before .before .before .before .before .before .before .before .before .before .model-within in
+    let d = c .before .before .before .before .before .before .before .before .before .before .before .before .before .nodes .given in
     let t = c .before .before .before .before .before .before .watch-second in
     first-small (a .limits) (a .interface1 .now) (a .property1 .now) (a .interface2 .now) (a .property2 .now) (a .rules .now) (a .start) (a .out .now)
     (model-within (a .limits) (a .interface1 .now) (a .property1 .now) (a .store .now) (a .work .now) (k .pre .0) (room .strides) (omega (arith, room .store-long)) (room .work-long) (x .last .1 .1 .0) (x .last .1 .1 .1 .0) (x .result) (x .ensures) (d .0 .0) (d .0 .1 .0) (d .1)) (take (6 * (d .0 .0 + d .0 .1 .0)) (x .last .1 .1 .0))
-    (model-decoded (a .limits) (a .interface1 .now) (a .property1 .now) (a .store .now) (a .work .now) (k .pre .0) (room .strides) (omega (arith, room .store-long)) (room .work-long) (x .last .1 .1 .0) (x .last .1 .1 .1 .0) (x .result) (x .ensures) (d .0 .0) (d .0 .1 .0) (d .1)) (t .last .1 .1 .1 .1 .0) (watched-answer (t .result)) (t .ensures)
+    (model-decoded (a .limits) (a .interface1 .now) (a .property1 .now) (a .store .now) (a .work .now) (k .pre .0) (room .strides) (omega (arith, room .store-long)) (room .work-long) (x .last .1 .1 .0) (x .last .1 .1 .1 .0) (x .result) (x .ensures) (d .0 .0) (d .0 .1 .0) (d .1)) (c .before .before .before .before .before .before .before .before .before .before .bars .result) (c .before .before .before .before .before .before .before .before .before .before .bars .ensures) (t .last .1 .1 .1 .1 .0) (watched-answer (t .result)) (t .ensures)
 
 pub watch-models-spec : {M : Type 1} → statement M
 watch-models-spec =
@@ -73,6 +84,7 @@ watch-models-spec =
     model-within-requires
     enum-known-refusal
     enum-known-nodes
+    bars-requires
     watch-second-requires
     same-length
     same-length-2

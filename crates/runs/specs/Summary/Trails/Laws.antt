@@ -11,9 +11,9 @@ use Rattle.files.specs.Basics.Lists.{put, keep, keep-i, keep-e, each, each-i, e
 use Rattle.files.specs.Basics.Shortest.{To, there, by, ways, to-ways, short-way, best-to, best-fewest, best-first}
 use Rattle.files.specs.Basics.Tests.{any, any-i, and-i, and-e, eq-eqb}
 use Rattle.files.specs.Decode.Listed.{decode-each}
-use Rattle.files.specs.Graph.{Graph, Edge, size, node, Flow}
+use Rattle.files.specs.Graph.{Graph, Edge, size, node, Flow, EntryOf}
 use Rattle.files.specs.Rules.{Event, calls, Monitor}
-use Rattle.runs.specs.Runs.{meth, EntryOf, Runs, Bad}
+use Rattle.runs.specs.Runs.{meth, Runs, Bad}
 use Rattle.runs.specs.Summary.{Trail, starts, steps, enters, passes, Place, is-entry-of, callee, spots, all-places}
 use Rattle.runs.specs.Summary.Exact.{exact}
 use Rattle.runs.specs.Summary.Moves.{passes-e, callee-i, no-ret, entry-e, entry-i, into-is, out}
