@@ -63,19 +63,21 @@ struct tintboulder_answer tintboulder_watch(const uint8_t *interface, size_t int
                                             size_t rules_length, uint8_t start, uint8_t *out, size_t out_length, uint8_t *work, size_t work_length);
 
 /* The composed verdict, for a side that is not written yet: is every run clean, from the start method, of the known graph joined with a flow graph of the other
-   interface that satisfies the property, whichever and however large it is? Verdict 1: clean. Verdict 2: bad; first is the number of records of the trail, which is
-   written to out, 6 bytes each: a run of the known graph joined with the maximal model, the known graph's nodes first. Interfaces, graph, property and rules are
-   refused as files 1 to 5, and a start that is not 1 to 8 by 3 with file 0 and record 0. store and work are both scratch as work above, of at least
-   tintboulder_work(8) and tintboulder_work(7) bytes. */
+   interface that satisfies the property and has an entry for each provided method, whichever and however large it is? Verdict 1: clean. Verdict 2: bad; first is the
+   number of records of the trail, which is written to out, 6 bytes each: a run of the known graph joined with the maximal model, the known graph's nodes first.
+   Verdict 3: impossible: no flow graph of the other interface with an entry for each provided method satisfies the property; nothing is written. Interfaces, graph,
+   property and rules are refused as files 1 to 5, a start that is not 1 to 8 by 3, and a known graph that lacks an entry for a method that its interface provides by
+   16, between 9 and 10, both with file 0 and record 0. store and work are both scratch as work above, of at least tintboulder_work(8) and tintboulder_work(7) bytes. */
 struct tintboulder_answer tintboulder_compose(const uint8_t *known_interface, size_t known_interface_length, const uint8_t *known_graph, size_t known_graph_length,
                                               const uint8_t *other_interface, size_t other_interface_length, const uint8_t *property, size_t property_length,
                                               const uint8_t *rules, size_t rules_length, uint8_t start, uint8_t *out, size_t out_length, uint8_t *store,
                                               size_t store_length, uint8_t *work, size_t work_length);
 
 /* The composed verdict for two sides that are not written yet: is every run clean, from the start method, of two flow graphs joined, of which each is of its side's
-   interface and satisfies its property, whichever and however large they are? Verdict 1: clean. Verdict 2: bad; first is the number of records of the trail, which is
-   written to out, 6 bytes each: a run of the two maximal models joined, the first side's nodes first. Interfaces, properties and rules are refused as files 1 to 5, and
-   a start that is not 1 to 8 by 3 with file 0 and record 0. store and work are both scratch as work above, of at least
+   interface, satisfies its property and has an entry for each provided method, whichever and however large they are? Verdict 1: clean. Verdict 2: bad; first is the
+   number of records of the trail, which is written to out, 6 bytes each: a run of the two maximal models joined, the first side's nodes first. Verdict 3: impossible: of
+   one of the sides, no flow graph of its interface with an entry for each provided method satisfies its property; nothing is written. Interfaces, properties and rules
+   are refused as files 1 to 5, and a start that is not 1 to 8 by 3 with file 0 and record 0. store and work are both scratch as work above, of at least
    tintboulder_work(12) and tintboulder_work(11) bytes. */
 struct tintboulder_answer tintboulder_compose_both(const uint8_t *interface1, size_t interface1_length, const uint8_t *property1, size_t property1_length,
                                                    const uint8_t *interface2, size_t interface2_length, const uint8_t *property2, size_t property2_length,

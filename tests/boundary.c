@@ -191,9 +191,10 @@ static int leaves(struct tintboulder_answer a, struct lent lent, uint32_t verdic
         && cleared(whole_work, lent.work, number);
 }
 
-/* No call of method 1, now or after internal steps; and no demand at all. */
+/* No call of method 1, now or after internal steps; no demand at all; and one that nothing meets. */
 static const uint8_t no_call[] = {3, 7, 1, 2, 0, 0, 3, 9, 1, 3, 0, 0, 3, 9, 0, 0, 0, 0, 3, 2, 0, 0, 0, 0};
 static const uint8_t anything[] = {3, 1, 0, 0, 0, 0};
+static const uint8_t nothing[] = {3, 2, 0, 0, 0, 0};
 
 /* The composed verdict of method 1, which calls method 2 again and again, where method 2 is not written and its call of 1 is bad. */
 static int composes(const uint8_t *property, size_t length, uint8_t start, struct lent lent, uint32_t verdict, uint32_t number)
@@ -219,6 +220,28 @@ static int wrong_composing(void)
         + !composes(anything, n, 1, short_work, 0, 13) + (tintboulder_work(7) != whole.work) + (tintboulder_work(8) != whole.store);
 }
 
+/* The composed verdict of method 1, which calls 2 and returns, with this known interface; method 2 is not written, its call is bad, and nothing meets its property. */
+static int composes_nothing(const uint8_t *known, struct lent lent, uint32_t verdict, uint32_t number)
+{
+    static const uint8_t other[] = {5, 2, 0, 0, 0, 0};
+    static const uint8_t rules[] = {4, 0, 1, 1, 2, 7};
+    struct tintboulder_answer a;
+    fill_all();
+    a = tintboulder_compose(known, 6, graph1, sizeof graph1, other, sizeof other, nothing, sizeof nothing, rules, sizeof rules, 1, whole_out, lent.out, whole_store,
+                            lent.store, whole_work, lent.work);
+    return leaves(a, lent, verdict, number, nothing, 0);
+}
+
+/* Impossible, also without any output; 16 where the known interface also provides method 3, before 10, for a method that nobody provides; and 13 before both. */
+static int wrong_entries(void)
+{
+    static const uint8_t known[] = {5, 1, 2, 0, 0, 0}, lacking[] = {5, 5, 2, 0, 0, 0}, lacking_open[] = {5, 5, 130, 0, 0, 0}, open[] = {5, 1, 130, 0, 0, 0};
+    static const struct lent whole = {20, 46949, 103456}, no_out = {0, 46949, 103456}, short_store = {20, 46948, 103456}, short_work = {20, 46949, 103455};
+    return !composes_nothing(known, whole, 3, 0) + !composes_nothing(known, no_out, 3, 0) + !composes_nothing(lacking, whole, 0, 16)
+        + !composes_nothing(lacking, no_out, 0, 16) + !composes_nothing(lacking_open, whole, 0, 16) + !composes_nothing(open, whole, 0, 10)
+        + !composes_nothing(known, short_store, 0, 13) + !composes_nothing(lacking, short_work, 0, 13);
+}
+
 /* The composed verdict of method 1, which may call 2, and of method 2, which may call 1, where neither is written and a call of 1 by 2 is bad. */
 static int composes_both(const uint8_t *property2, size_t length, uint8_t start, struct lent lent, uint32_t verdict, uint32_t number)
 {
@@ -242,6 +265,22 @@ static int wrong_composing_both(void)
         + !composes_both(anything, n, 2, whole, 2, 0) + !composes_both(anything, n, 9, whole, 0, 3) + !composes_both(anything, n, 3, whole, 0, 10)
         + !composes_both(anything, n, 2, short_out, 0, 12) + !composes_both(anything, n, 2, short_store, 0, 13) + !composes_both(anything, n, 2, short_work, 0, 13)
         + !composes_both(anything, 0, 2, short_work, 0, 13) + (tintboulder_work(11) != whole.work) + (tintboulder_work(12) != whole.store);
+}
+
+/* Impossible by the first property, by the second and by both, from either method. */
+static int wrong_entries_of_both(void)
+{
+    static const struct lent lent = {0, 52224, 103456};
+    static const uint8_t *const first[] = {nothing, anything, nothing}, *const second[] = {anything, nothing, nothing};
+    int wrong = 0, i;
+    for (i = 0; i < 6; i++) {
+        struct tintboulder_answer a;
+        fill_all();
+        a = tintboulder_compose_both(interface1, 6, first[i / 2], 6, interface2, 6, second[i / 2], 6, NULL, 0, (uint8_t)(1 + i % 2), whole_out, lent.out, whole_store,
+                                     lent.store, whole_work, lent.work);
+        wrong += !leaves(a, lent, 3, 0, nothing, 0);
+    }
+    return wrong;
 }
 
 /* Shared methods, and the files of a second side that are refused: the answer has the file's position. */
@@ -336,7 +375,9 @@ int main(void)
     wrong += wrong_showing();
     wrong += wrong_watching();
     wrong += wrong_composing();
+    wrong += wrong_entries();
     wrong += wrong_composing_both();
+    wrong += wrong_entries_of_both();
     wrong += wrong_sides();
     wrong += wrong_assembling();
     wrong += wrong_judging_deliveries();

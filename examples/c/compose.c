@@ -1,5 +1,5 @@
-/* The composed verdict from C: is every run clean, whatever module is written against the property? Three calls: a property that allows everything, one that forbids
-   the call that is bad, and one that is refused because it names a row that it does not have.
+/* The composed verdict from C: is every run clean, whatever module is written against the property? Four calls: a property that allows everything, one that forbids
+   the call that is bad, one that no module meets, and one that is refused because it names a row that it does not have.
 
        cc -std=c99 -o compose examples/c/compose.c target/staticlib/libexports.a
  */
@@ -40,6 +40,7 @@ static const uint8_t other_interface[] = {5, 2, 1, 0, 0, 0};
 static const uint8_t rule_bytes[] = {4, 0, 1, 2, 1, 7};
 
 static const uint8_t anything[] = {3, 1, 0, 0, 0, 0};
+static const uint8_t nothing[] = {3, 2, 0, 0, 0, 0};
 static const uint8_t no_call[] = {
     3, 7, 1, 2, 0, 0, /* row 0, the root: rows 1 and 2 */
     3, 9, 1, 3, 0, 0, /* row 1: after every call of method 1, row 3 */
@@ -75,9 +76,15 @@ static void print_answer(const char *property, struct tintboulder_answer answer,
     case 1:
         printf("clean with every module that conforms\n");
         break;
-    default:
+    case 2:
         printf("bad with a module that conforms, by a trail of %" PRIu64 " records\n", answer.first);
         print_trail(out, answer.first);
+        break;
+    case 3:
+        printf("impossible: no module conforms\n");
+        break;
+    default:
+        printf("no verdict of this call\n");
     }
 }
 
@@ -86,7 +93,10 @@ int main(void)
     static const struct {
         const char *name;
         struct file file;
-    } properties[] = {{"anything", FILE_OF(anything)}, {"no call of method 1", FILE_OF(no_call)}, {"a row that is not there", FILE_OF(missing_row)}};
+    } properties[] = {{"anything", FILE_OF(anything)},
+                      {"no call of method 1", FILE_OF(no_call)},
+                      {"nothing", FILE_OF(nothing)},
+                      {"a row that is not there", FILE_OF(missing_row)}};
     static const struct file rules = FILE_OF(rule_bytes);
     const uint8_t start = 1;
     struct buffers lent;

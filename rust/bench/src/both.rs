@@ -1,6 +1,6 @@
 //! What the composed verdict on two unwritten sides is timed on.
 
-use crate::compose::{composed, AFTER_2, P11_RULES, TRUE};
+use crate::compose::{composed, AFTER_2, FALSE, P11_RULES, TRUE};
 use crate::growth::{series, Series};
 use crate::inputs::Timed;
 use crate::model::{interface_and_property, DEAR, PAST_STATES};
@@ -12,7 +12,8 @@ pub fn inputs() -> Vec<Timed> {
     let all_bad = all_rules(|state, _| state + 1);
     let never_bad = all_rules(|state, event| (state + event) % 7);
     let typical = [interface(7, 15), AFTER_2.concat(), interface(8, 7), AFTER_2.concat()];
-    let p11 = [interface(1, 2), TRUE.to_vec(), interface(2, 0), TRUE.to_vec()];
+    let [p11, never] =
+        [TRUE, FALSE].map(|demand| [interface(1, 2), TRUE.into(), interface(2, 0), demand.into()]);
     let of_true = halves(255, TRUE.to_vec(), TRUE.to_vec());
     // The interface has all methods but 5.
     let [past, large] = interface_and_property(PAST_STATES);
@@ -21,6 +22,7 @@ pub fn inputs() -> Vec<Timed> {
     let by_second = [one, TRUE.to_vec(), past, large];
     vec![
         both("P11, both its methods not written", p11, &P11_RULES),
+        both("the same, the callee unsatisfiable", never, &P11_RULES),
         both("18 + 6 nodes, 212 edges, 8 rules", typical, &TYPICAL_RULES.concat()),
         both("true and true, 576 edges, clean", of_true, &never_bad),
         both("128 + 128 nodes, 4,096 edges", chains(15, 15), &all_bad),

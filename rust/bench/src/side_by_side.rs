@@ -69,7 +69,7 @@ fn agreed(call: &Call, input: &Input) -> String {
     assert!((answer, out) == (expected, written), "the implementations differ");
     match answer.verdict {
         0 => format!("refused by {}", answer.number),
-        1 => "verdict 1".to_string(),
+        verdict @ (1 | 3) => format!("verdict {verdict}"),
         verdict => format!("verdict {verdict}, value {}", answer.first),
     }
 }

@@ -60,3 +60,66 @@ fn input(random: &mut Random, (mut files, start): Composition, sides: [Kind; 2])
     }
     Input { files: files.into(), number: start.into() }
 }
+
+#[cfg(test)]
+mod tests {
+    use super::{Call, Input, BOTH, CALL};
+
+    const TRUE: [u8; 6] = [3, 1, 0, 0, 0, 0];
+    const FALSE: [u8; 6] = [3, 2, 0, 0, 0, 0];
+
+    fn interface(provided: u8) -> Vec<u8> {
+        vec![5, provided, 0, 0, 0, 0]
+    }
+
+    /// Both implementations say this verdict and number, from method 1 and without rules.
+    fn assert_said(call: &Call, sides: [Vec<u8>; 4], said: (u32, u32)) {
+        let files = [&sides[..], &[Vec::new()]].concat();
+        let input = Input { files, number: 1 };
+        let mut work: Vec<Vec<u8>> = call.rooms.iter().map(|room| vec![7; room()]).collect();
+        let mut work: Vec<&mut [u8]> = work.iter_mut().map(Vec::as_mut_slice).collect();
+        let proved = (call.proved)(&input, &mut [], &mut work);
+        assert_eq!((proved.verdict, proved.number), said, "{}", input.listed());
+        assert_eq!(call.result(&input).0, proved, "{}", input.listed());
+    }
+
+    /// A node for each of these methods, all of them entries but those of the last set.
+    fn graph(methods: u8, not_entered: u8) -> Vec<u8> {
+        let is_in = |set: u8, method: u8| set >> (method - 1) & 1 == 1;
+        let node = |method| [1, method, 0, u8::from(!is_in(not_entered, method)), 0, 0];
+        (1..=8).filter(|&method| is_in(methods, method)).flat_map(node).collect()
+    }
+
+    #[test]
+    fn every_known_method_needs_its_entry() {
+        for known in 0..=u8::MAX {
+            for (property, possible) in [(TRUE, true), (FALSE, known == u8::MAX)] {
+                let with = |graph, said| {
+                    let sides = [interface(known), graph, interface(!known), property.into()];
+                    assert_said(&CALL, sides, said);
+                };
+                with(graph(known, 0), if possible { (1, 0) } else { (3, 0) });
+                let bits = (0..8).map(|bit| 1 << bit).filter(|bit| known & bit != 0);
+                bits.for_each(|bit| with(graph(known, bit), (0, 16)));
+            }
+        }
+    }
+
+    #[test]
+    fn every_unwritten_method_needs_its_entry() {
+        for provided in 0..=u8::MAX {
+            for method in 1..=8 {
+                // In this method only.
+                let named = [interface(provided), vec![3, 3, method, 0, 0, 0]];
+                let other = [interface(!provided), TRUE.into()];
+                let possible = provided & !(1 << (method - 1)) == 0;
+                let said = if possible { (1, 0) } else { (3, 0) };
+                for [first, second] in [[&named, &other], [&other, &named]] {
+                    let [interface1, property1] = first.clone();
+                    let [interface2, property2] = second.clone();
+                    assert_said(&BOTH, [interface1, property1, interface2, property2], said);
+                }
+            }
+        }
+    }
+}

@@ -4,7 +4,7 @@ use generator::conforming::Conforming;
 use generator::generate::Random;
 use second::files::{check_graph, check_interface, check_property};
 use second::graph::Graph;
-use second::record::{Interface, Limits, Row};
+use second::record::{Interface, Limits, Node, Row, METHODS};
 use second::unlimited::satisfies;
 use second::Outcome;
 use std::borrow::Cow;
@@ -47,6 +47,20 @@ impl<'a> Unwritten<'a> {
         }
     }
 
+    /// A provided method of which no entry satisfies the property, whatever graph it is in. The model is not asked: without edges every box holds, so that an entry that
+    /// satisfies it in some graph also does alone.
+    pub fn unentered(&self) -> Option<usize> {
+        let stands = |method, returns| {
+            self.holds(&Graph::new(vec![Node { method, returns, entry: true }], Vec::new()))
+        };
+        provided(self.interface).find(|&method| !stands(method, false) && !stands(method, true))
+    }
+
+    /// Whether each provided method has an entry in the graph.
+    pub fn loads(&self, graph: &Graph) -> bool {
+        missing_entry(self.interface, graph).is_none()
+    }
+
     fn holds(&self, graph: &Graph) -> bool {
         satisfies(graph, &self.rows)
     }
@@ -63,4 +77,14 @@ impl<'a> Unwritten<'a> {
         }
         Ok(is_file)
     }
+}
+
+fn provided(interface: Interface) -> impl Iterator<Item = usize> {
+    (1..=METHODS).filter(move |&method| interface.provides(method))
+}
+
+/// A method that the interface provides and the graph has no entry of.
+pub fn missing_entry(interface: Interface, graph: &Graph) -> Option<usize> {
+    let entered = |method| graph.entries().any(|node| graph.nodes[node].method == method);
+    provided(interface).find(|&method| !entered(method))
 }

@@ -1,6 +1,6 @@
 //! Runs both implementations on random files and reports the first difference as a minimal case: `compare SEED COUNT`, COUNT files of each kind and COUNT cases of
-//! each call, or twice as many where they are cheap. What a composed verdict says is also checked on runs and on random graphs that conform, or pairs of them, a property with a box
-//! over every label is also judged with nine boxes in its place, and deliveries are also held against those of them that stand.
+//! each call, or twice as many where they are cheap. What a composed verdict says is also checked on runs, on random graphs that conform, or pairs of them, and on lone
+//! entries, a property with a box over every label is also judged with nine boxes in its place, and deliveries are also held against those of them that stand.
 
 use std::env;
 use std::process::ExitCode;

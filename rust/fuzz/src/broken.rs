@@ -24,17 +24,22 @@ const COPY: Target = Target {
 };
 
 fn copy(input: &Input, out: &mut [u8], work: &mut [&mut [u8]]) -> Answer {
-    if work[0].len() < WORK {
-        return refused(13, 0, 0);
-    }
-    work[0].fill(0);
     let file = &input.files[0];
-    if file.len() != GRAPH.len() {
-        return refused(1, 1, 0);
+    if let Some(refusal) = refusal(file, work) {
+        return refusal;
     }
     let Some(out) = out.get_mut(..file.len()) else { return refused(12, 0, 0) };
     out.copy_from_slice(file);
     answer(1, 0, [1, 1, 0, 0])
+}
+
+/// By 13 or 1, after which the work buffer is as it should be.
+fn refusal(file: &[u8], work: &mut [&mut [u8]]) -> Option<Answer> {
+    if work[0].len() < WORK {
+        return Some(refused(13, 0, 0));
+    }
+    work[0].fill(0);
+    (file.len() != GRAPH.len()).then(|| refused(1, 1, 0))
 }
 
 fn refused(number: u32, file: u64, record: u64) -> Answer {
@@ -47,7 +52,10 @@ fn answer(verdict: u32, number: u32, [first, second, third, fourth]: [u64; 4]) -
 
 /// The first promise that the call breaks, with every length from nothing to past the need, on a file that is copied and on one that is refused.
 fn noticed(call: Call) -> Option<String> {
-    let target = Target { call, ..COPY };
+    noticed_of(Target { call, ..COPY })
+}
+
+fn noticed_of(target: Target) -> Option<String> {
     let files = [&GRAPH[..], &GRAPH[..11]];
     let lengths = (0..16).flat_map(|out| (0..10).map(move |work| (out, work)));
     let mut cases = files.into_iter().flat_map(|file| {
@@ -92,6 +100,26 @@ fn answers_that_are_not_well_formed() {
 }
 
 #[test]
+fn verdicts_that_take_the_place_of_impossible() {
+    let said_by = |call: Call| {
+        let composed = Target { values: &[0, 1, 0], writes: Writes::Records, call, ..COPY };
+        noticed_of(composed).unwrap_or_default()
+    };
+    assert_eq!(said_by(|input, _, work| of_a_graph(input, work, 3, 0)), "");
+    let bad = said_by(|input, _, work| of_a_graph(input, work, 2, 0));
+    assert!(bad.contains("explained by no record"), "{bad}");
+    let counted = said_by(|input, _, work| of_a_graph(input, work, 3, 1));
+    assert!(counted.contains("not named"), "{counted}");
+    let unknown = said_by(|input, _, work| of_a_graph(input, work, 4, 0));
+    assert!(unknown.contains("no such verdict"), "{unknown}");
+}
+
+/// A verdict with one value that writes nothing, unless the file is refused.
+fn of_a_graph(input: &Input, work: &mut [&mut [u8]], verdict: u32, value: u64) -> Answer {
+    refusal(&input.files[0], work).unwrap_or_else(|| answer(verdict, 0, [value, 0, 0, 0]))
+}
+
+#[test]
 fn refusals_without_their_place() {
     let places: [(&str, Call); 4] = [
         ("a file", |input, out, work| placed(copy(input, out, work), 2, 0)),
@@ -104,6 +132,10 @@ fn refusals_without_their_place() {
     }
     assert_noticed("a file", |input, out, work| match copy(input, out, work) {
         Answer { number: 12, .. } => refused(12, 1, 0),
+        answer => answer,
+    });
+    assert_noticed("a file", |input, out, work| match copy(input, out, work) {
+        Answer { number: 1, .. } => refused(16, 1, 0),
         answer => answer,
     });
     assert_noticed("a record", |input, out, work| match copy(input, out, work) {

@@ -71,7 +71,8 @@ fn kept(target: &Target, case: &Case) -> Checked<Seen> {
     Ok(seen)
 }
 
-/// The verdict is one of the call's, values that it does not name are 0, and a refusal is by 13 just when a work buffer is short.
+/// The verdict is one of the call's, values that it does not name are 0, there is a record where records explain the verdict, and a refusal is by 13 just when a work
+/// buffer is short.
 fn well_formed(target: &Target, case: &Case, answer: Answer) -> Checked {
     let Answer { verdict, number, first, second, third, fourth } = answer;
     let named = match verdict {
@@ -81,6 +82,9 @@ fn well_formed(target: &Target, case: &Case, answer: Answer) -> Checked {
     };
     if [first, second, third, fourth][named..].iter().any(|&value| value != 0) {
         return Err("a value that is not named is not 0".into());
+    }
+    if target.writes == Writes::Records && (verdict, first) == (2, 0) {
+        return Err("a verdict is explained by no record".into());
     }
     let short = case.work.iter().zip(target.rooms).any(|(&length, room)| length < room());
     if short != (number == SHORT_WORK) {
@@ -100,7 +104,9 @@ fn placed(case: &Case, answer: Answer) -> Checked {
         Length | Limit | Empty => (true, false),
         Kind | Order | BetweenMethods => (true, true),
         Range | PastTheLast | NotOfInterface => (file != 0, file != 0),
-        NotProvided | TooLarge | ShortOutput | ShortWork | RepeatedRevision => (false, false),
+        NotProvided | TooLarge | ShortOutput | ShortWork | RepeatedRevision | NoEntry => {
+            (false, false)
+        }
     };
     let named = file.checked_sub(1).map(|before| case.input.files.get(before as usize));
     let records = match (named, of_a_file) {

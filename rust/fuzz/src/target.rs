@@ -27,7 +27,7 @@ pub enum Writes {
     Nothing,
     /// One record.
     Record,
-    /// As many records as verdict 2 says.
+    /// As many records as verdict 2 says, and nothing by the others.
     Records,
     /// A graph file with as many nodes and edges as the answer says.
     Graph,
@@ -51,10 +51,10 @@ pub const TARGETS: [Target; 14] = [
     of(join::CALL, &[4], Writes::Graph),
     of(show::CALL, &[0], Writes::Record),
     of(watch::CALL, &[0, 1], Writes::Records),
-    of(compose::CALL, &[0, 1], Writes::Records),
+    of(compose::CALL, &[0, 1, 0], Writes::Records),
     of(deliveries::ASSEMBLE, &[2], Writes::Graph),
     of(deliveries::JUDGE, &[0, 1], Writes::Records),
-    of(compose::BOTH, &[0, 1], Writes::Records),
+    of(compose::BOTH, &[0, 1, 0], Writes::Records),
 ];
 
 const fn of(call: Call, values: &'static [usize], writes: Writes) -> Target {
@@ -81,8 +81,8 @@ impl Target {
         match self.writes {
             Writes::Nothing => 0,
             Writes::Record => record,
-            Writes::Records if answer.verdict == 1 => 0,
-            Writes::Records => answer.first.saturating_mul(record),
+            Writes::Records if answer.verdict == 2 => answer.first.saturating_mul(record),
+            Writes::Records => 0,
             Writes::Graph => answer.first.saturating_add(answer.second).saturating_mul(record),
             Writes::Relation => CHECK_GRAPH.answer(&input.files[0]).first * LINE,
         }

@@ -4,11 +4,11 @@
 use crate::generate::{
     graph_of, interface_of, property, rule_file, scattered, Key, Random, Size, LIMITS,
 };
-use crate::graphs::{labels_of, members};
-use crate::properties::{any_rows, chain_of_boxes, guarded, widened};
+use crate::graphs::{labels_of, members, node};
+use crate::properties::{any_rows, chain_of_boxes, guarded, narrowed, widened};
 use crate::runs::{CALL, RETURN_TO};
 use crate::sides::foreign;
-use second::record::{kind, Interface, BAD, METHODS, RECORD_LEN};
+use second::record::{kind, Interface, Record, BAD, METHODS, RECORD_LEN};
 use std::collections::{BTreeMap, BTreeSet};
 
 /// Known interface and graph, other interface, property and rules, and the start method; or a property in place of the graph.
@@ -86,8 +86,19 @@ fn interfaces(random: &mut Random, count: usize) -> [Interface; 2] {
     sides
 }
 
-/// One graph in 32 may not be of its interface, and one in 128 is about as large as a graph may be. In most graphs every method that has a node has an entry.
+/// One graph in 32 may not be of its interface, and one in 128 is about as large as a graph may be. In one of 32 a provided method is left without an entry, and in one of
+/// 32 they stand as they come; in all others every provided method has one.
 fn known_graph(random: &mut Random, interface: Interface) -> Vec<u8> {
+    let graph = any_known_graph(random, interface);
+    match (random.below(32), &members(interface.provided)[..]) {
+        (0, methods @ [_, ..]) => without_entry(graph, random.pick(methods)),
+        (1, _) => graph,
+        (_, methods) => methods.iter().fold(graph, |graph, &method| with_entry(graph, method)),
+    }
+}
+
+/// In most graphs every method that has a node has an entry.
+fn any_known_graph(random: &mut Random, interface: Interface) -> Vec<u8> {
     let [methods, calls] = foreign(random, 32);
     let [provided, required] = [interface.provided | methods, interface.required | calls];
     if provided == 0 || random.once_in(8) {
@@ -114,7 +125,34 @@ fn enter_first(graph: &mut [u8]) {
     }
 }
 
-/// One property in 64 is large, where most models pass the limits, and one in four is of any rows.
+/// No node of the method is an entry.
+fn without_entry(mut graph: Vec<u8>, method: u8) -> Vec<u8> {
+    let (records, _) = graph.as_chunks_mut::<RECORD_LEN>();
+    for record in records.iter_mut().filter(|record| record[..2] == [kind::NODE, method]) {
+        record[3] = 0;
+    }
+    graph
+}
+
+/// A method without an entry gets one: its last node, or one more.
+fn with_entry(mut graph: Vec<u8>, method: u8) -> Vec<u8> {
+    let (records, _) = graph.as_chunks_mut::<RECORD_LEN>();
+    let nodes = records.partition_point(|record| record[0] == kind::NODE);
+    let is_entry = |record: &Record| record[1] == method && record[3] == 1;
+    if records[..nodes].iter().any(is_entry) {
+        return graph;
+    }
+    match records[..nodes].iter_mut().rfind(|record| record[1] == method) {
+        Some(last) => last[3] = 1,
+        None => {
+            let end = RECORD_LEN * nodes;
+            graph.splice(end..end, node(method, true, true));
+        }
+    }
+    graph
+}
+
+/// One property in 64 is large, where most models pass the limits, one in 32 also demands something of the entries themselves, and one in four is of any rows.
 fn other_property(random: &mut Random, interface: Interface, forbidden: u8) -> Vec<u8> {
     match random.below(64) {
         0 => property(random, Size::Large),
@@ -122,6 +160,10 @@ fn other_property(random: &mut Random, interface: Interface, forbidden: u8) -> V
             let rows = 1 + random.below(4);
             let records = any_rows(random, rows);
             widened(random, records)
+        }
+        17 | 18 => {
+            let property = guarded(random, interface, forbidden);
+            narrowed(random, &property)
         }
         _ => guarded(random, interface, forbidden),
     }

@@ -139,6 +139,17 @@ pub(crate) fn guarded(random: &mut Random, interface: Interface, forbidden: u8) 
     widened(random, records)
 }
 
+/// The property with one more demand of row 0: not to be there at all, or about one method or about return nodes.
+pub(crate) fn narrowed(random: &mut Random, property: &[u8]) -> Vec<u8> {
+    let mut records = property.as_chunks::<RECORD_LEN>().0.to_vec();
+    let operator = random.pick(&[2, 3, 4, 5, 6]);
+    let demand = row(random, operator, 1);
+    let first = records[0];
+    let (first, demand) = (pushed(&mut records, first), pushed(&mut records, demand));
+    records[0] = [kind::ROW, 7, first, demand, 0, 0];
+    records.concat()
+}
+
 /// Boxes of internal steps, each over the next row, and "true" at the end: for each provided method the model has two states for each row and two more.
 pub fn chain_of_boxes(rows: usize) -> Vec<u8> {
     let boxes = (1..rows as u8).map(|next| [kind::ROW, 9, 0, next, 0, 0]);

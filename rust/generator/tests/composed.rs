@@ -10,9 +10,9 @@ use second::{compare, compose, compose_both, model, Outcome, Sides, Unwritten};
 /// How often each verdict is said, how many trails have more than two records, and how often each number refuses.
 #[derive(Debug, Default)]
 struct Tally {
-    said: [usize; 2],
+    said: [usize; 3],
     long: usize,
-    refused: [usize; 12],
+    refused: [usize; 17],
 }
 
 fn tally(seed: u64, drawn: impl Fn(&mut Random) -> Outcome) -> Tally {
@@ -29,10 +29,12 @@ fn tally(seed: u64, drawn: impl Fn(&mut Random) -> Outcome) -> Tally {
     tally
 }
 
-/// Both verdicts are frequent, with long trails among them, and no valid file is refused.
+/// Clean and bad are frequent, with long trails among them, impossible is met, and no valid file is refused.
 fn assert_frequent(tally: &Tally, least_long: usize) {
     let Tally { said, long, refused } = tally;
-    assert!(said.iter().all(|&times| times > 3_500) && *long > least_long, "{tally:?}");
+    let [possible @ .., impossible] = said;
+    assert!(possible.iter().all(|&times| times > 3_500) && *long > least_long, "{tally:?}");
+    assert!(*impossible > 300, "{tally:?}");
     assert!([3, 9, 10].iter().all(|&number| refused[number] > 30), "{tally:?}");
     assert!(refused[11] > 5, "{tally:?}");
     let others: usize = [1, 2, 4, 5, 6, 7, 8].iter().map(|&number| refused[number]).sum();
@@ -40,14 +42,16 @@ fn assert_frequent(tally: &Tally, least_long: usize) {
 }
 
 #[test]
-fn compositions_are_composed_or_refused_by_3_9_10_or_11() {
+fn compositions_are_composed_or_refused_by_3_9_16_10_or_11() {
     let drawn = |random: &mut Random| {
         let (files, start) = generate::composition(random);
         let [known_interface, known_graph, other_interface, property, rules] = &files;
         let sides = Sides { known_interface, known_graph, other_interface, property };
         compose(&Limits::DESK, &sides, rules, start, usize::MAX, [(0, 0); 2])
     };
-    assert_frequent(&tally(8, drawn), 500);
+    let tally = tally(8, drawn);
+    assert_frequent(&tally, 500);
+    assert!(tally.refused[16] > 300, "{tally:?}");
 }
 
 #[test]
@@ -59,7 +63,9 @@ fn unwritten_sides_are_composed_or_refused_by_3_9_10_or_11() {
             .map(|(interface, property)| Unwritten { interface, property });
         compose_both(&Limits::DESK, &sides, &rules, start, usize::MAX, [(0, 0); 2])
     };
-    assert_frequent(&tally(10, drawn), 100);
+    let tally = tally(10, drawn);
+    assert_frequent(&tally, 100);
+    assert_eq!(tally.refused[16], 0);
 }
 
 #[test]

@@ -1,7 +1,7 @@
-//! The composed verdict: is every run clean, whatever module is written against the property? Three calls: a property that allows everything, one that forbids the
-//! call that is bad, and one that is refused because it names a row that it does not have.
+//! The composed verdict: is every run clean, whatever module is written against the property? Four calls: a property that allows everything, one that forbids the
+//! call that is bad, one that no module meets, and one that is refused because it names a row that it does not have.
 
-use tintboulder::{Buffers, Record, Refusal, Said, Sides, Watched};
+use tintboulder::{Buffers, Composed, Record, Refusal, Said, Sides};
 
 /// The known side: method 1 calls method 2 again and again. The other side is not written: it provides method 2 and may call method 1.
 const SIDES: Sides = Sides {
@@ -19,6 +19,7 @@ const RULES: &[u8] = &[4, 0, 1, 2, 1, 7];
 const START: u8 = 1;
 
 const ANYTHING: &[u8] = &[3, 1, 0, 0, 0, 0];
+const NOTHING: &[u8] = &[3, 2, 0, 0, 0, 0];
 const NO_CALL: &[Record] = &[
     [3, 7, 1, 2, 0, 0], // row 0, the root: rows 1 and 2
     [3, 9, 1, 3, 0, 0], // row 1: after every call of method 1, row 3
@@ -39,6 +40,7 @@ fn report() -> String {
     let properties = [
         ("anything", ANYTHING),
         ("no call of method 1", NO_CALL.as_flattened()),
+        ("nothing", NOTHING),
         ("a row that is not there", MISSING_ROW.as_flattened()),
     ];
     let mut buffers = Buffers::new();
@@ -49,15 +51,18 @@ fn report() -> String {
     properties.map(line).concat()
 }
 
-fn in_words(said: Result<Said<Watched>, Refusal>) -> String {
-    match said {
-        Err(refusal) => refusal.to_string(),
-        Ok(Said { verdict: Watched::Clean, .. }) => "clean with every module that conforms".into(),
-        Ok(bad) => {
-            let trail: String = bad.records().iter().map(decimals).collect();
-            let records = bad.verdict.records();
+fn in_words(said: Result<Said<Composed>, Refusal>) -> String {
+    let said = match said {
+        Err(refusal) => return refusal.to_string(),
+        Ok(said) => said,
+    };
+    match said.verdict {
+        Composed::Clean => "clean with every module that conforms".into(),
+        Composed::Bad { records } => {
+            let trail: String = said.records().iter().map(decimals).collect();
             format!("bad with a module that conforms, by a trail of {records} records{trail}")
         }
+        Composed::Impossible => "impossible: no module conforms".into(),
     }
 }
 

@@ -1,8 +1,9 @@
-//! The composed verdict on two sides that are not written: is every pair of flow graphs clean, of which each is of its side's interface and satisfies its property?
+//! The composed verdict on two sides that are not written: is every pair of flow graphs clean, of which each is of its side's interface, satisfies its property and has an
+//! entry for each method that it provides? And is there one?
 
 use crate::boundary::{on_five_files, work_of, Answer, Lent};
+use crate::compose::Composed;
 use crate::refusal::Refusal;
-use crate::watch::Watched;
 
 extern "C" {
     fn tintboulder_compose_both(
@@ -53,10 +54,10 @@ pub fn compose_both(
     out: &mut [u8],
     store: &mut [u8],
     work: &mut [u8],
-) -> Result<Watched, Refusal> {
+) -> Result<Composed, Refusal> {
     let [first, second] = sides;
     let files = [first.interface, first.property, second.interface, second.property, rules];
-    Watched::of(compose_both_answer(files, start, out, store, work))
+    Composed::of(compose_both_answer(files, start, out, store, work))
 }
 
 /// The answer as it comes; the files are interface and property of each side, then the rules.
@@ -74,7 +75,7 @@ pub fn compose_both_answer(
 #[cfg(test)]
 mod tests {
     use super::{compose_both, compose_both_store, compose_both_work};
-    use super::{Lent, Refusal, Unwritten, Watched};
+    use super::{Composed, Lent, Refusal, Unwritten};
     use crate::boundary::tests::with_lengths;
     use crate::refusal::Reason::{
         Empty, NotOfInterface, NotProvided, Range, ShortOutput, ShortWork, TooLarge,
@@ -86,6 +87,7 @@ mod tests {
     /// Method 2 may call method 1.
     const SECOND: Unwritten = Unwritten { interface: &[5, 2, 1, 0, 0, 0], property: ANYTHING };
     const ANYTHING: &[u8] = &[3, 1, 0, 0, 0, 0];
+    const NEVER: &[u8] = &[3, 2, 0, 0, 0, 0];
     /// No call of method 1, now or after any step.
     const NO_CALL: &[u8] =
         &[3, 7, 1, 2, 0, 0, 3, 9, 1, 3, 0, 0, 3, 10, 0, 0, 0, 0, 3, 2, 0, 0, 0, 0];
@@ -96,7 +98,7 @@ mod tests {
         sides: [Unwritten; 2],
         start: u8,
         lengths: [usize; 3],
-    ) -> (Result<Watched, Refusal>, Vec<u8>) {
+    ) -> (Result<Composed, Refusal>, Vec<u8>) {
         with_lengths(lengths, |Lent { out, store, work }| {
             compose_both(&sides, RULES, start, out, store, work)
         })
@@ -116,7 +118,7 @@ mod tests {
     fn a_property_keeps_it_clean() {
         let clean = Unwritten { property: NO_CALL, ..SECOND };
         for sides in [[FIRST, clean], [clean, FIRST]] {
-            assert_eq!(composed(sides, 1, roomy(3)), (Ok(Watched::Clean), vec![7; 3]));
+            assert_eq!(composed(sides, 1, roomy(3)), (Ok(Composed::Clean), vec![7; 3]));
         }
     }
 
@@ -124,12 +126,29 @@ mod tests {
     fn what_the_properties_allow_has_a_trail() {
         let [out, store, work] = roomy(14);
         let (answer, out) = composed([FIRST, SECOND], 2, [out, store + 1, work + 1]);
-        assert_eq!(answer, Ok(Watched::Bad { records: 2 }));
+        assert_eq!(answer, Ok(Composed::Bad { records: 2 }));
         // Of either model the second node is an entry that does not return.
         assert_eq!(out, [5, 0, 0, 0, 5, 0, 5, 0, 2, 1, 1, 7, 7, 7]);
         let (answer, out) = composed([SECOND, FIRST], 2, roomy(12));
-        assert_eq!(answer, Ok(Watched::Bad { records: 2 }));
+        assert_eq!(answer, Ok(Composed::Bad { records: 2 }));
         assert_eq!(out, [1, 0, 0, 0, 1, 0, 1, 0, 2, 1, 5, 7]);
+    }
+
+    #[test]
+    fn what_no_entry_satisfies_is_impossible() {
+        let [first, second] = [FIRST, SECOND].map(|side| Unwritten { property: NEVER, ..side });
+        for sides in [[first, SECOND], [FIRST, second], [first, second]] {
+            for (start, out) in [(1, 0), (2, 0), (2, 12)] {
+                let said = composed(sides, start, roomy(out));
+                assert_eq!(said, (Ok(Composed::Impossible), vec![7; out]));
+            }
+        }
+        // Method 1 alone can have an entry, and what provides nothing lacks none.
+        let in_1 = Unwritten { interface: &[5, 5, 2, 0, 0, 0], property: &[3, 3, 1, 0, 0, 0] };
+        assert_eq!(composed([in_1, SECOND], 1, roomy(0)).0, Ok(Composed::Impossible));
+        let nothing = Unwritten { interface: &[5, 0, 1, 0, 0, 0], property: NEVER };
+        let alone = Unwritten { interface: &[5, 1, 1, 0, 0, 0], ..FIRST };
+        assert_eq!(composed([alone, nothing], 1, roomy(0)).0, Ok(Composed::Clean));
     }
 
     #[test]
@@ -156,5 +175,7 @@ mod tests {
         let other = Unwritten { interface: &[5, 1, 0, 0, 0, 0], ..FIRST };
         refused([large, other], 1, roomy(0), TooLarge, 0);
         refused([other, large], 1, roomy(0), TooLarge, 0);
+        let impossible = Unwritten { property: NEVER, ..other };
+        refused([impossible, large], 1, roomy(0), TooLarge, 0);
     }
 }

@@ -3,7 +3,7 @@
 use crate::both::{compose_both, compose_both_store, compose_both_work, Unwritten};
 use crate::checks::check_graph;
 use crate::compare::{compare, Compared, COMPARE};
-use crate::compose::{compose, compose_store, compose_work, Sides};
+use crate::compose::{compose, compose_store, compose_work, Composed, Sides};
 use crate::deliveries::{assemble, judge_deliveries};
 use crate::deliveries::{judge_deliveries_store, judge_deliveries_work};
 use crate::join::{join, Joined};
@@ -182,10 +182,11 @@ impl Buffers {
         Ok(self.said_records(verdict, verdict.records()))
     }
 
-    /// Is the known side clean with every module of the other interface that satisfies the property? The records are those of the trail.
+    /// Is the known side clean with every module of the other interface that satisfies the property and has an entry for each method that it provides? The records are
+    /// those of the trail.
     ///
     /// ```
-    /// use tintboulder::{Buffers, Sides, Watched};
+    /// use tintboulder::{Buffers, Composed, Sides};
     /// // Method 1 calls method 2, which is not written; nothing is demanded of it.
     /// let sides = Sides {
     ///     known_interface: &[5, 1, 2, 0, 0, 0],
@@ -197,11 +198,14 @@ impl Buffers {
     /// let rules = [4, 0, 1, 2, 1, 7];
     /// let mut buffers = Buffers::new();
     /// let said = buffers.compose(&sides, &rules, 1)?;
-    /// assert_eq!(said.verdict, Watched::Bad { records: 3 });
+    /// assert_eq!(said.verdict, Composed::Bad { records: 3 });
     /// assert_eq!(said.records()[2], [2, 0, 2, 1, 0, 7]);
-    /// // Not so if no entry can be written.
+    /// // Not so if it is not to take any step.
+    /// let still = Sides { property: &[3, 10, 1, 0, 0, 0, 3, 2, 0, 0, 0, 0], ..sides };
+    /// assert_eq!(buffers.compose(&still, &rules, 1)?.verdict, Composed::Clean);
+    /// // And no entry of it can be written if nothing satisfies the property.
     /// let never = Sides { property: &[3, 2, 0, 0, 0, 0], ..sides };
-    /// assert_eq!(buffers.compose(&never, &rules, 1)?.verdict, Watched::Clean);
+    /// assert_eq!(buffers.compose(&never, &rules, 1)?.verdict, Composed::Impossible);
     /// # Ok::<(), tintboulder::Refusal>(())
     /// ```
     pub fn compose(
@@ -209,17 +213,18 @@ impl Buffers {
         sides: &Sides,
         rules: &[u8],
         start: u8,
-    ) -> Result<Said<'_, Watched>, Refusal> {
+    ) -> Result<Said<'_, Composed>, Refusal> {
         let store = &mut self.store[..compose_store()];
         let work = &mut self.work[..compose_work()];
         let verdict = compose(sides, rules, start, &mut self.out, store, work)?;
         Ok(self.said_records(verdict, verdict.records()))
     }
 
-    /// Is every pair of modules clean, of which each is of its side's interface and satisfies its property? The records are those of the trail.
+    /// Is every pair of modules clean, of which each is of its side's interface, satisfies its property and has an entry for each method that it provides? The records
+    /// are those of the trail.
     ///
     /// ```
-    /// use tintboulder::{Buffers, Unwritten, Watched};
+    /// use tintboulder::{Buffers, Composed, Unwritten};
     /// // Methods 1 and 2 may call each other; nothing is demanded of either.
     /// let anything = &[3, 1, 0, 0, 0, 0];
     /// let first = Unwritten { interface: &[5, 1, 2, 0, 0, 0], property: anything };
@@ -228,12 +233,16 @@ impl Buffers {
     /// let rules = [4, 0, 1, 2, 1, 7];
     /// let mut buffers = Buffers::new();
     /// let said = buffers.compose_both(&[first, second], &rules, 2)?;
-    /// assert_eq!(said.verdict, Watched::Bad { records: 2 });
+    /// assert_eq!(said.verdict, Composed::Bad { records: 2 });
     /// // The first side's model has four nodes.
     /// assert_eq!(said.records(), [[5, 0, 0, 0, 5, 0], [5, 0, 2, 1, 1, 7]]);
     /// // Not so if it is not to take any step.
     /// let still = Unwritten { property: &[3, 10, 1, 0, 0, 0, 3, 2, 0, 0, 0, 0], ..second };
-    /// assert_eq!(buffers.compose_both(&[first, still], &rules, 2)?.verdict, Watched::Clean);
+    /// assert_eq!(buffers.compose_both(&[first, still], &rules, 2)?.verdict, Composed::Clean);
+    /// // And no entry of either can be missing.
+    /// let never = Unwritten { property: &[3, 2, 0, 0, 0, 0], ..first };
+    /// let said = buffers.compose_both(&[never, second], &rules, 2)?;
+    /// assert_eq!(said.verdict, Composed::Impossible);
     /// # Ok::<(), tintboulder::Refusal>(())
     /// ```
     pub fn compose_both(
@@ -241,7 +250,7 @@ impl Buffers {
         sides: &[Unwritten; 2],
         rules: &[u8],
         start: u8,
-    ) -> Result<Said<'_, Watched>, Refusal> {
+    ) -> Result<Said<'_, Composed>, Refusal> {
         let store = &mut self.store[..compose_both_store()];
         let work = &mut self.work[..compose_both_work()];
         let verdict = compose_both(sides, rules, start, &mut self.out, store, work)?;

@@ -1,8 +1,8 @@
-//! The composed verdict: is the known graph clean with every flow graph of the other interface that satisfies the property, whichever and however large it is?
+//! The composed verdict: is the known graph clean with every flow graph of the other interface that satisfies the property and has an entry for each method that it
+//! provides, whichever and however large it is? And is there one?
 
 use crate::boundary::{on_five_files, work_of, Answer, Lent};
 use crate::refusal::Refusal;
-use crate::watch::Watched;
 
 extern "C" {
     fn tintboulder_compose(
@@ -35,6 +35,39 @@ pub struct Sides<'a> {
     pub property: &'a [u8],
 }
 
+/// What is said of every module that may come to stand on a side that is not written: a flow graph of its interface that satisfies its property and has an entry for each
+/// method that it provides.
+#[derive(Clone, Copy, Debug, PartialEq, Eq)]
+pub enum Composed {
+    Clean,
+    /// The trail stands at the start of the output, in so many records.
+    Bad {
+        records: u64,
+    },
+    /// There is no such module, of one side at least.
+    Impossible,
+}
+
+impl Composed {
+    pub(crate) fn of(answer: Answer) -> Result<Composed, Refusal> {
+        let answer = answer.accepted()?;
+        match answer.verdict {
+            1 => Ok(Composed::Clean),
+            2 => Ok(Composed::Bad { records: answer.first }),
+            3 => Ok(Composed::Impossible),
+            other => unreachable!("no composed verdict is {other}"),
+        }
+    }
+
+    /// Records of the trail: none unless it is bad.
+    pub fn records(&self) -> u64 {
+        match *self {
+            Composed::Bad { records } => records,
+            Composed::Clean | Composed::Impossible => 0,
+        }
+    }
+}
+
 /// The published length of the work buffer. A shorter one is refused by 13.
 pub fn compose_work() -> usize {
     work_of(7)
@@ -55,10 +88,10 @@ pub fn compose(
     out: &mut [u8],
     store: &mut [u8],
     work: &mut [u8],
-) -> Result<Watched, Refusal> {
+) -> Result<Composed, Refusal> {
     let Sides { known_interface, known_graph, other_interface, property } = *sides;
     let files = [known_interface, known_graph, other_interface, property, rules];
-    Watched::of(compose_answer(files, start, out, store, work))
+    Composed::of(compose_answer(files, start, out, store, work))
 }
 
 /// The answer as it comes; the files are those of the sides in their order, then the rules.
@@ -75,10 +108,10 @@ pub fn compose_answer(
 
 #[cfg(test)]
 mod tests {
-    use super::{compose, compose_store, compose_work, Lent, Refusal, Sides, Watched};
+    use super::{compose, compose_store, compose_work, Answer, Composed, Lent, Refusal, Sides};
     use crate::boundary::tests::with_lengths;
     use crate::refusal::Reason::{
-        Empty, NotOfInterface, NotProvided, Range, ShortOutput, ShortWork,
+        Empty, NoEntry, NotOfInterface, NotProvided, Range, ShortOutput, ShortWork,
     };
 
     /// Method 1 calls method 2 again and again; method 2 is not written.
@@ -92,6 +125,7 @@ mod tests {
     const NO_CALL: &[u8] =
         &[3, 7, 1, 2, 0, 0, 3, 9, 1, 3, 0, 0, 3, 9, 0, 0, 0, 0, 3, 2, 0, 0, 0, 0];
     const ANYTHING: &[u8] = &[3, 1, 0, 0, 0, 0];
+    const NEVER: &[u8] = &[3, 2, 0, 0, 0, 0];
     /// A call of method 1 by method 2 is bad.
     const RULES: &[u8] = &[4, 0, 1, 2, 1, 7];
 
@@ -99,7 +133,7 @@ mod tests {
         sides: &Sides,
         start: u8,
         lengths: [usize; 3],
-    ) -> (Result<Watched, Refusal>, Vec<u8>) {
+    ) -> (Result<Composed, Refusal>, Vec<u8>) {
         with_lengths(lengths, |Lent { out, store, work }| {
             compose(sides, RULES, start, out, store, work)
         })
@@ -118,7 +152,7 @@ mod tests {
     #[test]
     fn the_property_keeps_it_clean() {
         let (answer, out) = composed(&SIDES, 1, roomy(3));
-        assert_eq!((answer, out), (Ok(Watched::Clean), vec![7; 3]));
+        assert_eq!((answer, out), (Ok(Composed::Clean), vec![7; 3]));
     }
 
     #[test]
@@ -126,10 +160,65 @@ mod tests {
         let sides = Sides { property: ANYTHING, ..SIDES };
         let lengths = [20, compose_store() + 1, compose_work() + 1];
         let (answer, out) = composed(&sides, 1, lengths);
-        assert_eq!(answer, Ok(Watched::Bad { records: 3 }));
+        assert_eq!(answer, Ok(Composed::Bad { records: 3 }));
         // Node 2 is the model's entry that does not return.
         let trail = [[0, 0, 0, 0, 0, 0], [0, 0, 2, 2, 2, 0], [2, 0, 2, 1, 0, 7]].concat();
         assert_eq!(out, [trail, vec![7, 7]].concat());
+    }
+
+    #[test]
+    fn what_no_entry_satisfies_is_impossible() {
+        let sides = Sides { property: NEVER, ..SIDES };
+        for out in [0, 18] {
+            assert_eq!(composed(&sides, 1, roomy(out)), (Ok(Composed::Impossible), vec![7; out]));
+        }
+        // It provides nothing, so it lacks no entry.
+        let closed = Sides {
+            known_interface: &[5, 3, 2, 0, 0, 0],
+            known_graph: &[1, 1, 0, 1, 0, 0, 1, 2, 1, 1, 0, 0, 2, 0, 2, 0, 0, 0],
+            other_interface: &[5, 0, 1, 0, 0, 0],
+            ..sides
+        };
+        assert_eq!(composed(&closed, 1, roomy(0)).0, Ok(Composed::Clean));
+    }
+
+    /// Its entry calls method 2 and then returns.
+    const CALLS_ONCE: Sides = Sides {
+        known_interface: &[5, 1, 2, 0, 0, 0],
+        known_graph: &[1, 1, 0, 1, 0, 0, 1, 1, 1, 0, 0, 0, 2, 0, 2, 1, 0, 0],
+        other_interface: &[5, 2, 0, 0, 0, 0],
+        property: NEVER,
+    };
+
+    #[test]
+    fn impossible_stands_in_place_of_bad() {
+        let rules = [4, 0, 1, 1, 2, 7];
+        let said = |sides: &Sides| {
+            with_lengths(roomy(0), |Lent { out, store, work }| {
+                compose(sides, &rules, 1, out, store, work)
+            })
+        };
+        assert_eq!(said(&CALLS_ONCE), (Ok(Composed::Impossible), vec![]));
+        // With something to call it would be bad, and the trail needs room.
+        let short = Err(Refusal { reason: ShortOutput, file: 0, record: 0 });
+        assert_eq!(said(&Sides { property: ANYTHING, ..CALLS_ONCE }), (short, vec![]));
+    }
+
+    #[test]
+    fn known_methods_have_entries() {
+        let lacking = Sides { known_interface: &[5, 5, 2, 0, 0, 0], ..CALLS_ONCE };
+        let refused = Err(Refusal { reason: NoEntry, file: 0, record: 0 });
+        for property in [ANYTHING, NEVER] {
+            let sides = Sides { property, ..lacking };
+            assert_eq!(composed(&sides, 1, roomy(18)), (refused, vec![7; 18]));
+        }
+    }
+
+    #[test]
+    #[should_panic(expected = "no composed verdict is 4")]
+    fn no_other_verdict_is_read_as_bad() {
+        let answer = Answer { verdict: 4, number: 0, first: 0, second: 0, third: 0, fourth: 0 };
+        _ = Composed::of(answer);
     }
 
     #[test]

@@ -25,7 +25,7 @@ pub use buffers::{Buffers, Record, Said};
 pub use checks::{check_graph, check_interface, check_property, check_rules, Accepted};
 pub use checks::{CHECK_GRAPH, CHECK_INTERFACE, CHECK_PROPERTY, CHECK_RULES};
 pub use compare::{compare, Compared, COMPARE};
-pub use compose::{compose, compose_answer, compose_store, compose_work, Sides};
+pub use compose::{compose, compose_answer, compose_store, compose_work, Composed, Sides};
 pub use deliveries::{assemble, assemble_answer};
 pub use deliveries::{judge_deliveries, judge_deliveries_answer};
 pub use deliveries::{judge_deliveries_store, judge_deliveries_work};

@@ -20,12 +20,14 @@ pub enum Reason {
     ShortOutput,
     ShortWork,
     RepeatedRevision,
+    // Number 15 is of no call yet.
+    NoEntry = 16,
 }
 
 use Reason::*;
 
-/// What each number means, from 1 on.
-const TABLE: [(Reason, &str); 14] = [
+/// What each number means.
+const TABLE: [(Reason, &str); 15] = [
     (Length, "the length is no multiple of 6"),
     (Kind, "the kind of a record is wrong for its place"),
     (Range, "a field is out of range or an unused byte is not 0"),
@@ -40,6 +42,7 @@ const TABLE: [(Reason, &str); 14] = [
     (ShortOutput, "the output is shorter than the whole result"),
     (ShortWork, "a work buffer is shorter than published"),
     (RepeatedRevision, "two deliveries of one method have equal revisions"),
+    (NoEntry, "the known graph lacks an entry for a method that it provides"),
 ];
 
 impl Reason {
@@ -51,6 +54,11 @@ impl Reason {
     /// The reason with this number, if the table has it.
     pub fn of(number: u32) -> Option<Reason> {
         TABLE.iter().map(|&(reason, _)| reason).find(|reason| reason.number() == number)
+    }
+
+    fn words(self) -> &'static str {
+        let row = TABLE.iter().find(|&&(reason, _)| reason == self);
+        row.expect("every reason is in the table").1
     }
 }
 
@@ -87,7 +95,7 @@ impl Refusal {
             (0, Range) => "the start method is not 1 to 8",
             (0, PastTheLast) => "the number is not below both node counts together",
             (0, NotOfInterface) => "both sides provide one method",
-            (_, reason) => TABLE[reason as usize - 1].1,
+            (_, reason) => reason.words(),
         }
     }
 }
@@ -100,10 +108,11 @@ mod tests {
 
     #[test]
     fn the_table_is_in_the_order_of_the_numbers() {
-        for (number, (reason, _)) in (1..).zip(TABLE) {
+        for (number, (reason, words)) in (1..=14).chain([16]).zip(TABLE) {
             assert_eq!((reason.number(), Reason::of(number)), (number, Some(reason)));
+            assert_eq!(reason.words(), words);
         }
-        assert_eq!([0, 15, u32::MAX].map(Reason::of), [None; 3]);
+        assert_eq!([0, 15, 17, u32::MAX].map(Reason::of), [None; 4]);
     }
 
     #[test]

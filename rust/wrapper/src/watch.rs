@@ -33,7 +33,8 @@ impl Watched {
         let answer = answer.accepted()?;
         match answer.verdict {
             1 => Ok(Watched::Clean),
-            _ => Ok(Watched::Bad { records: answer.first }),
+            2 => Ok(Watched::Bad { records: answer.first }),
+            other => unreachable!("watching has no verdict {other}"),
         }
     }
 

@@ -2,7 +2,7 @@
 
 use generator::extremes::{cycle, dense_cycle, longest_trail, row_cycle};
 use tintboulder::Reason::Length;
-use tintboulder::{Buffers, Compared, Judged, Refusal, Sides, Watched};
+use tintboulder::{Buffers, Compared, Composed, Judged, Refusal, Sides, Watched};
 
 const ENTRY: &[u8] = &[1, 1, 0, 1, 0, 0];
 const NOTHING: &[u8] = &[5, 0, 0, 0, 0, 0];
@@ -49,7 +49,7 @@ fn nothing_is_left_for_the_next_call() -> Result<(), Refusal> {
         property: RETURN,
     };
     let clean = buffers.compose(&sides, &[], 1)?;
-    assert_eq!((clean.verdict, clean.records()), (Watched::Clean, &[][..]));
+    assert_eq!((clean.verdict, clean.records()), (Composed::Clean, &[][..]));
     Ok(())
 }
 
