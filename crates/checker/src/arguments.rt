@@ -1,12 +1,11 @@
 // The program's arguments: words, names of files and decimals.
 ghost use Prim.Native.Nat.{_≤_};
+ghost use Rattle.checker.specs.Places.{number-most};
+use crate::lengths::Lengths;
 use files::cells::wide;
 use printing::at_most;
 use printing::say;
 use printing::stdout::BUFFERED;
-
-// A number past every one that a call takes: larger ones count as this.
-const MOST: usize = 1000000;
 
 // A decimal, or none.
 pub struct Decimal {
@@ -46,10 +45,10 @@ pub fn is_digit(b: u8) -> bool {
 
 // The value with one more digit.
 pub fn longer(value: usize, digit: u8) -> usize
-    requires { ⌜ value ≤ 1000000 ⌝ }
-    ensures { λ r. ⌜ r ≤ 1000000 ⌝ }
+    requires { ⌜ value ≤ number-most ⌝ }
+    ensures { λ r. ⌜ r ≤ number-most ⌝ }
 {
-    at_most(10 * value + wide(digit) % 16, MOST)
+    at_most(10 * value + wide(digit) % 16, Lengths::NUMBER)
 }
 
 fn decimal_of(text: &[u8]) -> Decimal {

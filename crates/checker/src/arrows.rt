@@ -1,6 +1,7 @@
 // The arrows of `checker dot`: one for all edges between two nodes, with their labels as ranges. An arrow for every label makes a model's picture too wide to be read.
 ghost use Prim.Native.Nat.{_+_, _*_, _≤_};
 ghost use lib.ListN.{length};
+ghost use Rattle.files.specs.Places.{record-len};
 use crate::ranges::say_ranges;
 use files::cells::put_bit;
 use files::cells::wide;
@@ -21,7 +22,7 @@ pub fn say_ends(stdout: &mut [u8; BUFFERED], from: u8, to: u8) {
 
 // Edge i leads from the one node to the other.
 fn joins(edges: &[u8], i: usize, from: u8, to: u8) -> bool
-    requires { ⌜ 6 * i + 6 ≤ length (now edges) ⌝ }
+    requires { ⌜ record-len * i + record-len ≤ length (now edges) ⌝ }
 {
     let p = Record::LEN * i;
     (edges[p + 1] == from) & (edges[p + 3] == to)
@@ -29,7 +30,7 @@ fn joins(edges: &[u8], i: usize, from: u8, to: u8) -> bool
 
 // An edge before edge i does.
 fn joined_before(edges: &[u8], i: usize, from: u8, to: u8) -> bool
-    requires { ⌜ 6 * i ≤ length (now edges) ⌝ }
+    requires { ⌜ record-len * i ≤ length (now edges) ⌝ }
 {
     let mut j = 0;
     while j < i {
@@ -43,7 +44,7 @@ fn joined_before(edges: &[u8], i: usize, from: u8, to: u8) -> bool
 
 // The labels with that of edge i, if it leads from the one node to the other.
 fn add_label(labels: &mut [u8; LINE], edges: &[u8], i: usize, from: u8, to: u8)
-    requires { ⌜ 6 * i + 6 ≤ length (now edges) ⌝ }
+    requires { ⌜ record-len * i + record-len ≤ length (now edges) ⌝ }
 {
     let p = Record::LEN * i;
     if joins(edges, i, from, to) {
@@ -64,7 +65,7 @@ fn labels_between(edges: &[u8], from: u8, to: u8) -> [u8; LINE] {
 
 // The arrow of edge i and of all later ones between its nodes, where no earlier edge has drawn it.
 fn say_arrow(stdout: &mut [u8; BUFFERED], edges: &[u8], i: usize)
-    requires { ⌜ 6 * i + 6 ≤ length (now edges) ⌝ }
+    requires { ⌜ record-len * i + record-len ≤ length (now edges) ⌝ }
 {
     let p = Record::LEN * i;
     let from = edges[p + 1];

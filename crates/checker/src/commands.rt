@@ -1,6 +1,11 @@
 // The calls on files by name: argument 2 is the first file. `at` is the argument that names the output file, or 0.
 ghost use mathlib.Core.Path.{_≡_};
 ghost use lib.ListN.{length};
+ghost use Rattle.files.specs.Places.{graph-room};
+ghost use Rattle.judging.specs.Places.{compare-room, judge-room};
+ghost use Rattle.maximal.specs.Places.{model-room};
+ghost use Rattle.runs.specs.Regions.{watch-room};
+ghost use Rattle.runs.specs.Unwritten.{both-store};
 use crate::arguments::number;
 use crate::load::load;
 use crate::load::load_two;
@@ -22,43 +27,42 @@ use printing::stdout::BUFFERED;
 use runs::answers::Shown;
 use runs::answers::Verdict;
 use runs::regions::Regions;
-use runs::unwritten::STORE;
 
 fn judge_buffer() -> [u8; Shape::ROOM]
-    ensures { λ r. ⌜ 41664 ≡ length r ⌝ }
+    ensures { λ r. ⌜ judge-room ≡ length r ⌝ }
 {
     [0; Shape::ROOM]
 }
 
 fn store_buffer() -> [u8; Shape::STORE]
-    ensures { λ r. ⌜ 26112 ≡ length r ⌝ }
+    ensures { λ r. ⌜ graph-room ≡ length r ⌝ }
 {
     [0; Shape::STORE]
 }
 
 fn compare_buffer() -> [u8; Sizes::ROOM]
-    ensures { λ r. ⌜ 165152 ≡ length r ⌝ }
+    ensures { λ r. ⌜ compare-room ≡ length r ⌝ }
 {
     [0; Sizes::ROOM]
 }
 
 fn model_buffer() -> [u8; Places::ROOM]
-    ensures { λ r. ⌜ 103456 ≡ length r ⌝ }
+    ensures { λ r. ⌜ model-room ≡ length r ⌝ }
 {
     [0; Places::ROOM]
 }
 
 fn watch_buffer() -> [u8; Regions::ROOM]
-    ensures { λ r. ⌜ 46949 ≡ length r ⌝ }
+    ensures { λ r. ⌜ watch-room ≡ length r ⌝ }
 {
     [0; Regions::ROOM]
 }
 
 // A store of either composed verdict: that of two unwritten sides is the longer one.
-fn compose_buffer() -> [u8; STORE]
-    ensures { λ r. ⌜ 52224 ≡ length r ⌝ }
+fn compose_buffer() -> [u8; Regions::TWO_GRAPHS]
+    ensures { λ r. ⌜ both-store ≡ length r ⌝ }
 {
-    [0; STORE]
+    [0; Regions::TWO_GRAPHS]
 }
 
 pub fn judge(stdout: &mut [u8; BUFFERED], at: usize) {

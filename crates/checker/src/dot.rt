@@ -1,6 +1,7 @@
 // `checker dot` and `checker dot-sheet`: a graph in the language of Graphviz, a box for each method, its nodes in it by number. An entry is grey, a return node has a double line.
 ghost use Prim.Native.Nat.{_+_, _*_, _≤_};
 ghost use lib.ListN.{length};
+ghost use Rattle.files.specs.Places.{record-len};
 use crate::arrows::say_arrows;
 use crate::lit::is_in;
 use crate::lit::is_lit;
@@ -57,7 +58,7 @@ fn say_node_of(
     i: usize,
     method: u8,
 )
-    requires { ⌜ 6 * i + 6 ≤ length (now nodes) ⌝ }
+    requires { ⌜ record-len * i + record-len ≤ length (now nodes) ⌝ }
 {
     let p = Record::LEN * i;
     if nodes[p + 1] == method {

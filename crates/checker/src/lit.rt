@@ -2,6 +2,7 @@
 // they are.
 ghost use Prim.Native.Nat.{_+_, _*_, _≤_, _<_};
 ghost use lib.ListN.{length};
+ghost use Rattle.files.specs.Places.{record-len};
 use crate::arrows::say_ends;
 use crate::ranges::say_ranges;
 use files::cells::put_bit;
@@ -21,7 +22,7 @@ pub fn say_if(stdout: &mut [u8; BUFFERED], test: bool, words: &[u8]) {
 
 // Field k of record i is the value.
 fn is_at(records: &[u8], i: usize, k: usize, value: u8) -> bool
-    requires { ⌜ (6 * i + 6 ≤ length (now records)) × (k < 6) ⌝ }
+    requires { ⌜ (record-len * i + record-len ≤ length (now records)) × (k < 6) ⌝ }
 {
     records[Record::LEN * i + k] == value
 }
@@ -59,7 +60,7 @@ pub fn say_start(stdout: &mut [u8; BUFFERED], trail: &[u8], node: u8) {
 
 // The rows with that of record i, if it is about the node.
 fn add_row(rows: &mut [u8; LINE], sheet: &[u8], i: usize, node: u8)
-    requires { ⌜ 6 * i + 6 ≤ length (now sheet) ⌝ }
+    requires { ⌜ record-len * i + record-len ≤ length (now sheet) ⌝ }
 {
     let p = Record::LEN * i;
     if sheet[p] == node {
@@ -100,7 +101,7 @@ fn say_kind(stdout: &mut [u8; BUFFERED], kind: u8, label: u8) {
 
 // The arrow of record i of the trail, where it is no start. A call entered leads where no edge of the graph does, so it is dashed.
 fn say_step(stdout: &mut [u8; BUFFERED], trail: &[u8], i: usize)
-    requires { ⌜ 6 * i + 6 ≤ length (now trail) ⌝ }
+    requires { ⌜ record-len * i + record-len ≤ length (now trail) ⌝ }
 {
     let p = Record::LEN * i;
     let kind = trail[p + 2];
@@ -137,7 +138,7 @@ fn say_cause(stdout: &mut [u8; BUFFERED], node: u8, row: u8, cause: u8, cause_ro
 
 // Both causes of record i of the sheet.
 fn say_both(stdout: &mut [u8; BUFFERED], sheet: &[u8], i: usize)
-    requires { ⌜ 6 * i + 6 ≤ length (now sheet) ⌝ }
+    requires { ⌜ record-len * i + record-len ≤ length (now sheet) ⌝ }
 {
     let p = Record::LEN * i;
     say_cause(stdout, sheet[p], sheet[p + 1], sheet[p + 2], sheet[p + 3]);

@@ -1,9 +1,11 @@
 // The commands on a first file that may be long: a file of deliveries, or a listing of one.
 ghost use mathlib.Core.Path.{_≡_};
 ghost use lib.ListN.{length};
+ghost use Rattle.checker.specs.Places.{longest-file};
 use crate::arguments::is_word;
 use crate::commands::assemble;
 use crate::commands::judge_deliveries;
+use crate::lengths::Lengths;
 use crate::load::load;
 use crate::pack::pack;
 use crate::text::list;
@@ -12,7 +14,7 @@ use printing::stdout::BUFFERED;
 // The longest file of these that is read: all 255 revisions of all eight methods, each round of them within the limits, 8 openings, 256 nodes and 4,096 edges of six bytes. The
 // stack is all the memory there is, 8 MiB by default, and what the program has beside this buffer takes less than 1, so arguments and environment have 0.8 left. Unoptimised, as
 // in `rt try`, it has the buffer three times, and these commands do not fit.
-const LONGEST: usize = 6670800;
+const LONGEST: usize = Lengths::FILE;
 
 enum Long {
     Assemble,
@@ -36,7 +38,7 @@ fn command() -> Long {
 }
 
 fn long_buffer() -> [u8; LONGEST]
-    ensures { λ r. ⌜ 6670800 ≡ length r ⌝ }
+    ensures { λ r. ⌜ longest-file ≡ length r ⌝ }
 {
     [0; LONGEST]
 }

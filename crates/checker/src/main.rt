@@ -13,6 +13,7 @@ mod arrows;
 mod commands;
 mod dot;
 mod help;
+mod lengths;
 mod lit;
 mod load;
 mod long;

@@ -2,6 +2,7 @@
 // reads a printed result back.
 ghost use Prim.Native.Nat.{_+_, _*_, _≤_};
 ghost use lib.ListN.{length};
+ghost use Rattle.files.specs.Places.{record-len};
 use crate::ranges::members;
 use crate::ranges::say_ranges;
 use crate::text::say_about;
@@ -57,7 +58,7 @@ fn say_step(stdout: &mut [u8; BUFFERED], r: &[u8], method: u8)
 
 // The line of record i of a trail, which is in the method. Answers the method after it: only a call entered leaves one.
 fn say_trail_line(stdout: &mut [u8; BUFFERED], trail: &[u8], i: usize, method: u8) -> u8
-    requires { ⌜ 6 * i + 6 ≤ length (now trail) ⌝ }
+    requires { ⌜ record-len * i + record-len ≤ length (now trail) ⌝ }
 {
     let p = Record::LEN * i;
     say_record(stdout, trail, i);
@@ -103,7 +104,7 @@ fn say_cause(stdout: &mut [u8; BUFFERED], word: &[u8], node: u8, row: u8) {
 
 // The line of record i of a fault sheet.
 fn say_sheet_line(stdout: &mut [u8; BUFFERED], sheet: &[u8], property: &[u8], i: usize)
-    requires { ⌜ 6 * i + 6 ≤ length (now sheet) ⌝ }
+    requires { ⌜ record-len * i + record-len ≤ length (now sheet) ⌝ }
 {
     let p = Record::LEN * i;
     say_record(stdout, sheet, i);

@@ -2,15 +2,13 @@
 // nothing.
 use crate::arguments::is_digit;
 use crate::arguments::longer;
+use crate::lengths::Lengths;
 use crate::load::save;
 use printing::at_most;
 use printing::end_of;
 use printing::say;
 use printing::say_number;
 use printing::stdout::BUFFERED;
-
-// Lines are counted up to this: more than the longest listing that is read has.
-const MOST: usize = 10000000;
 
 // Where the reading of a listing stands: so many bytes are written, on this line, inside a comment, inside a decimal of this value, and all was right so far.
 pub struct Packing {
@@ -45,7 +43,7 @@ fn ended(p: Packing, out: &mut [u8]) -> Packing {
 
 // A digit more.
 fn with_digit(p: Packing, b: u8) -> Packing {
-    let value = at_most(p.value, 1000);
+    let value = at_most(p.value, Lengths::FIELD);
     let mut next = p;
     next.inside = true;
     next.value = longer(value, b);
@@ -55,7 +53,7 @@ fn with_digit(p: Packing, b: u8) -> Packing {
 // What may end a decimal or stand between two: a space, a line end, or the # of a comment.
 fn between(p: Packing, b: u8, out: &mut [u8]) -> Packing {
     let mut next = ended(p, out);
-    let line = at_most(next.line, MOST);
+    let line = at_most(next.line, Lengths::LINES);
     if b == b'\n' {
         next.comment = false;
         next.line = line + 1;

@@ -1,5 +1,6 @@
 // Verdicts in one line of plain words, the first of them fit for scripts; then what the call wrote, as decimals with notes, or to the file that argument `at` names where `at` is not 0.
 ghost use Rattle.io.specs.Counts.{Counts};
+use crate::lengths::Lengths;
 use crate::load::save;
 use crate::notes::say_relation;
 use crate::notes::say_sheet;
@@ -21,18 +22,15 @@ use printing::stdout::BUFFERED;
 use runs::answers::Joined;
 use runs::answers::Verdict;
 
-// No result has more records than this: a fault sheet has at most 8,192.
-const MOST: usize = 10000;
-
 // Where so many records end.
 fn records_end(out: &[u8], records: usize) -> usize
     ensures { λ r. ⌜ Counts r (now (out .entry)) ⌝ }
 {
-    end_of(out, Record::LEN * at_most(records, MOST))
+    end_of(out, Record::LEN * at_most(records, Lengths::RECORDS))
 }
 
 fn give_graph(stdout: &mut [u8; BUFFERED], out: &[u8], nodes: usize, edges: usize, at: usize) {
-    let records = at_most(nodes, MOST) + at_most(edges, MOST);
+    let records = at_most(nodes, Lengths::RECORDS) + at_most(edges, Lengths::RECORDS);
     if at == 0 {
         say_records(stdout, out, records);
     } else {
@@ -42,7 +40,7 @@ fn give_graph(stdout: &mut [u8; BUFFERED], out: &[u8], nodes: usize, edges: usiz
 }
 
 fn give_relation(stdout: &mut [u8; BUFFERED], out: &[u8], nodes: usize, at: usize) {
-    let end = end_of(out, LINE * at_most(nodes, MOST));
+    let end = end_of(out, LINE * at_most(nodes, Lengths::RECORDS));
     if at == 0 {
         say_relation(stdout, &out[..end]);
     } else {

@@ -1,6 +1,7 @@
 // `checker text`: a file as a readable listing. A record is its six decimals, then after a # what it says; `checker pack` reads such a listing back.
 ghost use Prim.Native.Nat.{_+_, _*_, _≤_};
 ghost use lib.ListN.{length};
+ghost use Rattle.files.specs.Places.{record-len};
 use files::record::Operator;
 use files::record::Record;
 use printing::say;
@@ -170,7 +171,7 @@ fn say_byte(stdout: &mut [u8; BUFFERED], b: u8) {
 
 // Record i up to its note.
 pub fn say_record(stdout: &mut [u8; BUFFERED], file: &[u8], i: usize)
-    requires { ⌜ 6 * i + 6 ≤ length (now file) ⌝ }
+    requires { ⌜ record-len * i + record-len ≤ length (now file) ⌝ }
 {
     let p = Record::LEN * i;
     say_decimals(stdout, &file[p..p + Record::LEN]);
@@ -179,7 +180,7 @@ pub fn say_record(stdout: &mut [u8; BUFFERED], file: &[u8], i: usize)
 
 // The line of record i, the k-th behind the last opening. Answers the k of the next record: a delivery numbers its nodes from 0.
 fn say_line(stdout: &mut [u8; BUFFERED], file: &[u8], i: usize, k: usize) -> usize
-    requires { ⌜ (6 * i + 6 ≤ length (now file)) × (k ≤ i) ⌝ }
+    requires { ⌜ (record-len * i + record-len ≤ length (now file)) × (k ≤ i) ⌝ }
     ensures { λ r. ⌜ r ≤ i + 1 ⌝ }
 {
     let p = Record::LEN * i;

@@ -3,6 +3,7 @@ ghost use Prim.Native.Nat.{_≤_};
 ghost use lib.ListN.{length};
 use crate::answers::say_assembled;
 use crate::answers::say_judged;
+use crate::lengths::OUTPUT;
 use crate::lengths::two_bytes;
 use crate::lengths::work_buffer;
 use crate::lengths::work_length;
@@ -22,7 +23,7 @@ pub(crate) fn assemble_standing(stdout: &mut [u8; BUFFERED], example: &[u8]) {
         return;
     }
     let room = two_bytes(example, 0);
-    let mut out = [0u8; 65536];
+    let mut out = [0u8; OUTPUT];
     assemble_on(stdout, &example[2..], &mut out, room);
 }
 
@@ -62,7 +63,7 @@ pub(crate) fn judge_standing(stdout: &mut [u8; BUFFERED], example: &[u8]) {
     if example.len() < split {
         return;
     }
-    let mut out = [0u8; 65536];
+    let mut out = [0u8; OUTPUT];
     let mut store = work_buffer();
     let mut work = work_buffer();
     judge_on(

@@ -6,6 +6,7 @@
 use crate::answers::say_checked;
 use crate::deliveries::assemble_standing;
 use crate::deliveries::judge_standing;
+use crate::lengths::EXAMPLE;
 use crate::pairs::call;
 use crate::pairs::check;
 use crate::sides::join_sides;
@@ -23,9 +24,6 @@ mod lengths;
 mod pairs;
 mod sides;
 mod watched;
-
-// Room for the longest example: 257 nodes or 4,097 edges with their nodes.
-const LONGEST: usize = 60000;
 
 // Runs an example by the first, second and fifth letter of its name.
 fn run(stdout: &mut [u8; BUFFERED], first: u8, second: u8, fifth: u8, file: &[u8]) {
@@ -69,7 +67,7 @@ fn one(stdout: &mut [u8; BUFFERED], i: usize) {
         os::fail(&name[..length]);
         return;
     }
-    let mut file = [0u8; LONGEST];
+    let mut file = [0u8; EXAMPLE];
     let n = io::read_full(fd, &mut file);
     libc::close(fd);
     say(stdout, &name[..length]);

@@ -4,6 +4,7 @@ ghost use lib.ListN.{length};
 use crate::answers::say_compared;
 use crate::answers::say_judged;
 use crate::answers::say_modelled;
+use crate::lengths::OUTPUT;
 use crate::lengths::two_bytes;
 use crate::lengths::work_buffer;
 use crate::lengths::work_length;
@@ -63,7 +64,7 @@ pub(crate) fn call(stdout: &mut [u8; BUFFERED], letter: u8, example: &[u8]) {
     if example.len() < split {
         return;
     }
-    let mut out = [0u8; 65536];
+    let mut out = [0u8; OUTPUT];
     let mut work = work_buffer();
     call_on(
         stdout,

@@ -3,6 +3,7 @@ ghost use Prim.Native.Nat.{_≤_};
 ghost use lib.ListN.{length};
 use crate::answers::say_joined;
 use crate::answers::say_refused;
+use crate::lengths::OUTPUT;
 use crate::lengths::two_bytes;
 use printing::say;
 use printing::say_bytes;
@@ -36,7 +37,7 @@ pub(crate) fn join_sides(stdout: &mut [u8; BUFFERED], example: &[u8]) {
     if example.len() < third {
         return;
     }
-    let mut out = [0u8; 65536];
+    let mut out = [0u8; OUTPUT];
     join_on(
         stdout,
         &example[8..first],

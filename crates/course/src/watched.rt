@@ -2,6 +2,7 @@
 ghost use Prim.Native.Nat.{_≤_};
 ghost use lib.ListN.{length};
 use crate::answers::say_watched;
+use crate::lengths::OUTPUT;
 use crate::lengths::two_bytes;
 use crate::lengths::work_buffer;
 use crate::lengths::work_length;
@@ -45,7 +46,7 @@ pub(crate) fn watch_runs(stdout: &mut [u8; BUFFERED], example: &[u8]) {
     if example.len() < second {
         return;
     }
-    let mut out = [0u8; 65536];
+    let mut out = [0u8; OUTPUT];
     let mut work = work_buffer();
     watch_on(
         stdout,
@@ -154,7 +155,7 @@ pub(crate) fn compose_sides(stdout: &mut [u8; BUFFERED], both: bool, example: &[
     if example.len() < fourth {
         return;
     }
-    let mut out = [0u8; 65536];
+    let mut out = [0u8; OUTPUT];
     let mut store = work_buffer();
     let mut work = work_buffer();
     compose_on(

@@ -10,12 +10,11 @@ use Rattle.files.specs.declared.check.Checked.the-variants.{Accepted, Refused}
 use Rattle.files.specs.declared.refusal.Refusal.{Refusal}
 use Rattle.files.specs.Outcome.{Outcome, refuses, says, refusal-at, answer, out-after, work-after}
 use Rattle.files.specs.Outcome as outcome
-use Rattle.judging.specs.Compare.{compare-room}
 use Rattle.judging.specs.Delivered.{deliveries-store}
-use Rattle.judging.specs.Judge.{judge-room}
-use Rattle.maximal.specs.Modelling.{model-room}
+use Rattle.judging.specs.Places.{judge-room, compare-room}
+use Rattle.maximal.specs.Places.{model-room}
 use Rattle.runs.specs.Composing.{compose-store, compose-work}
-use Rattle.runs.specs.Prepared.{watch-room}
+use Rattle.runs.specs.Regions.{watch-room}
 use Rattle.runs.specs.Unwritten.{both-store, both-work}
 use Rattle.exports.specs.declared.Answer.{Answer}
 

@@ -34,7 +34,6 @@ use runs::regions::Regions;
 use runs::showing::Place;
 use runs::showing::find_place;
 use runs::showing::record_at;
-use runs::unwritten::STORE;
 
 // Verdict 0 is a refusal: its number, file (first) and record (second). Other verdicts carry their values from first on.
 #[repr(C)]
@@ -458,7 +457,7 @@ pub extern "C" fn tintboulder_work(call: u64) -> u64
         return Places::ROOM as u64;
     }
     if call == 12 {
-        return STORE as u64;
+        return Regions::TWO_GRAPHS as u64;
     }
     0
 }

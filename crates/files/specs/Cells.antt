@@ -5,18 +5,19 @@ use Prim.Native.Nat.{ℕ, zero, suc, _+_, _*_, _-_, _/_, _%_, _^_}
 use lib.Bits.{bitOr}
 use lib.Dec.{eqb}
 use lib.ListN.{length, getD, set, take, drop}
+use Rattle.files.specs.Places.{byte-end}
 pub mod Laws
 pub mod Wrote
 
 -- the number of n bytes from p on, low byte first
 pub little : List ℕ → ℕ → ℕ → ℕ
 little l p zero = 0
-little l p (suc n) = getD l p 0 + 256 * little l (suc p) n
+little l p (suc n) = getD l p 0 + byte-end * little l (suc p) n
 
 -- n bytes of v stored from p on, low byte first
 pub put-little : List ℕ → ℕ → ℕ → ℕ → List ℕ
 put-little l p zero v = l
-put-little l p (suc n) v = put-little (set l p (v % 256)) (suc p) n (v / 256)
+put-little l p (suc n) v = put-little (set l p (v % byte-end)) (suc p) n (v / byte-end)
 
 -- cell i of width w in the region from base on
 pub cell : List ℕ → ℕ → ℕ → ℕ → ℕ

@@ -6,6 +6,7 @@ use mathlib.Core.List.{List}
 use Prim.Native.Nat.{ℕ, suc, _+_, _*_, _≤_, _<_}
 use lib.Dec.{T}
 use Rattle.files.specs.Basics.Lexical.{Before}
+use Rattle.files.specs.Places.{two-bytes-end, byte-end}
 use Rattle.files.specs.Record.{record-at, kind-at, node-wrong, edge-wrong}
 use Rattle.files.specs.Refusal.{edge-key, method-at}
 use Rattle.files.specs.declared.record.Record.{Record}
@@ -28,4 +29,4 @@ pub record PlainEdges (l : List ℕ) (m n : ℕ) : Type 0 where
 
 -- an edge's key as one number
 abbrev pub edge-number : Record → ℕ
-edge-number r = 65536 * r .first + 256 * r .second + r .third
+edge-number r = two-bytes-end * r .first + byte-end * r .second + r .third

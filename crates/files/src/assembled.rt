@@ -11,6 +11,7 @@ ghost use Rattle.files.specs.Decode.{graph-bytes};
 ghost use Rattle.files.specs.Deliveries.{decode-deliveries};
 ghost use Rattle.files.specs.Deliveries.Layout.{nodes-among};
 ghost use Rattle.files.specs.Graph.{size};
+ghost use Rattle.files.specs.Places.{record-len, max-nodes};
 ghost use Rattle.files.specs.Record.{write};
 use crate::cells::copy_at;
 use crate::moved::write_all_moved;
@@ -27,8 +28,8 @@ fn write_own_nodes(
     out: &mut [u8],
     at: usize,
 ) -> usize
-    requires { ⌜ (StandsBy (now file) (now kept)) × ((method ≤ 8) × (6 * (at + length (node-recs (decode-deliveries (now file)) method)) ≤ length (now out))) ⌝ }
-    ensures { λ r. ⌜ (r ≡ at + length (node-recs (decode-deliveries (now (file .entry))) method)) × (now (out .exit) ≡ put-at (now (out .entry)) (6 * at) (write (node-recs (decode-deliveries (now (file .entry))) method))) ⌝ }
+    requires { ⌜ (StandsBy (now file) (now kept)) × ((method ≤ 8) × (record-len * (at + length (node-recs (decode-deliveries (now file)) method)) ≤ length (now out))) ⌝ }
+    ensures { λ r. ⌜ (r ≡ at + length (node-recs (decode-deliveries (now (file .entry))) method)) × (now (out .exit) ≡ put-at (now (out .entry)) (record-len * at) (write (node-recs (decode-deliveries (now (file .entry))) method))) ⌝ }
 {
     let part = standing_part(file, kept, method);
     let from = Record::LEN * part.start;
@@ -39,7 +40,7 @@ fn write_own_nodes(
 
 // Writes the nodes of all methods.
 fn write_all_nodes(file: &[u8], kept: &[usize; METHODS], out: &mut [u8])
-    requires { ⌜ (StandsBy (now file) (now kept)) × (6 * size (standing-graph (now file)) ≤ length (now out)) ⌝ }
+    requires { ⌜ (StandsBy (now file) (now kept)) × (record-len * size (standing-graph (now file)) ≤ length (now out)) ⌝ }
     ensures { λ _. ⌜ now (out .exit) ≡ put-at (now (out .entry)) 0 (run (node-recs (decode-deliveries (now (file .entry)))) 8) ⌝ }
 {
     let mut at = 0;
@@ -59,8 +60,8 @@ fn write_own_edges(
     out: &mut [u8],
     at: usize,
 ) -> GraphView
-    requires { ⌜ (StandsBy (now file) (now kept)) × ((method ≤ 8) × ((before ≡ nodes-among (decode-deliveries (now file)) 1 (method - 1)) × ((before + length (node-recs (decode-deliveries (now file)) method) ≤ 256) × (6 * (at + length (edge-recs (decode-deliveries (now file)) method)) ≤ length (now out))))) ⌝ }
-    ensures { λ r. ⌜ (r .nodes ≡ length (node-recs (decode-deliveries (now (file .entry))) method)) × ((r .edges ≡ length (edge-recs (decode-deliveries (now (file .entry))) method)) × (now (out .exit) ≡ put-at (now (out .entry)) (6 * at) (write (edge-recs (decode-deliveries (now (file .entry))) method)))) ⌝ }
+    requires { ⌜ (StandsBy (now file) (now kept)) × ((method ≤ 8) × ((before ≡ nodes-among (decode-deliveries (now file)) 1 (method - 1)) × ((before + length (node-recs (decode-deliveries (now file)) method) ≤ 256) × (record-len * (at + length (edge-recs (decode-deliveries (now file)) method)) ≤ length (now out))))) ⌝ }
+    ensures { λ r. ⌜ (r .nodes ≡ length (node-recs (decode-deliveries (now (file .entry))) method)) × ((r .edges ≡ length (edge-recs (decode-deliveries (now (file .entry))) method)) × (now (out .exit) ≡ put-at (now (out .entry)) (record-len * at) (write (edge-recs (decode-deliveries (now (file .entry))) method)))) ⌝ }
 {
     let part = standing_part(file, kept, method);
     let view = GraphView {
@@ -75,8 +76,8 @@ fn write_own_edges(
 
 // Writes the edges of all methods from record `first` on.
 fn write_all_edges(file: &[u8], kept: &[usize; METHODS], out: &mut [u8], first: usize)
-    requires { ⌜ (StandsBy (now file) (now kept)) × ((size (standing-graph (now file)) ≤ 256) × (6 * (first + length ((standing-graph (now file)) .edges)) ≤ length (now out))) ⌝ }
-    ensures { λ _. ⌜ now (out .exit) ≡ put-at (now (out .entry)) (6 * first) (run (edge-recs (decode-deliveries (now (file .entry)))) 8) ⌝ }
+    requires { ⌜ (StandsBy (now file) (now kept)) × ((size (standing-graph (now file)) ≤ 256) × (record-len * (first + length ((standing-graph (now file)) .edges)) ≤ length (now out))) ⌝ }
+    ensures { λ _. ⌜ now (out .exit) ≡ put-at (now (out .entry)) (record-len * first) (run (edge-recs (decode-deliveries (now (file .entry)))) 8) ⌝ }
 {
     let mut before = 0;
     let mut at = first;
@@ -91,7 +92,7 @@ fn write_all_edges(file: &[u8], kept: &[usize; METHODS], out: &mut [u8], first: 
 
 // Writes the file of the standing graph, which has so many nodes and edges.
 pub fn write_standing(file: &[u8], kept: &[usize; METHODS], view: GraphView, out: &mut [u8])
-    requires { ⌜ (StandsBy (now file) (now kept)) × ((Counts (now file) view) × ((view .nodes ≤ 256) × (6 * (view .nodes + view .edges) ≤ length (now out)))) ⌝ }
+    requires { ⌜ (StandsBy (now file) (now kept)) × ((Counts (now file) view) × ((view .nodes ≤ max-nodes) × (record-len * (view .nodes + view .edges) ≤ length (now out)))) ⌝ }
     ensures { λ _. ⌜ now (out .exit) ≡ put-at (now (out .entry)) 0 (graph-bytes (standing-graph (now (file .entry)))) ⌝ }
 {
     write_all_nodes(file, kept, out);

@@ -4,6 +4,7 @@ ghost use Prim.Native.Nat.{_≤_};
 ghost use lib.ListN.{length};
 ghost use Rattle.files.specs.Assemble.{DeliveriesFile, assemble-first, assemble-said, from-standing, assembled-outcome, assembled-answer};
 ghost use Rattle.files.specs.Outcome.{Answers, answered};
+ghost use Rattle.files.specs.Places.{max-edges, max-nodes};
 ghost use Rattle.files.specs.Settling.{Settles};
 use crate::answers::Assembled;
 use crate::assembled::write_standing;
@@ -18,7 +19,7 @@ use crate::stood::standing_view;
 
 // 11 and 12, then the standing graph and its answer.
 fn assemble_standing(deliveries: &[u8], out: &mut [u8], limits: Limits) -> Assembled
-    requires { ⌜ (DeliveriesFile (now deliveries)) × ((limits .nodes ≤ 256) × (limits .edges ≤ 4096)) ⌝ }
+    requires { ⌜ (DeliveriesFile (now deliveries)) × ((limits .nodes ≤ max-nodes) × (limits .edges ≤ max-edges)) ⌝ }
     ensures { λ r. ⌜ Answers (answered (from-standing limits (now (deliveries .entry)) (length (now (out .entry)))) (assemble-said limits (now (deliveries .entry)) (length (now (out .entry))))) (now (out .entry)) (now (out .exit)) (assembled-answer r) ⌝ }
 {
     let kept = latest_openings(deliveries);
@@ -47,7 +48,7 @@ fn check_assemble(deliveries: &[u8], limits: Limits) -> Settled
 
 // Assembles within limits that leave node numbers in a byte.
 pub(crate) fn assemble_within(deliveries: &[u8], out: &mut [u8], limits: Limits) -> Assembled
-    requires { ⌜ (limits .nodes ≤ 256) × (limits .edges ≤ 4096) ⌝ }
+    requires { ⌜ (limits .nodes ≤ max-nodes) × (limits .edges ≤ max-edges) ⌝ }
     ensures { λ r. ⌜ Answers (assembled-outcome limits (now (deliveries .entry)) (length (now (out .entry)))) (now (out .entry)) (now (out .exit)) (assembled-answer r) ⌝ }
 {
     match check_assemble(deliveries, limits) {

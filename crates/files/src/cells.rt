@@ -4,6 +4,19 @@ ghost use Prim.Native.Nat.{_+_, _*_, _/_, _≤_, _<_};
 ghost use lib.ListN.{length, replicate};
 ghost use Rattle.files.specs.Cells.{cell, put-cell, has-bit, put-bit, put-at};
 
+// What the third and the fourth byte of a number weigh, as counts and as words of 32 bits.
+pub struct Weight {}
+
+impl Weight {
+    pub const THIRD: usize = 256 * 256;
+
+    pub const FOURTH: usize = 256 * 256 * 256;
+
+    pub const THIRD_OF_WORD: u32 = 256 * 256;
+
+    pub const FOURTH_OF_WORD: u32 = 256 * 256 * 256;
+}
+
 // A byte as a length, with its bound.
 pub fn wide(x: u8) -> usize
     ensures { λ r. ⌜ (r ≡ x) × (r < 256) ⌝ }
@@ -36,8 +49,8 @@ pub fn get32(work: &[u8], base: usize, i: usize) -> u32
     let p = base + 4 * i;
     (wide(work[p])
         + 256 * wide(work[p + 1])
-        + 65536 * wide(work[p + 2])
-        + 16777216 * wide(work[p + 3])) as u32
+        + Weight::THIRD * wide(work[p + 2])
+        + Weight::FOURTH * wide(work[p + 3])) as u32
 }
 
 // Stores v in cell i of one byte.
@@ -68,8 +81,8 @@ pub fn put32(work: &mut [u8], base: usize, i: usize, v: u32)
     let p = base + 4 * i;
     work[p] = (v % 256) as u8;
     work[p + 1] = (v / 256 % 256) as u8;
-    work[p + 2] = (v / 65536 % 256) as u8;
-    work[p + 3] = (v / 16777216 % 256) as u8;
+    work[p + 2] = (v / Weight::THIRD_OF_WORD % 256) as u8;
+    work[p + 3] = (v / Weight::FOURTH_OF_WORD % 256) as u8;
 }
 
 // Whether bit h of the row of bits from base on is one.

@@ -3,6 +3,7 @@
 ghost use mathlib.Core.Path.{_≡_};
 ghost use Prim.Native.Nat.{_+_, _%_, _≤_, _<_};
 ghost use lib.ListN.{length};
+ghost use Rattle.files.specs.Places.{usize-end};
 ghost use Rattle.files.specs.Refusal.{graph, property, rules, interface};
 ghost use Rattle.files.specs.FileKind.{kind-of};
 ghost use Rattle.files.specs.Checking.{checked, counted, nodes-with, bound-with, over-with, missing-with, from-seven, from-five, from-two, Sound};
@@ -74,7 +75,7 @@ fn missing(kind: FileKind, n: usize) -> bool
 
 // The steps from number 7 on.
 fn from_seven(kind: FileKind, records: &[u8], first: usize, position: u8, apart: usize) -> Checked
-    requires { ⌜ (Sound (kind-of kind) (now records)) × ((apart ≡ counted (kind-of kind) (now records)) × (first + length (now records) < 18446744073709551616)) ⌝ }
+    requires { ⌜ (Sound (kind-of kind) (now records)) × ((apart ≡ counted (kind-of kind) (now records)) × (first + length (now records) < usize-end)) ⌝ }
     ensures { λ r. ⌜ r ≡ from-seven (kind-of kind) (now (records .entry)) first position ⌝ }
 {
     let n = records.len() / Record::LEN;
@@ -90,7 +91,7 @@ fn from_seven(kind: FileKind, records: &[u8], first: usize, position: u8, apart:
 
 // The steps from number 5 on.
 fn from_five(limits: Limits, kind: FileKind, records: &[u8], first: usize, position: u8) -> Checked
-    requires { ⌜ (Sound (kind-of kind) (now records)) × (first + length (now records) < 18446744073709551616) ⌝ }
+    requires { ⌜ (Sound (kind-of kind) (now records)) × (first + length (now records) < usize-end) ⌝ }
     ensures { λ r. ⌜ r ≡ from-five limits (kind-of kind) (now (records .entry)) first position ⌝ }
 {
     let n = records.len() / Record::LEN;
@@ -106,7 +107,7 @@ fn from_five(limits: Limits, kind: FileKind, records: &[u8], first: usize, posit
 
 // The steps from number 2 on, of records that start at record `first` of the file.
 fn from_two(limits: Limits, kind: FileKind, records: &[u8], first: usize, position: u8) -> Checked
-    requires { ⌜ first + length (now records) < 18446744073709551616 ⌝ }
+    requires { ⌜ first + length (now records) < usize-end ⌝ }
     ensures { λ r. ⌜ r ≡ from-two limits (kind-of kind) (now (records .entry)) first position ⌝ }
 {
     match look_through(kind, records, first, position) {

@@ -3,6 +3,7 @@
 ghost use mathlib.Core.Path.{_≡_};
 ghost use Prim.Native.Nat.{_+_, _*_, _≤_, _<_};
 ghost use lib.ListN.{length};
+ghost use Rattle.files.specs.Places.{record-len};
 ghost use Rattle.files.specs.Record.{kind-at, record-at, count};
 ghost use Rattle.files.specs.Checking.{found-at, lowest};
 ghost use Rattle.files.specs.Deliveries.{own-start, opening-wrong};
@@ -32,7 +33,7 @@ fn opening_wrong(r: Record) -> bool
 
 // Record i, which opens a delivery.
 pub(crate) fn read_opening(file: &[u8], i: usize) -> Opening
-    requires { ⌜ 6 * i + 6 ≤ length (now file) ⌝ }
+    requires { ⌜ record-len * i + record-len ≤ length (now file) ⌝ }
     ensures { λ o. ⌜ o ≡ opening-read (record-at (now (file .entry)) i) ⌝ }
 {
     let r = read(file, i);
@@ -47,7 +48,7 @@ pub(crate) fn read_opening(file: &[u8], i: usize) -> Opening
 
 // 3 of an opening.
 fn look_opening(file: &[u8], i: usize, position: u8) -> Found
-    requires { ⌜ (6 * i + 6 ≤ length (now file)) × (kind-at (now file) i ≡ 6) ⌝ }
+    requires { ⌜ (record-len * i + record-len ≤ length (now file)) × (kind-at (now file) i ≡ 6) ⌝ }
     ensures { λ r. ⌜ r ≡ found-at 3 2 (delivery-test (now (file .entry))) 0 position i ⌝ }
 {
     let Opening::Of { .. } = read_opening(file, i) else {

@@ -2,6 +2,7 @@
 ghost use mathlib.Core.Path.{_≡_};
 ghost use Prim.Native.Nat.{_+_, _*_, _≤_};
 ghost use lib.ListN.{length};
+ghost use Rattle.files.specs.Places.{record-len};
 ghost use Rattle.files.specs.Record.{six};
 ghost use Rattle.files.specs.Cells.{put-at, has-bit};
 ghost use Rattle.files.specs.Line.{relation-line};
@@ -9,8 +10,8 @@ use crate::record::Record;
 
 // Stores a record as record i. Every record that a call writes goes through here.
 pub fn put_record(out: &mut [u8], i: usize, r: Record)
-    requires { ⌜ 6 * i + 6 ≤ length (now out) ⌝ }
-    ensures { λ _. ⌜ now (out .exit) ≡ put-at (now (out .entry)) (6 * i) (six r) ⌝ }
+    requires { ⌜ record-len * i + record-len ≤ length (now out) ⌝ }
+    ensures { λ _. ⌜ now (out .exit) ≡ put-at (now (out .entry)) (record-len * i) (six r) ⌝ }
 {
     let p = Record::LEN * i;
     out[p] = r.kind;

@@ -7,6 +7,7 @@ ghost use Rattle.files.specs.Cells.{put-at};
 ghost use Rattle.files.specs.Decode.{decode-graph, edge-rec};
 ghost use Rattle.files.specs.Join.{moved};
 ghost use Rattle.files.specs.Join.Bytes.{moved-bytes};
+ghost use Rattle.files.specs.Places.{record-len, max-nodes};
 ghost use Rattle.files.specs.Record.{write};
 ghost use Rattle.files.specs.View.{Views};
 use crate::encode::put_record;
@@ -24,8 +25,8 @@ fn moved_node(n: usize, v: usize) -> u8
 
 // Writes edge j of a graph, with its nodes counted on from those before, as record `at`.
 fn write_moved(graph: &[u8], view: GraphView, before: usize, out: &mut [u8], at: usize, j: usize)
-    requires { ⌜ (Views view (now graph)) × ((before + view .nodes ≤ 256) × ((j < view .edges) × (6 * at + 6 ≤ length (now out)))) ⌝ }
-    ensures { λ _. ⌜ now (out .exit) ≡ put-at (now (out .entry)) (6 * at) (moved-bytes before (decode-graph (now (graph .entry))) j) ⌝ }
+    requires { ⌜ (Views view (now graph)) × ((before + view .nodes ≤ max-nodes) × ((j < view .edges) × (record-len * at + record-len ≤ length (now out)))) ⌝ }
+    ensures { λ _. ⌜ now (out .exit) ≡ put-at (now (out .entry)) (record-len * at) (moved-bytes before (decode-graph (now (graph .entry))) j) ⌝ }
 {
     let e = edge_at(graph, view.nodes, j);
     let from = moved_node(before, e.from);
@@ -35,8 +36,8 @@ fn write_moved(graph: &[u8], view: GraphView, before: usize, out: &mut [u8], at:
 
 // Writes all edges of a graph from record `first` on.
 pub fn write_all_moved(graph: &[u8], view: GraphView, before: usize, out: &mut [u8], first: usize)
-    requires { ⌜ (Views view (now graph)) × ((before + view .nodes ≤ 256) × (6 * (first + view .edges) ≤ length (now out))) ⌝ }
-    ensures { λ _. ⌜ now (out .exit) ≡ put-at (now (out .entry)) (6 * first) (write (map edge-rec (map (moved before) ((decode-graph (now (graph .entry))) .edges)))) ⌝ }
+    requires { ⌜ (Views view (now graph)) × ((before + view .nodes ≤ max-nodes) × (record-len * (first + view .edges) ≤ length (now out))) ⌝ }
+    ensures { λ _. ⌜ now (out .exit) ≡ put-at (now (out .entry)) (record-len * first) (write (map edge-rec (map (moved before) ((decode-graph (now (graph .entry))) .edges)))) ⌝ }
 {
     let mut j = 0;
     while j < view.edges {

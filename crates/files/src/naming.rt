@@ -5,6 +5,7 @@ ghost use mathlib.Core.Bool.{cond};
 ghost use Prim.Native.Nat.{_+_, _*_, _≤_, _<_};
 ghost use lib.Dec.{leb, eqb};
 ghost use lib.ListN.{length};
+ghost use Rattle.files.specs.Places.{usize-end, record-len};
 ghost use Rattle.files.specs.Record.{record-at, count, parsed-as};
 ghost use Rattle.files.specs.Refusal.{graph, property, nodes-of, method-at};
 ghost use Rattle.files.specs.FileKind.{kind-of};
@@ -24,7 +25,7 @@ use crate::refusal::Refusal;
 
 // Node g; Other past the last.
 fn node_named(records: &[u8], nodes: usize, g: usize) -> Parsed
-    requires { ⌜ 6 * nodes ≤ length (now records) ⌝ }
+    requires { ⌜ record-len * nodes ≤ length (now records) ⌝ }
     ensures { λ p. ⌜ p ≡ cond (leb nodes g) Other (parsed-as 1 (record-at (now (records .entry)) g)) ⌝ }
 {
     if nodes <= g {
@@ -35,7 +36,7 @@ fn node_named(records: &[u8], nodes: usize, g: usize) -> Parsed
 
 // Node g; Other past the last, Wrong in another method.
 fn node_beside(records: &[u8], nodes: usize, g: usize, method: u8) -> Parsed
-    requires { ⌜ 6 * nodes ≤ length (now records) ⌝ }
+    requires { ⌜ record-len * nodes ≤ length (now records) ⌝ }
     ensures { λ p. ⌜ p ≡ cond (leb nodes g) Other (cond (eqb (method-at (now (records .entry)) g) method) (parsed-as 1 (record-at (now (records .entry)) g)) Wrong) ⌝ }
 {
     if nodes <= g {
@@ -56,7 +57,7 @@ pub(crate) fn name_nodes(
     first: usize,
     position: u8,
 ) -> Found
-    requires { ⌜ (Sound graph (now records)) × ((nodes ≡ nodes-of (now records)) × ((i < count (now records)) × (first + i < 18446744073709551616))) ⌝ }
+    requires { ⌜ (Sound graph (now records)) × ((nodes ≡ nodes-of (now records)) × ((i < count (now records)) × (first + i < usize-end))) ⌝ }
     ensures { λ r. ⌜ r ≡ found-at 2 7 (test graph (now (records .entry))) first position i ⌝ }
 {
     let Parsed::Edge { from, to, .. } = parse_edge(records, i) else {
@@ -85,7 +86,7 @@ fn names_past(r: Record, n: usize) -> bool
 
 // Row i; Other where it names a row past the last.
 fn row_within(records: &[u8], rows: usize, i: usize) -> Parsed
-    requires { ⌜ 6 * i + 6 ≤ length (now records) ⌝ }
+    requires { ⌜ record-len * i + record-len ≤ length (now records) ⌝ }
     ensures { λ p. ⌜ p ≡ cond (names-past rows (record-at (now (records .entry)) i)) Other (parsed-as 3 (record-at (now (records .entry)) i)) ⌝ }
 {
     let r = read(records, i);
@@ -97,7 +98,7 @@ fn row_within(records: &[u8], rows: usize, i: usize) -> Parsed
 
 // 7 of a row: the rows that it names are there.
 fn name_rows(records: &[u8], rows: usize, i: usize, first: usize, position: u8) -> Found
-    requires { ⌜ (Sound property (now records)) × ((rows ≡ count (now records)) × ((i < count (now records)) × (first + i < 18446744073709551616))) ⌝ }
+    requires { ⌜ (Sound property (now records)) × ((rows ≡ count (now records)) × ((i < count (now records)) × (first + i < usize-end))) ⌝ }
     ensures { λ r. ⌜ r ≡ found-at 2 7 (test property (now (records .entry))) first position i ⌝ }
 {
     let Parsed::Row { .. } = row_within(records, rows, i) else {
@@ -115,7 +116,7 @@ pub(crate) fn name(
     first: usize,
     position: u8,
 ) -> Found
-    requires { ⌜ (Sound (kind-of kind) (now records)) × ((bound ≡ bound-of (kind-of kind) (now records)) × ((i < count (now records)) × (first + i < 18446744073709551616))) ⌝ }
+    requires { ⌜ (Sound (kind-of kind) (now records)) × ((bound ≡ bound-of (kind-of kind) (now records)) × ((i < count (now records)) × (first + i < usize-end))) ⌝ }
     ensures { λ r. ⌜ r ≡ found-at 2 7 (test (kind-of kind) (now (records .entry))) first position i ⌝ }
 {
     match kind {

@@ -6,6 +6,7 @@ ghost use Prim.Native.Nat.{_+_, _*_, _≤_, _<_};
 ghost use lib.ListN.{length};
 ghost use Rattle.files.specs.Basics.Lexical.{before};
 ghost use Rattle.files.specs.Outcome.{refusal-at};
+ghost use Rattle.files.specs.Places.{usize-end, record-len};
 ghost use Rattle.files.specs.Record.{kind-at};
 ghost use Rattle.files.specs.Refusal.{graph, property, rules, interface, edge-before, disordered};
 ghost use Rattle.files.specs.FileKind.{kind-of};
@@ -51,7 +52,7 @@ fn before4(a: u8, b: u8, c: u8, d: u8, w: u8, x: u8, y: u8, z: u8) -> bool
 
 // The record before record i is an edge.
 fn edge_before(records: &[u8], i: usize) -> bool
-    requires { ⌜ 6 * i + 6 ≤ length (now records) ⌝ }
+    requires { ⌜ record-len * i + record-len ≤ length (now records) ⌝ }
     ensures { λ r. ⌜ r ≡ edge-before (now (records .entry)) i ⌝ }
 {
     if i == 0 {
@@ -62,7 +63,7 @@ fn edge_before(records: &[u8], i: usize) -> bool
 
 // 4: two edges in a row whose keys do not ascend.
 fn edge_disordered(records: &[u8], i: usize) -> bool
-    requires { ⌜ 6 * i + 6 ≤ length (now records) ⌝ }
+    requires { ⌜ record-len * i + record-len ≤ length (now records) ⌝ }
     ensures { λ r. ⌜ r ≡ disordered graph (now (records .entry)) i ⌝ }
 {
     if i == 0 {
@@ -76,7 +77,7 @@ fn edge_disordered(records: &[u8], i: usize) -> bool
 
 // 4: two rules in a row whose keys do not ascend.
 fn rule_disordered(records: &[u8], i: usize) -> bool
-    requires { ⌜ 6 * i + 6 ≤ length (now records) ⌝ }
+    requires { ⌜ record-len * i + record-len ≤ length (now records) ⌝ }
     ensures { λ r. ⌜ r ≡ disordered rules (now (records .entry)) i ⌝ }
 {
     if i == 0 {
@@ -110,7 +111,7 @@ pub(crate) fn unread(p: Parsed, low: u8, position: u8, record: usize) -> Refusal
 
 // A record of kind 1 in a graph.
 fn look_node(records: &[u8], i: usize, first: usize, position: u8) -> Found
-    requires { ⌜ (6 * i + 6 ≤ length (now records)) × ((first + i < 18446744073709551616) × (kind-at (now records) i ≡ 1)) ⌝ }
+    requires { ⌜ (record-len * i + record-len ≤ length (now records)) × ((first + i < usize-end) × (kind-at (now records) i ≡ 1)) ⌝ }
     ensures { λ r. ⌜ r ≡ found-at 3 2 (test graph (now (records .entry))) first position i ⌝ }
 {
     if edge_before(records, i) {
@@ -125,7 +126,7 @@ fn look_node(records: &[u8], i: usize, first: usize, position: u8) -> Found
 
 // A record of a graph that is no node: an edge, or misplaced.
 fn look_edge(records: &[u8], i: usize, first: usize, position: u8) -> Found
-    requires { ⌜ (6 * i + 6 ≤ length (now records)) × ((first + i < 18446744073709551616) × (kind-at (now records) i ≡ 1 → ⊥)) ⌝ }
+    requires { ⌜ (record-len * i + record-len ≤ length (now records)) × ((first + i < usize-end) × (kind-at (now records) i ≡ 1 → ⊥)) ⌝ }
     ensures { λ r. ⌜ r ≡ found-at 3 2 (test graph (now (records .entry))) first position i ⌝ }
 {
     let p = parse_edge(records, i);
@@ -139,7 +140,7 @@ fn look_edge(records: &[u8], i: usize, first: usize, position: u8) -> Found
 }
 
 pub(crate) fn look_graph(records: &[u8], i: usize, first: usize, position: u8) -> Found
-    requires { ⌜ (6 * i + 6 ≤ length (now records)) × (first + i < 18446744073709551616) ⌝ }
+    requires { ⌜ (record-len * i + record-len ≤ length (now records)) × (first + i < usize-end) ⌝ }
     ensures { λ r. ⌜ r ≡ found-at 3 2 (test graph (now (records .entry))) first position i ⌝ }
 {
     if kind_at(records, i) == Record::NODE {
@@ -149,7 +150,7 @@ pub(crate) fn look_graph(records: &[u8], i: usize, first: usize, position: u8) -
 }
 
 fn look_row(records: &[u8], i: usize, first: usize, position: u8) -> Found
-    requires { ⌜ (6 * i + 6 ≤ length (now records)) × (first + i < 18446744073709551616) ⌝ }
+    requires { ⌜ (record-len * i + record-len ≤ length (now records)) × (first + i < usize-end) ⌝ }
     ensures { λ r. ⌜ r ≡ found-at 3 2 (test property (now (records .entry))) first position i ⌝ }
 {
     let p = parse_row(records, i);
@@ -160,7 +161,7 @@ fn look_row(records: &[u8], i: usize, first: usize, position: u8) -> Found
 }
 
 fn look_rule(records: &[u8], i: usize, first: usize, position: u8) -> Found
-    requires { ⌜ (6 * i + 6 ≤ length (now records)) × (first + i < 18446744073709551616) ⌝ }
+    requires { ⌜ (record-len * i + record-len ≤ length (now records)) × (first + i < usize-end) ⌝ }
     ensures { λ r. ⌜ r ≡ found-at 3 2 (test rules (now (records .entry))) first position i ⌝ }
 {
     let p = parse_rule(records, i);
@@ -175,7 +176,7 @@ fn look_rule(records: &[u8], i: usize, first: usize, position: u8) -> Found
 
 // An interface file holds one record: a second one is out of place.
 fn look_interface(records: &[u8], i: usize, first: usize, position: u8) -> Found
-    requires { ⌜ (6 * i + 6 ≤ length (now records)) × (first + i < 18446744073709551616) ⌝ }
+    requires { ⌜ (record-len * i + record-len ≤ length (now records)) × (first + i < usize-end) ⌝ }
     ensures { λ r. ⌜ r ≡ found-at 3 2 (test interface (now (records .entry))) first position i ⌝ }
 {
     if 1 <= i {
@@ -190,7 +191,7 @@ fn look_interface(records: &[u8], i: usize, first: usize, position: u8) -> Found
 
 // Numbers 2 to 4 at record i, which is record `first + i` of the file: the lowest that applies, or nothing.
 pub(crate) fn look(kind: FileKind, records: &[u8], i: usize, first: usize, position: u8) -> Found
-    requires { ⌜ (6 * i + 6 ≤ length (now records)) × (first + i < 18446744073709551616) ⌝ }
+    requires { ⌜ (record-len * i + record-len ≤ length (now records)) × (first + i < usize-end) ⌝ }
     ensures { λ r. ⌜ r ≡ found-at 3 2 (test (kind-of kind) (now (records .entry))) first position i ⌝ }
 {
     match kind {

@@ -2,6 +2,7 @@
 ghost use mathlib.Core.Path.{_≡_};
 ghost use Prim.Native.Nat.{_+_, _*_, _≤_};
 ghost use lib.ListN.{length};
+ghost use Rattle.files.specs.Places.{record-len};
 ghost use Rattle.files.specs.Record.{record-at, kind-at, node-wrong, edge-wrong, row-wrong, rule-wrong, interface-wrong, parsed, parsed-as};
 use crate::record::Operator;
 use crate::record::Parsed;
@@ -9,7 +10,7 @@ use crate::record::Record;
 
 // The six bytes of record i.
 pub(crate) fn read(records: &[u8], i: usize) -> Record
-    requires { ⌜ 6 * i + 6 ≤ length (now records) ⌝ }
+    requires { ⌜ record-len * i + record-len ≤ length (now records) ⌝ }
     ensures { λ r. ⌜ r ≡ record-at (now (records .entry)) i ⌝ }
 {
     let p = Record::LEN * i;
@@ -25,7 +26,7 @@ pub(crate) fn read(records: &[u8], i: usize) -> Record
 
 // The kind of record i, whatever its fields.
 pub(crate) fn kind_at(records: &[u8], i: usize) -> u8
-    requires { ⌜ 6 * i + 6 ≤ length (now records) ⌝ }
+    requires { ⌜ record-len * i + record-len ≤ length (now records) ⌝ }
     ensures { λ r. ⌜ r ≡ kind-at (now (records .entry)) i ⌝ }
 {
     records[Record::LEN * i]
@@ -153,7 +154,7 @@ fn read_interface(r: Record) -> Parsed
 // ---- Record i where one kind is looked for: any other record is Other, and the tests of the other kinds are not made.
 
 pub(crate) fn parse_node(records: &[u8], i: usize) -> Parsed
-    requires { ⌜ 6 * i + 6 ≤ length (now records) ⌝ }
+    requires { ⌜ record-len * i + record-len ≤ length (now records) ⌝ }
     ensures { λ p. ⌜ p ≡ parsed-as 1 (record-at (now (records .entry)) i) ⌝ }
 {
     let r = read(records, i);
@@ -164,7 +165,7 @@ pub(crate) fn parse_node(records: &[u8], i: usize) -> Parsed
 }
 
 pub(crate) fn parse_edge(records: &[u8], i: usize) -> Parsed
-    requires { ⌜ 6 * i + 6 ≤ length (now records) ⌝ }
+    requires { ⌜ record-len * i + record-len ≤ length (now records) ⌝ }
     ensures { λ p. ⌜ p ≡ parsed-as 2 (record-at (now (records .entry)) i) ⌝ }
 {
     let r = read(records, i);
@@ -175,7 +176,7 @@ pub(crate) fn parse_edge(records: &[u8], i: usize) -> Parsed
 }
 
 pub(crate) fn parse_row(records: &[u8], i: usize) -> Parsed
-    requires { ⌜ 6 * i + 6 ≤ length (now records) ⌝ }
+    requires { ⌜ record-len * i + record-len ≤ length (now records) ⌝ }
     ensures { λ p. ⌜ p ≡ parsed-as 3 (record-at (now (records .entry)) i) ⌝ }
 {
     let r = read(records, i);
@@ -186,7 +187,7 @@ pub(crate) fn parse_row(records: &[u8], i: usize) -> Parsed
 }
 
 pub(crate) fn parse_rule(records: &[u8], i: usize) -> Parsed
-    requires { ⌜ 6 * i + 6 ≤ length (now records) ⌝ }
+    requires { ⌜ record-len * i + record-len ≤ length (now records) ⌝ }
     ensures { λ p. ⌜ p ≡ parsed-as 4 (record-at (now (records .entry)) i) ⌝ }
 {
     let r = read(records, i);
@@ -197,7 +198,7 @@ pub(crate) fn parse_rule(records: &[u8], i: usize) -> Parsed
 }
 
 pub(crate) fn parse_interface(records: &[u8], i: usize) -> Parsed
-    requires { ⌜ 6 * i + 6 ≤ length (now records) ⌝ }
+    requires { ⌜ record-len * i + record-len ≤ length (now records) ⌝ }
     ensures { λ p. ⌜ p ≡ parsed-as 5 (record-at (now (records .entry)) i) ⌝ }
 {
     let r = read(records, i);

@@ -5,8 +5,10 @@ ghost use mathlib.Core.Path.{_≡_};
 ghost use Prim.Native.Nat.{ℕ, _*_, _≤_, _<_};
 ghost use lib.Dec.{T};
 ghost use lib.ListN.{length};
+ghost use Rattle.files.specs.Places.{record-len};
 ghost use Rattle.files.specs.Record.{count};
 ghost use Rattle.files.specs.Plain.{PlainNode, Inside, PlainEdges, edge-number};
+use crate::cells::Weight;
 use crate::parse::edge_wrong;
 use crate::parse::node_wrong;
 use crate::parse::read;
@@ -32,12 +34,12 @@ pub(crate) fn leading_nodes(records: &[u8]) -> usize
 fn edge_number(r: Record) -> u32
     ensures { λ k. ⌜ k ≡ edge-number r ⌝ }
 {
-    65536 * (r.first as u32) + 256 * (r.second as u32) + (r.third as u32)
+    Weight::THIRD_OF_WORD * (r.first as u32) + 256 * (r.second as u32) + (r.third as u32)
 }
 
 // Whether an edge is between two of so many nodes, of one method.
 fn inside(records: &[u8], nodes: usize, r: Record) -> bool
-    requires { ⌜ 6 * nodes ≤ length (now records) ⌝ }
+    requires { ⌜ record-len * nodes ≤ length (now records) ⌝ }
     ensures { λ b. ⌜ (T b → Inside (now (records .entry)) nodes r) ⌝ }
 {
     let from = r.first as usize;

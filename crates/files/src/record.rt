@@ -135,12 +135,20 @@ pub struct Limits {
 }
 
 impl Limits {
+    pub const NODES: usize = 256;
+
+    pub const EDGES: usize = 4096;
+
+    pub const ROWS: usize = 32;
+
+    pub const ORS: usize = 12;
+
     // The limits of the desk.
     pub const DESK: Limits = Limits {
-        nodes: 256,
-        edges: 4096,
-        rows: 32,
-        ors: 12,
+        nodes: Limits::NODES,
+        edges: Limits::EDGES,
+        rows: Limits::ROWS,
+        ors: Limits::ORS,
     };
 
     pub fn desk() -> Self

@@ -3,6 +3,7 @@
 ghost use mathlib.Core.Path.{_≡_};
 ghost use Prim.Native.Nat.{_+_, _*_, _≤_, _<_};
 ghost use lib.ListN.{length};
+ghost use Rattle.files.specs.Places.{usize-end, record-len};
 ghost use Rattle.files.specs.Record.{count};
 ghost use Rattle.files.specs.FileKind.{kind-of};
 ghost use Rattle.files.specs.Checking.{test, lower, lowest, counts, counted, bound-of, Sound};
@@ -34,7 +35,7 @@ pub(crate) fn lower(found: Found, next: Found) -> Found
 
 // The lowest of numbers 2 to 4, at its first record.
 pub(crate) fn look_through(kind: FileKind, records: &[u8], first: usize, position: u8) -> Found
-    requires { ⌜ first + length (now records) < 18446744073709551616 ⌝ }
+    requires { ⌜ first + length (now records) < usize-end ⌝ }
     ensures { λ r. ⌜ r ≡ lowest 3 2 (test (kind-of kind) (now (records .entry))) first position (count (now (records .entry))) ⌝ }
 {
     let n = records.len() / Record::LEN;
@@ -56,7 +57,7 @@ pub(crate) fn name_through(
     first: usize,
     position: u8,
 ) -> Found
-    requires { ⌜ (Sound (kind-of kind) (now records)) × ((bound ≡ bound-of (kind-of kind) (now records)) × (first + length (now records) < 18446744073709551616)) ⌝ }
+    requires { ⌜ (Sound (kind-of kind) (now records)) × ((bound ≡ bound-of (kind-of kind) (now records)) × (first + length (now records) < usize-end)) ⌝ }
     ensures { λ r. ⌜ r ≡ lowest 2 7 (test (kind-of kind) (now (records .entry))) first position (count (now (records .entry))) ⌝ }
 {
     let n = records.len() / Record::LEN;
@@ -72,7 +73,7 @@ pub(crate) fn name_through(
 
 // Whether number 5 counts record i apart.
 fn counts(kind: FileKind, records: &[u8], i: usize) -> bool
-    requires { ⌜ 6 * i + 6 ≤ length (now records) ⌝ }
+    requires { ⌜ record-len * i + record-len ≤ length (now records) ⌝ }
     ensures { λ r. ⌜ r ≡ counts (kind-of kind) (now (records .entry)) i ⌝ }
 {
     match kind {

@@ -3,6 +3,7 @@
 ghost use mathlib.Core.Path.{_≡_};
 ghost use Prim.Native.Nat.{_+_, _*_, _≤_};
 ghost use lib.ListN.{length};
+ghost use Rattle.files.specs.Places.{record-len};
 ghost use Rattle.files.specs.Record.{parsed-at};
 ghost use Rattle.files.specs.Decode.{decode-graph, decode-interface};
 ghost use Rattle.files.specs.Sides.{foreign-node, foreign-call, foreign-of, first-foreign-record, shares, lacks, unprovided, has-entry, lacks-entry};
@@ -40,7 +41,7 @@ fn foreign_call(p: Parsed, provided: u8, required: u8) -> bool
 
 // Record i is not of the interface with these sets.
 fn foreign(graph: &[u8], i: usize, provided: u8, required: u8) -> bool
-    requires { ⌜ 6 * i + 6 ≤ length (now graph) ⌝ }
+    requires { ⌜ record-len * i + record-len ≤ length (now graph) ⌝ }
     ensures { λ r. ⌜ r ≡ foreign-of (record { provided = provided; required = required }) (parsed-at (now (graph .entry)) i) ⌝ }
 {
     let node = parse_node(graph, i);

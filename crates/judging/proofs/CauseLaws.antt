@@ -23,9 +23,11 @@ use Rattle.files.specs.Decode.{decode-graph, decode-property, row-of, Filed}
 use Rattle.files.specs.Decode.Graphs.{decoded-filed}
 use Rattle.files.specs.Decode.Values.{row-written}
 use Rattle.files.specs.Graph.{Graph, size, node, no-edge}
+use Rattle.files.specs.Places.{max-edges}
 use Rattle.files.specs.Property.{Row, both, either, row, names, obliged, Boxed, is-box, aims, box-row}
 use Rattle.files.specs.declared.graph.GraphEdge.{GraphEdge}
 use Rattle.files.specs.declared.property.PropertyRow.{PropertyRow}
+use Rattle.judging.specs.Places.{firsts-base, judge-room, max-pairs}
 use Rattle.judging.specs.declared.causes.Cause.{Cause}
 use Rattle.judging.specs.declared.shape.Shape.{Shape}
 use Rattle.judging.specs.Levels.{holds, rank}
@@ -56,7 +58,7 @@ module _ (s : Shape) (g p : List ℕ) (ready : Ready s g p) where
   abbrev P : List Row
   P = decode-property p
 
-  pub pairs-fit : s .graph .nodes * s .rows ≤ 8192
+  pub pairs-fit : s .graph .nodes * s .rows ≤ max-pairs
   pairs-fit = omega (arith, mul-le-mul (ready .held .few-nodes) (ready .few-rows))
 
   as-node : (v : ℕ) → v < s .graph .nodes → v < size G
@@ -85,19 +87,19 @@ module _ (s : Shape) (g p : List ℕ) (ready : Ready s g p) where
   -- ---- the first edges
 
   abbrev Firsts : List ℕ → ℕ → Type 0
-  Firsts w v = (u : ℕ) → u < v → cell w 33792 2 u ≡ first-edge G u
+  Firsts w v = (u : ℕ) → u < v → cell w firsts-base 2 u ≡ first-edge G u
 
-  pub few-first : (v : ℕ) → first-edge G v ≤ 4096
+  pub few-first : (v : ℕ) → first-edge G v ≤ max-edges
   few-first v = omega (arith, first-edge-le G v, edges-is s g p ready, ready .held .few-edges)
 
-  module _ (w w′ : List ℕ) (v first : ℕ) (put : w′ ≡ put-cell w 33792 2 v first) where
-    pub firsts-on : 41664 ≤ length w → v ≤ 256 → first ≡ first-edge G v → Firsts w v → Firsts w′ (v + 1)
-    firsts-on room few e = cells-on (first-edge G) w w′ 33792 2 v first put (omega arith) (omega (arith, e, few-first v)) e
+  module _ (w w′ : List ℕ) (v first : ℕ) (put : w′ ≡ put-cell w firsts-base 2 v first) where
+    pub firsts-on : judge-room ≤ length w → v ≤ 256 → first ≡ first-edge G v → Firsts w v → Firsts w′ (v + 1)
+    firsts-on room few e = cells-on (first-edge G) w w′ firsts-base 2 v first put (omega arith) (omega (arith, e, few-first v)) e
 
     pub ranked-kept : Ranked G P w → Ranked G P w′
     ranked-kept f = ranked-i G P w′ (λ a r ha hr.
         ap (λ (l : List ℕ). rank-at l a r) put
-        ∙ cell-apart w 33792 2 v first 0 2 (32 * a + r) (inl (omega (arith, nodes-fit s g p ready, rows-fit s g p ready)))
+        ∙ cell-apart w firsts-base 2 v first 0 2 (32 * a + r) (inl (omega (arith, nodes-fit s g p ready, rows-fit s g p ready)))
         ∙ ranked-e G P w f a r ha hr)
 
   -- ---- the edges of a node

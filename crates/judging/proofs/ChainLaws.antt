@@ -13,6 +13,7 @@ use borrow.Rule.Slice.PartMut.{midOf, putMid}
 use borrow.Author.Tests.{ne-eqb}
 use Rattle.files.specs.Basics.Lists.{index-e}
 use Rattle.files.specs.Graph.{Graph, size, no-edge}
+use Rattle.files.specs.Places.{max-edges, two-bytes-last}
 use Rattle.files.specs.Property.{Row, always, never, returns, not-returns, in-method, not-in-method, both, either, box, box-all, row}
 use Rattle.files.specs.Access.{GraphFile, row-held}
 use Rattle.files.specs.Cells.{cell, put-cell}
@@ -21,6 +22,7 @@ use Rattle.files.specs.Decode.Graphs.{decoded-size, decoded-edges, decoded-flow
 use Rattle.files.specs.Record.{count}
 use Rattle.files.specs.Refusal.{nodes-of}
 use Rattle.files.specs.declared.property.PropertyRow.{PropertyRow}
+use Rattle.judging.specs.Places.{judge-room, node-heads-base, node-nexts-base, row-heads-base, row-nexts-base, node-heads-bytes}
 use Rattle.judging.specs.declared.shape.Shape.{Shape}
 use Rattle.judging.specs.Chains.{Chained, Outside, linked, into, uses, named, named-or, is-row, operand-of, Index}
 use Rattle.judging.specs.Chains.Laws.{chained-none, chained-kept, linked-is, linked-outside, test-turned, chain-more, chain-on, chain-skip}
@@ -85,12 +87,12 @@ module _ (g : List ℕ) (file : GraphFile g) (nodes edges : ℕ) (nodes-are : no
   to-below : (e : ℕ) → e < edges → to-of e < size G
   to-below e h = (decoded-flow (file .limits) g (file .accepted)) .to-node (getD (G .edges) e no-edge) (index-e no-edge (G .edges) e (omega (arith, edge-count)))
 
-  module _ (heads nexts : ℕ) (apart : heads + 2 * nodes ≤ nexts) (few : edges ≤ 4096) (w : List ℕ) (room : nexts + 2 * edges ≤ length w) (e key : ℕ) (is : key ≡ to-of e) (h : e < edges) where
+  module _ (heads nexts : ℕ) (apart : heads + 2 * nodes ≤ nexts) (few : edges ≤ max-edges) (w : List ℕ) (room : nexts + 2 * edges ≤ length w) (e key : ℕ) (is : key ≡ to-of e) (h : e < edges) where
     key-below : key < nodes
     key-below = omega (arith, is, to-below e h, node-count)
 
     -- where the edge is linked
-    pub may-link : (heads + 2 * key + 2 ≤ length w) × ((nexts + 2 * e + 2 ≤ length w) × (e < 65535))
+    pub may-link : (heads + 2 * key + 2 ≤ length w) × ((nexts + 2 * e + 2 ≤ length w) × (e < two-bytes-last))
     may-link = (omega (arith, key-below), (omega arith, omega arith))
 
     -- one edge more
@@ -102,15 +104,15 @@ module _ (g : List ℕ) (file : GraphFile g) (nodes edges : ℕ) (nodes-are : no
 module _ (s : Shape) (g p : List ℕ) (ready : Ready s g p) where
   -- ---- places
 
-  module _ (w : List ℕ) (j key : ℕ) (h : j < 2 * s .rows) (c : Chained w 41472 41536 (uses (decode-property p)) (s .rows) j) where
+  module _ (w : List ℕ) (j key : ℕ) (h : j < 2 * s .rows) (c : Chained w row-heads-base row-nexts-base (uses (decode-property p)) (s .rows) j) where
     abbrev P : List Row
     P = decode-property p
 
-    place-linked : 41664 ≤ length w → key ≡ named-or (named (row P (j / 2)) (j % 2)) (s .rows) → key < s .rows
-        → Chained (linked w 41472 41536 key j) 41472 41536 (uses P) (s .rows) (j + 1)
+    place-linked : judge-room ≤ length w → key ≡ named-or (named (row P (j / 2)) (j % 2)) (s .rows) → key < s .rows
+        → Chained (linked w row-heads-base row-nexts-base key j) row-heads-base row-nexts-base (uses P) (s .rows) (j + 1)
     place-linked room e l =
-        subst (Chained (linked w 41472 41536 key j) 41472 41536 (uses P) (s .rows)) (sym (add-one j))
-        (chain-more w 41472 41536 (uses P) (s .rows) j key l
+        subst (Chained (linked w row-heads-base row-nexts-base key j) row-heads-base row-nexts-base (uses P) (s .rows)) (sym (add-one j))
+        (chain-more w row-heads-base row-nexts-base (uses P) (s .rows) j key l
         (omega (arith, ready .few-rows))
         (omega (arith, ready .few-rows))
         (omega (arith, ready .few-rows))
@@ -121,20 +123,20 @@ module _ (s : Shape) (g p : List ℕ) (ready : Ready s g p) where
         only none e k = absurd (omega arith)
         only (some q) e k = test-turned q k ∙ ap (eqb k) (sym e)
 
-    place-outside : key < s .rows → Outside 41472 41664 w (linked w 41472 41536 key j)
+    place-outside : key < s .rows → Outside row-heads-base judge-room w (linked w row-heads-base row-nexts-base key j)
     place-outside l =
-        linked-outside w 41472 41536 key j 41472 41664 (omega arith) (omega (arith, ready .few-rows)) (omega arith) (omega (arith, ready .few-rows))
+        linked-outside w row-heads-base row-nexts-base key j row-heads-base judge-room (omega arith) (omega (arith, ready .few-rows)) (omega arith) (omega (arith, ready .few-rows))
 
     -- a place that names a row
-    pub place-on : (w′ : List ℕ) → 41664 ≤ length w → key ≡ named-or (named (row P (j / 2)) (j % 2)) (s .rows) → key < s .rows → w′ ≡ linked w 41472 41536 key j
-        → Chained w′ 41472 41536 (uses P) (s .rows) (j + 1) × Outside 41472 41664 w w′
+    pub place-on : (w′ : List ℕ) → judge-room ≤ length w → key ≡ named-or (named (row P (j / 2)) (j % 2)) (s .rows) → key < s .rows → w′ ≡ linked w row-heads-base row-nexts-base key j
+        → Chained w′ row-heads-base row-nexts-base (uses P) (s .rows) (j + 1) × Outside row-heads-base judge-room w w′
     place-on w′ room e l d =
-        subst (λ (v : List ℕ). Chained v 41472 41536 (uses P) (s .rows) (j + 1) × Outside 41472 41664 w v) (sym d) (place-linked room e l, place-outside l)
+        subst (λ (v : List ℕ). Chained v row-heads-base row-nexts-base (uses P) (s .rows) (j + 1) × Outside row-heads-base judge-room w v) (sym d) (place-linked room e l, place-outside l)
 
     -- a place that names none
-    pub place-skipped : key ≡ named-or (named (row P (j / 2)) (j % 2)) (s .rows) → s .rows ≤ key → Chained w 41472 41536 (uses P) (s .rows) (j + 1)
+    pub place-skipped : key ≡ named-or (named (row P (j / 2)) (j % 2)) (s .rows) → s .rows ≤ key → Chained w row-heads-base row-nexts-base (uses P) (s .rows) (j + 1)
     place-skipped e l =
-        subst (Chained w 41472 41536 (uses P) (s .rows)) (sym (add-one j)) (chain-skip w 41472 41536 (uses P) (s .rows) j (λ k m. skips (named (row P (j / 2)) (j % 2)) e k m) c)
+        subst (Chained w row-heads-base row-nexts-base (uses P) (s .rows)) (sym (add-one j)) (chain-skip w row-heads-base row-nexts-base (uses P) (s .rows) j (λ k m. skips (named (row P (j / 2)) (j % 2)) e k m) c)
       where
         skips : (o : Option ℕ) → key ≡ named-or o (s .rows) → (k : ℕ) → k < s .rows → is-row o k ≡ false
         skips none e k m = refl
@@ -143,22 +145,22 @@ module _ (s : Shape) (g p : List ℕ) (ready : Ready s g p) where
   -- ---- both chains
 
   -- heads that were cleared
-  module _ (w ys : List ℕ) (room : 41664 ≤ length w) where
-    pub edges-none : ys ≡ replicate (length (midOf 32768 512 w)) 0 → Chained (putMid 32768 512 w ys) 32768 33280 (into (decode-graph g)) (size (decode-graph g)) 0
-    edges-none z = chained-none (putMid 32768 512 w ys) 32768 33280 (into (decode-graph g)) (size (decode-graph g))
-        (λ q a b. cleared-inside 32768 512 w ys z (omega arith) q a (omega (arith, size-is s g p ready, ready .held .few-nodes)))
+  module _ (w ys : List ℕ) (room : judge-room ≤ length w) where
+    pub edges-none : ys ≡ replicate (length (midOf node-heads-base node-heads-bytes w)) 0 → Chained (putMid node-heads-base node-heads-bytes w ys) node-heads-base node-nexts-base (into (decode-graph g)) (size (decode-graph g)) 0
+    edges-none z = chained-none (putMid node-heads-base node-heads-bytes w ys) node-heads-base node-nexts-base (into (decode-graph g)) (size (decode-graph g))
+        (λ q a b. cleared-inside node-heads-base node-heads-bytes w ys z (omega arith) q a (omega (arith, size-is s g p ready, ready .held .few-nodes)))
 
-    pub places-none : ys ≡ replicate (length (midOf 41472 64 w)) 0 → Chained (putMid 41472 64 w ys) 41472 41536 (uses (decode-property p)) (s .rows) 0
-    places-none z = chained-none (putMid 41472 64 w ys) 41472 41536 (uses (decode-property p)) (s .rows)
-        (λ q a b. cleared-inside 41472 64 w ys z (omega arith) q a (omega (arith, ready .few-rows)))
+    pub places-none : ys ≡ replicate (length (midOf row-heads-base 64 w)) 0 → Chained (putMid row-heads-base 64 w ys) row-heads-base row-nexts-base (uses (decode-property p)) (s .rows) 0
+    places-none z = chained-none (putMid row-heads-base 64 w ys) row-heads-base row-nexts-base (uses (decode-property p)) (s .rows)
+        (λ q a b. cleared-inside row-heads-base 64 w ys z (omega arith) q a (omega (arith, ready .few-rows)))
 
     -- places written where the heads of places were cleared
-    pub beside-places : ys ≡ replicate (length (midOf 41472 64 w)) 0 → (w′ : List ℕ) → Outside 41472 41664 (putMid 41472 64 w ys) w′ → Outside 41472 41664 w w′
-    beside-places z w′ = outside-both 41472 41536 41472 41664 41472 41664 w (putMid 41472 64 w ys) w′ (omega arith) (omega arith) (omega arith) (omega arith) (cleared-outside 41472 64 w ys z (omega arith))
+    pub beside-places : ys ≡ replicate (length (midOf row-heads-base 64 w)) 0 → (w′ : List ℕ) → Outside row-heads-base judge-room (putMid row-heads-base 64 w ys) w′ → Outside row-heads-base judge-room w w′
+    beside-places z w′ = outside-both row-heads-base row-nexts-base row-heads-base judge-room row-heads-base judge-room w (putMid row-heads-base 64 w ys) w′ (omega arith) (omega arith) (omega arith) (omega arith) (cleared-outside row-heads-base 64 w ys z (omega arith))
 
-  pub indexed : (w w′ : List ℕ) → Chained w 32768 33280 (into (decode-graph g)) (size (decode-graph g)) (length ((decode-graph g) .edges)) → Outside 41472 41664 w w′
-      → Chained w′ 41472 41536 (uses (decode-property p)) (s .rows) (2 * s .rows) → Index (decode-graph g) (decode-property p) w′
+  pub indexed : (w w′ : List ℕ) → Chained w node-heads-base node-nexts-base (into (decode-graph g)) (size (decode-graph g)) (length ((decode-graph g) .edges)) → Outside row-heads-base judge-room w w′
+      → Chained w′ row-heads-base row-nexts-base (uses (decode-property p)) (s .rows) (2 * s .rows) → Index (decode-graph g) (decode-property p) w′
   indexed w w′ c o d = record {
-    by-node = chained-kept w w′ 32768 33280 (into (decode-graph g)) (size (decode-graph g)) (length ((decode-graph g) .edges)) 41472 41664 (omega (arith, size-is s g p ready, ready .held .few-nodes)) (omega (arith, edges-is s g p ready, ready .held .few-edges)) o c;
-    by-row = subst (λ (n : ℕ). Chained w′ 41472 41536 (uses (decode-property p)) n (2 * n)) (sym (rows-is s g p ready)) d;
+    by-node = chained-kept w w′ node-heads-base node-nexts-base (into (decode-graph g)) (size (decode-graph g)) (length ((decode-graph g) .edges)) row-heads-base judge-room (omega (arith, size-is s g p ready, ready .held .few-nodes)) (omega (arith, edges-is s g p ready, ready .held .few-edges)) o c;
+    by-row = subst (λ (n : ℕ). Chained w′ row-heads-base row-nexts-base (uses (decode-property p)) n (2 * n)) (sym (rows-is s g p ready)) d;
   }

@@ -12,6 +12,7 @@ use Rattle.files.specs.Cells.{has-bit, put-at}
 use Rattle.files.specs.Decode.{decode-graph}
 use Rattle.files.specs.Graph.{Graph, size, node}
 use Rattle.files.specs.Line.{relation-line}
+use Rattle.files.specs.Places.{max-nodes}
 use Rattle.judging.specs.declared.sizes.Sizes.{Sizes}
 use Rattle.judging.specs.Refinement.{Both, Chosen, Settled}
 use Rattle.judging.specs.Refinement.Cover.{settled-e, lines-of, lines-more, lines-all}
@@ -43,7 +44,7 @@ module _ (s : Sizes) (f g : List ℕ) (both : Both s f g) where
     entry h = (node H h) .entry
 
     pub covered-by : (c : List ℕ) → Chosen entry (s .second .nodes) c → (v : ℕ) → v < s .first .nodes → (t : Bool)
-        → (T t → (h : ℕ) × (h < 256) × T (has-bit c 0 h) × T (has-bit w (32 * v) h)) → (T (not t) → (h : ℕ) → h < 256 → T (has-bit c 0 h) → T (has-bit w (32 * v) h) → ⊥) → t ≡ covered G H v
+        → (T t → (h : ℕ) × (h < max-nodes) × T (has-bit c 0 h) × T (has-bit w (32 * v) h)) → (T (not t) → (h : ℕ) → h < max-nodes → T (has-bit c 0 h) → T (has-bit w (32 * v) h) → ⊥) → t ≡ covered G H v
     covered-by c chosen v is-node true some no-other =
         let a = some tt in
         let is : T (entry (a .0) && ltb (a .0) (s .second .nodes)) = subst T (chosen (a .0) (a .1)) (a .2) in
@@ -52,7 +53,7 @@ module _ (s : Sizes) (f g : List ℕ) (both : Both s f g) where
         sym (covered-at G H v (a .0) (omega (arith, below, second-size s f g both)) (and-i (entry (a .0)) (related G H v (a .0)) (and-l (entry (a .0)) (ltb (a .0) (s .second .nodes)) is) kept))
     covered-by c chosen v is-node false some no-other = sym (covered-none G H v (λ h l. not-T (meets G H v h) (λ m.
         let below : h < s .second .nodes = omega (arith, l, second-size s f g both) in
-        let few : h < 256 = omega (arith, below, both .second-held .few-nodes) in
+        let few : h < max-nodes = omega (arith, below, both .second-held .few-nodes) in
         no-other tt h few
         (subst T (sym (chosen h few)) (and-i (entry h) (ltb h (s .second .nodes)) (and-l (entry h) (related G H v h) m) (lt→ltb h (s .second .nodes) below)))
         (subst T (sym (settled-e G H w found v h (omega (arith, is-node, first-size s f g both)) few)) (and-r (entry h) (related G H v h) m)))))

@@ -20,6 +20,7 @@ use Rattle.files.specs.Decode.{decode-graph, decode-property}
 use Rattle.files.specs.Graph.{Graph, size, no-edge}
 use Rattle.files.specs.Property.{Row, both, either, row, obliged, Boxed, is-box, aims}
 use Rattle.files.specs.declared.property.PropertyRow.{PropertyRow}
+use Rattle.judging.specs.Places.{judge-room, max-pairs}
 use Rattle.judging.specs.declared.shape.Shape.{Shape}
 use Rattle.files.specs.Basics.First.{last-where, last-le, last-passes, last-above}
 use Rattle.judging.specs.Chains.Laws.{walk-on}
@@ -96,11 +97,11 @@ module _ (s : Shape) (g p : List ℕ) (ready : Ready s g p) where
   -- ---- a rank given
 
   module _ (k tail : ℕ) (w : List ℕ) (f : Finding G P k tail w) (v r : ℕ) (hv : v < s .graph .nodes) (hr : r < s .rows) where
-    pair-fits : pair v r < 8192
+    pair-fits : pair v r < max-pairs
     pair-fits = omega (arith, ready .held .few-nodes, ready .few-rows)
 
     module _ (turns : T (not (level G P (suc k) v r))) where
-      pub may-give : (pair v r < 8192) × ((rank-at w v r ≡ 0 → tail < 8192) × ((41664 ≤ length w) × (k ≤ 8192)))
+      pub may-give : (pair v r < max-pairs) × ((rank-at w v r ≡ 0 → tail < max-pairs) × ((judge-room ≤ length w) × (k ≤ max-pairs)))
       may-give = (
         pair-fits,
         (
@@ -147,10 +148,10 @@ module _ (s : Shape) (g p : List ℕ) (ready : Ready s g p) where
       b-is : u .b ≡ two .b
       b-is = ap (λ (y : PropertyRow). y .b) is ∙ two .is-b
 
-      pub a-fits : (pair v (u .a) < 8192) × (41664 ≤ length w)
+      pub a-fits : (pair v (u .a) < max-pairs) × (judge-room ≤ length w)
       a-fits = (omega (arith, a-is, two .a-row, rows-fit s g p ready, ready .held .few-nodes), f .room)
 
-      pub b-fits : (pair v (u .b) < 8192) × (41664 ≤ length w)
+      pub b-fits : (pair v (u .b) < max-pairs) × (judge-room ≤ length w)
       b-fits = (omega (arith, b-is, two .b-row, rows-fit s g p ready, ready .held .few-nodes), f .room)
 
       -- it has a rank where the pair is, and so is done
@@ -203,7 +204,7 @@ module _ (s : Shape) (g p : List ℕ) (ready : Ready s g p) where
   -- ---- places of the queue
 
   -- the queue has room
-  pub tail-fits : (k head tail : ℕ) (w : List ℕ) → Found G P k head tail w → tail ≤ 8192
+  pub tail-fits : (k head tail : ℕ) (w : List ℕ) → Found G P k head tail w → tail ≤ max-pairs
   tail-fits k head tail w f = omega (arith, f .counted, tally-le (λ (j : ℕ). not (eqb (cell w 0 2 j) 0)) (32 * size G), nodes-fit s g p ready)
 
   pub entry-finding : (k head tail : ℕ) (w : List ℕ) → Found G P k head tail w → head < tail → Finding G P k tail w

@@ -5,11 +5,13 @@ use mathlib.Core.Bool.{cond}
 use mathlib.Core.List.{List, [], _∷_}
 use Prim.Native.Nat.{ℕ, _<_, _+_, _*_, _/_, _%_}
 use lib.Dec.{T}
+use Rattle.files.specs.Places.{max-nodes}
 use Rattle.files.specs.declared.record.Limits.{Limits}
 use Rattle.files.specs.Graph.{Graph, Flow, node, size}
 use Rattle.files.specs.Refusal.{graph}
 use Rattle.files.specs.Decode.{decode-graph}
 use Rattle.files.specs.Outcome.{Said, Outcome, Answer, refused-answer, verdict-answer, Check, whole-check, file-checks, out-check, answered, Lines, whole-line, file-lines, out-line, short}
+use Rattle.judging.specs.Places.{compare-room}
 use Rattle.judging.specs.declared.answers.Compared.{Compared}
 use Rattle.judging.specs.declared.answers.Compared.the-variants.{Yes, No, Refused}
 use Rattle.judging.specs.Simulation.{Simulation, Covered, Simulates, simulates, uncovered, relation-bytes, related}
@@ -19,10 +21,6 @@ use lib.ListN.{getD}
 pub mod Laws
 pub mod Meaning
 pub mod Examples
-
--- the published length of the work buffer
-abbrev pub compare-room : ℕ
-compare-room = 165152
 
 -- the paper's number and values for each case
 abbrev pub compared-answer : Compared → Answer
@@ -74,4 +72,4 @@ pub record Compares (G H : Graph) (s : Said) : Type 1 where
   pub is-simulation : Simulation G H (λ g h. T (related G H g h))
   pub is-largest : (R : ℕ → ℕ → Type 0) → Simulation G H R → (g h : ℕ) → R g h → T (related G H g h)
   pub writes : s .written ≡ relation-bytes G H
-  pub writes-relation : (g h : ℕ) → g < size G → h < 256 → bit (getD (s .written) (32 * g + h / 8) 0) (h % 8) ≡ one (related G H g h)
+  pub writes-relation : (g h : ℕ) → g < size G → h < max-nodes → bit (getD (s .written) (32 * g + h / 8) 0) (h % 8) ≡ one (related G H g h)

@@ -8,16 +8,18 @@ use Rattle.files.specs.Decode.{decode-property}
 use Rattle.files.specs.Deliveries.{decode-deliveries, repeated}
 use Rattle.files.specs.Limits.{desk}
 use Rattle.files.specs.Outcome.{Said, Outcome, Check, whole-check, file-checks, out-check, answered, Lines, whole-line, file-lines, out-line, short, too-large}
+use Rattle.files.specs.Places.{record-len}
 use Rattle.files.specs.Refusal.{property}
 use Rattle.files.specs.declared.record.Limits.{Limits}
-use Rattle.judging.specs.Judge.{judge-room, judge-said}
+use Rattle.judging.specs.Judge.{judge-said}
+use Rattle.judging.specs.Places.{judge-room}
 pub mod Laws
 pub mod Work
 pub mod Meaning
 
 -- the published length of the buffer that holds the standing graph's bytes
 abbrev pub deliveries-store : ℕ
-deliveries-store = 6 * (desk .nodes + desk .edges)
+deliveries-store = record-len * (desk .nodes + desk .edges)
 
 -- the numbers before the standing graph, before those that follow: "14 .. after 8", so after every file's numbers
 abbrev pub delivered-first : Limits → List ℕ → List ℕ → ℕ → ℕ → List Check → List Check

@@ -15,6 +15,7 @@ use lib.Pow.{shr-lt, shr-shr, field, mod-mod-pow}
 use Rattle.files.specs.Basics.Tests.{and-i, eq-eqb}
 use Rattle.files.specs.Cells.{cell, has-bit}
 use Rattle.files.specs.Cells.Laws.{cell-four, has-bit-is}
+use Rattle.files.specs.Places.{max-nodes}
 use Rattle.judging.specs.Refinement.Rows.{lit, lit-and, lit-zero}
 
 -- ---- the digits of a number of some bytes
@@ -34,12 +35,12 @@ low-digit e x y h =
         let all : 7 - e + (1 + e) ≡ 8 = omega arith in
         sym (field n 1 e) ∙ ap (λ (m : ℕ). m / 2 ^ e) (sym (mod-mod-pow n (7 - e) (1 + e)) ∙ ap (λ (k : ℕ). n % 2 ^ k % 2 ^ (1 + e)) all)
 
-high-digit : (e x y : ℕ) → x < 256 → (x + 256 * y) / 2 ^ (8 + e) % 2 ≡ y / 2 ^ e % 2
+high-digit : (e x y : ℕ) → x < max-nodes → (x + 256 * y) / 2 ^ (8 + e) % 2 ≡ y / 2 ^ e % 2
 high-digit e x y h =
     let d : (x + 256 * y) / 256 ≡ y = omega arith in
     ap (λ (n : ℕ). n % 2) (sym (shr-shr (x + 256 * y) 8 e) ∙ ap (λ (n : ℕ). n / 2 ^ e) d)
 
-digit-of-byte : (n : ℕ) (x : ℕ → ℕ) → ((k : ℕ) → x k < 256) → (e : ℕ) → e < 8 * n → of-bytes n x / 2 ^ e % 2 ≡ x (e / 8) / 2 ^ (e % 8) % 2
+digit-of-byte : (n : ℕ) (x : ℕ → ℕ) → ((k : ℕ) → x k < max-nodes) → (e : ℕ) → e < 8 * n → of-bytes n x / 2 ^ e % 2 ≡ x (e / 8) / 2 ^ (e % 8) % 2
 digit-of-byte zero x small e h = absurd (omega arith)
 digit-of-byte (suc n) x small e h = go (decLt e 8) (digit-of-byte n (λ k. x (suc k)) (λ k. small (suc k)))
   where
@@ -95,7 +96,7 @@ digits-below (suc k) n d h = go (n % 2) refl d h (digits-below k (n / 2))
 
 -- ---- a word of the row
 
-module _ (w : List ℕ) (base : ℕ) (bytes : (b : ℕ) → getD w b 0 < 256) where
+module _ (w : List ℕ) (base : ℕ) (bytes : (b : ℕ) → getD w b 0 < max-nodes) where
   abbrev word : ℕ → ℕ
   word i = cell w base 4 i
 
@@ -165,7 +166,7 @@ one-less (suc k) n d h one other = go (n % 2) refl d one other (one-less k (n / 
 abbrev pub Left : List ℕ → ℕ → (ℕ → Type 0) → ℕ → Type 0
 Left c k D n = (n < 2 ^ 32) × ((j : ℕ) → j < 32 → T (has-bit c 0 (32 * k + j)) → T (lit n j) ⊎ D (32 * k + j))
 
-pub left-all : (c : List ℕ) (k n : ℕ) (D : ℕ → Type 0) → ((b : ℕ) → getD c b 0 < 256) → n ≡ cell c 0 4 k → Left c k D n
+pub left-all : (c : List ℕ) (k n : ℕ) (D : ℕ → Type 0) → ((b : ℕ) → getD c b 0 < max-nodes) → n ≡ cell c 0 4 k → Left c k D n
 left-all c k n D bytes is = (omega (arith, is, word-lt c 0 bytes k), λ j h t. inl (subst T (bit-of-word c 0 bytes (32 * k + j) ∙ at j h) t))
   where
     at : (j : ℕ) → j < 32 → eqb (cell c 0 4 ((32 * k + j) / 32) / 2 ^ ((32 * k + j) % 32) % 2) 1 ≡ lit n j

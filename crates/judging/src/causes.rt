@@ -7,6 +7,7 @@ ghost use Rattle.files.specs.Property.{aims, box-row};
 ghost use Rattle.files.specs.Decode.{decode-graph, decode-property};
 ghost use Rattle.judging.specs.Levels.{rank};
 ghost use Rattle.judging.specs.Levels.Sheet.{no-cause, ahead, lower, failing};
+ghost use Rattle.judging.specs.Places.{judge-room};
 ghost use Rattle.judging.specs.Ranking.{Ready, Ranked};
 ghost use Rattle.judging.specs.Sheets.{Settled, cause-held, AreCauses, as-causes, fails-at, best-target, better};
 use crate::shape::Shape;
@@ -39,7 +40,7 @@ pub struct Causes {
 
 // The rank of row r at node g; where the row holds, a number past every rank.
 fn rank_of(graph: &[u8], property: &[u8], s: Shape, work: &[u8], g: usize, r: usize) -> usize
-    requires { ⌜ (Ready s (now graph) (now property)) × ((g < s .graph .nodes) × ((r < s .rows) × ((41664 ≤ length (now work)) × (Ranked (decode-graph (now graph)) (decode-property (now property)) (now work))))) ⌝ }
+    requires { ⌜ (Ready s (now graph) (now property)) × ((g < s .graph .nodes) × ((r < s .rows) × ((judge-room ≤ length (now work)) × (Ranked (decode-graph (now graph)) (decode-property (now property)) (now work))))) ⌝ }
     ensures { λ k. ⌜ k ≡ rank (decode-graph (now (graph .entry))) (decode-property (now (property .entry))) g r ⌝ }
 {
     let x = get16(work, 0, Shape::STRIDE * g + r) as usize;
@@ -51,7 +52,7 @@ fn rank_of(graph: &[u8], property: &[u8], s: Shape, work: &[u8], g: usize, r: us
 
 // Whether node g is an entry at which row 0 is false.
 fn fails_at(graph: &[u8], property: &[u8], s: Shape, work: &[u8], g: usize) -> bool
-    requires { ⌜ (Ready s (now graph) (now property)) × ((g < s .graph .nodes) × ((41664 ≤ length (now work)) × (Ranked (decode-graph (now graph)) (decode-property (now property)) (now work)))) ⌝ }
+    requires { ⌜ (Ready s (now graph) (now property)) × ((g < s .graph .nodes) × ((judge-room ≤ length (now work)) × (Ranked (decode-graph (now graph)) (decode-property (now property)) (now work)))) ⌝ }
     ensures { λ b. ⌜ b ≡ fails-at (decode-graph (now (graph .entry))) (decode-property (now (property .entry))) g ⌝ }
 {
     let v = node_at(graph, g);
@@ -61,7 +62,7 @@ fn fails_at(graph: &[u8], property: &[u8], s: Shape, work: &[u8], g: usize) -> b
 
 // The lowest failing entry, or the number of nodes.
 pub(crate) fn first_failing(graph: &[u8], property: &[u8], s: Shape, work: &[u8]) -> usize
-    requires { ⌜ (Ready s (now graph) (now property)) × ((41664 ≤ length (now work)) × (Ranked (decode-graph (now graph)) (decode-property (now property)) (now work))) ⌝ }
+    requires { ⌜ (Ready s (now graph) (now property)) × ((judge-room ≤ length (now work)) × (Ranked (decode-graph (now graph)) (decode-property (now property)) (now work))) ⌝ }
     ensures { λ g. ⌜ g ≡ failing (decode-graph (now (graph .entry))) (decode-property (now (property .entry))) ⌝ }
 {
     let mut g = 0;
@@ -76,7 +77,7 @@ pub(crate) fn first_failing(graph: &[u8], property: &[u8], s: Shape, work: &[u8]
 
 // Puts the first edge of each node, and the number of edges, into the buffer.
 pub(crate) fn first_edges(graph: &[u8], property: &[u8], s: Shape, work: &mut [u8])
-    requires { ⌜ (Ready s (now graph) (now property)) × ((41664 ≤ length (now work)) × (Ranked (decode-graph (now graph)) (decode-property (now property)) (now work))) ⌝ }
+    requires { ⌜ (Ready s (now graph) (now property)) × ((judge-room ≤ length (now work)) × (Ranked (decode-graph (now graph)) (decode-property (now property)) (now work))) ⌝ }
     ensures { λ _. ⌜ Settled (decode-graph (now (graph .entry))) (decode-property (now (property .entry))) (now (work .exit)) ⌝ }
 {
     let mut g = 0;

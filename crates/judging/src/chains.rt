@@ -3,12 +3,14 @@ ghost use mathlib.Core.Path.{_≡_};
 ghost use Prim.Native.Nat.{_+_, _*_, _-_, _/_, _%_, _≤_, _<_};
 ghost use lib.ListN.{length, getD};
 ghost use Rattle.files.specs.Access.{GraphFile};
+ghost use Rattle.files.specs.Places.{max-edges, two-bytes-last};
 ghost use Rattle.files.specs.Record.{count};
 ghost use Rattle.files.specs.Refusal.{nodes-of};
 ghost use Rattle.files.specs.Graph.{size, no-edge};
 ghost use Rattle.files.specs.Property.{row};
 ghost use Rattle.files.specs.Decode.{decode-graph, decode-property};
 ghost use Rattle.judging.specs.Chains.{Chained, Outside, linked, into, uses, named, named-or, operand-of, Index};
+ghost use Rattle.judging.specs.Places.{judge-room, row-heads-base, row-nexts-base};
 ghost use Rattle.judging.specs.Ranking.{Ready};
 use crate::shape::Shape;
 use files::cells::clear;
@@ -20,7 +22,7 @@ use files::record::Operator;
 
 // Puts an item at the head of a key's chain.
 pub fn link(work: &mut [u8], heads: usize, nexts: usize, key: usize, item: usize)
-    requires { ⌜ (heads + 2 * key + 2 ≤ length (now work)) × ((nexts + 2 * item + 2 ≤ length (now work)) × (item < 65535)) ⌝ }
+    requires { ⌜ (heads + 2 * key + 2 ≤ length (now work)) × ((nexts + 2 * item + 2 ≤ length (now work)) × (item < two-bytes-last)) ⌝ }
     ensures { λ _. ⌜ now (work .exit) ≡ linked (now (work .entry)) heads nexts key item ⌝ }
 {
     let before = get16(work, heads, key);
@@ -74,7 +76,7 @@ pub(crate) fn link_graph(
     heads: usize,
     nexts: usize,
 )
-    requires { ⌜ (GraphFile (now graph)) × ((nodes ≡ nodes-of (now graph)) × ((edges ≡ count (now graph) - nodes-of (now graph)) × ((edges ≤ 4096) × ((heads + 2 * nodes ≤ nexts) × ((nexts + 2 * edges ≤ length (now work)) × (Chained (now work) heads nexts (into (decode-graph (now graph))) (size (decode-graph (now graph))) 0)))))) ⌝ }
+    requires { ⌜ (GraphFile (now graph)) × ((nodes ≡ nodes-of (now graph)) × ((edges ≡ count (now graph) - nodes-of (now graph)) × ((edges ≤ max-edges) × ((heads + 2 * nodes ≤ nexts) × ((nexts + 2 * edges ≤ length (now work)) × (Chained (now work) heads nexts (into (decode-graph (now graph))) (size (decode-graph (now graph))) 0)))))) ⌝ }
     ensures { λ _. ⌜ (Chained (now (work .exit)) heads nexts (into (decode-graph (now (graph .entry)))) (size (decode-graph (now (graph .entry)))) (length ((decode-graph (now (graph .entry))) .edges))) × (Outside heads (nexts + 2 * edges) (now (work .entry)) (now (work .exit))) ⌝ }
 {
     let mut e = 0;
@@ -87,8 +89,8 @@ pub(crate) fn link_graph(
 
 // Links place j to the row that it names, if any.
 fn link_place(graph: &[u8], property: &[u8], s: Shape, work: &mut [u8], j: usize)
-    requires { ⌜ (Ready s (now graph) (now property)) × ((j < 2 * s .rows) × ((41664 ≤ length (now work)) × (Chained (now work) 41472 41536 (uses (decode-property (now property))) (s .rows) j))) ⌝ }
-    ensures { λ _. ⌜ (Chained (now (work .exit)) 41472 41536 (uses (decode-property (now (property .entry)))) (s .rows) (j + 1)) × (Outside 41472 41664 (now (work .entry)) (now (work .exit))) ⌝ }
+    requires { ⌜ (Ready s (now graph) (now property)) × ((j < 2 * s .rows) × ((judge-room ≤ length (now work)) × (Chained (now work) row-heads-base row-nexts-base (uses (decode-property (now property))) (s .rows) j))) ⌝ }
+    ensures { λ _. ⌜ (Chained (now (work .exit)) row-heads-base row-nexts-base (uses (decode-property (now (property .entry)))) (s .rows) (j + 1)) × (Outside row-heads-base judge-room (now (work .entry)) (now (work .exit))) ⌝ }
 {
     let key = row_named(graph, property, s, j);
     if key < s.rows {
@@ -98,8 +100,8 @@ fn link_place(graph: &[u8], property: &[u8], s: Shape, work: &mut [u8], j: usize
 
 // Links every operand to the row that it names.
 fn link_places(graph: &[u8], property: &[u8], s: Shape, work: &mut [u8])
-    requires { ⌜ (Ready s (now graph) (now property)) × ((41664 ≤ length (now work)) × (Chained (now work) 41472 41536 (uses (decode-property (now property))) (s .rows) 0)) ⌝ }
-    ensures { λ _. ⌜ (Chained (now (work .exit)) 41472 41536 (uses (decode-property (now (property .entry)))) (s .rows) (2 * s .rows)) × (Outside 41472 41664 (now (work .entry)) (now (work .exit))) ⌝ }
+    requires { ⌜ (Ready s (now graph) (now property)) × ((judge-room ≤ length (now work)) × (Chained (now work) row-heads-base row-nexts-base (uses (decode-property (now property))) (s .rows) 0)) ⌝ }
+    ensures { λ _. ⌜ (Chained (now (work .exit)) row-heads-base row-nexts-base (uses (decode-property (now (property .entry)))) (s .rows) (2 * s .rows)) × (Outside row-heads-base judge-room (now (work .entry)) (now (work .exit))) ⌝ }
 {
     let mut j = 0;
     while j < 2 * s.rows {
@@ -110,7 +112,7 @@ fn link_places(graph: &[u8], property: &[u8], s: Shape, work: &mut [u8])
 
 // Builds both chains, whatever the buffer held.
 pub(crate) fn index(graph: &[u8], property: &[u8], s: Shape, work: &mut [u8])
-    requires { ⌜ (Ready s (now graph) (now property)) × (41664 ≤ length (now work)) ⌝ }
+    requires { ⌜ (Ready s (now graph) (now property)) × (judge-room ≤ length (now work)) ⌝ }
     ensures { λ _. ⌜ Index (decode-graph (now (graph .entry))) (decode-property (now (property .entry))) (now (work .exit)) ⌝ }
 {
     clear(&mut work[Shape::NODE_HEADS..Shape::NODE_NEXTS]);

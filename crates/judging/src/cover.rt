@@ -6,6 +6,8 @@ ghost use Prim.Native.Nat.{_*_, _≤_, _<_};
 ghost use lib.ListN.{length, drop};
 ghost use Rattle.files.specs.Graph.{node};
 ghost use Rattle.files.specs.Decode.{decode-graph};
+ghost use Rattle.files.specs.Places.{line-bytes};
+ghost use Rattle.judging.specs.Places.{compare-room};
 ghost use Rattle.judging.specs.Refinement.{Both, Chosen, Settled};
 ghost use Rattle.judging.specs.Simulation.{covered, uncovered, relation-bytes};
 use crate::rows::meets;
@@ -27,7 +29,7 @@ fn is_entry(first: &[u8], second: &[u8], s: Sizes, h: usize) -> bool
 // The entries of the second graph.
 fn entries(first: &[u8], second: &[u8], s: Sizes) -> [u8; LINE]
     requires { ⌜ Both s (now first) (now second) ⌝ }
-    ensures { λ r. ⌜ (length r ≡ 32) × (Chosen (λ h. (node (decode-graph (now (second .entry))) h) .entry) (s .second .nodes) r) ⌝ }
+    ensures { λ r. ⌜ (length r ≡ line-bytes) × (Chosen (λ h. (node (decode-graph (now (second .entry))) h) .entry) (s .second .nodes) r) ⌝ }
 {
     let mut row = [0u8; LINE];
     let mut h = 0;
@@ -42,7 +44,7 @@ fn entries(first: &[u8], second: &[u8], s: Sizes) -> [u8; LINE]
 
 // Whether an entry of the second graph is related to node g.
 fn is_covered(first: &[u8], second: &[u8], s: Sizes, work: &[u8], entries: &[u8], g: usize) -> bool
-    requires { ⌜ (32 ≤ length (now entries)) × ((Both s (now first) (now second)) × ((g < s .first .nodes) × ((165152 ≤ length (now work)) × ((Settled (decode-graph (now first)) (decode-graph (now second)) (now work)) × (Chosen (λ h. (node (decode-graph (now second)) h) .entry) (s .second .nodes) (now entries)))))) ⌝ }
+    requires { ⌜ (32 ≤ length (now entries)) × ((Both s (now first) (now second)) × ((g < s .first .nodes) × ((compare-room ≤ length (now work)) × ((Settled (decode-graph (now first)) (decode-graph (now second)) (now work)) × (Chosen (λ h. (node (decode-graph (now second)) h) .entry) (s .second .nodes) (now entries)))))) ⌝ }
     ensures { λ t. ⌜ t ≡ covered (decode-graph (now (first .entry))) (decode-graph (now (second .entry))) g ⌝ }
 {
     meets(entries, work, LINE * g)
@@ -57,7 +59,7 @@ fn is_uncovered(
     entries: &[u8],
     g: usize,
 ) -> bool
-    requires { ⌜ (32 ≤ length (now entries)) × ((Both s (now first) (now second)) × ((g < s .first .nodes) × ((165152 ≤ length (now work)) × ((Settled (decode-graph (now first)) (decode-graph (now second)) (now work)) × (Chosen (λ h. (node (decode-graph (now second)) h) .entry) (s .second .nodes) (now entries)))))) ⌝ }
+    requires { ⌜ (32 ≤ length (now entries)) × ((Both s (now first) (now second)) × ((g < s .first .nodes) × ((compare-room ≤ length (now work)) × ((Settled (decode-graph (now first)) (decode-graph (now second)) (now work)) × (Chosen (λ h. (node (decode-graph (now second)) h) .entry) (s .second .nodes) (now entries)))))) ⌝ }
     ensures { λ t. ⌜ t ≡ ((node (decode-graph (now (first .entry))) g) .entry && not (covered (decode-graph (now (first .entry))) (decode-graph (now (second .entry))) g)) ⌝ }
 {
     let v = node_at(first, g);
@@ -67,7 +69,7 @@ fn is_uncovered(
 
 // The lowest uncovered entry, or the number of nodes.
 pub(crate) fn first_uncovered(first: &[u8], second: &[u8], s: Sizes, work: &[u8]) -> usize
-    requires { ⌜ ((Both s (now first) (now second))) × ((165152 ≤ length (now work)) × (Settled (decode-graph (now first)) (decode-graph (now second)) (now work))) ⌝ }
+    requires { ⌜ ((Both s (now first) (now second))) × ((compare-room ≤ length (now work)) × (Settled (decode-graph (now first)) (decode-graph (now second)) (now work))) ⌝ }
     ensures { λ t. ⌜ t ≡ uncovered (decode-graph (now (first .entry))) (decode-graph (now (second .entry))) ⌝ }
 {
     let row = entries(first, second, s);
@@ -83,7 +85,7 @@ pub(crate) fn first_uncovered(first: &[u8], second: &[u8], s: Sizes, work: &[u8]
 
 // Writes the relation, 32 bytes for each node of the first graph.
 pub(crate) fn write_relation(first: &[u8], second: &[u8], s: Sizes, work: &[u8], out: &mut [u8])
-    requires { ⌜ ((Both s (now first) (now second))) × ((165152 ≤ length (now work)) × ((Settled (decode-graph (now first)) (decode-graph (now second)) (now work)) × (32 * s .first .nodes ≤ length (now out)))) ⌝ }
+    requires { ⌜ ((Both s (now first) (now second))) × ((compare-room ≤ length (now work)) × ((Settled (decode-graph (now first)) (decode-graph (now second)) (now work)) × (32 * s .first .nodes ≤ length (now out)))) ⌝ }
     ensures { λ _. ⌜ now (out .exit) ≡ relation-bytes (decode-graph (now (first .entry))) (decode-graph (now (second .entry))) ++ drop (length (relation-bytes (decode-graph (now (first .entry))) (decode-graph (now (second .entry))))) (now (out .entry)) ⌝ }
 {
     let mut g = 0;

@@ -12,6 +12,7 @@ ghost use Rattle.files.specs.Record.{count};
 ghost use Rattle.files.specs.Decode.{decode-graph, decode-property};
 ghost use Rattle.judging.specs.Chains.{into};
 ghost use Rattle.judging.specs.Levels.{level};
+ghost use Rattle.judging.specs.Places.{judge-room, max-pairs};
 ghost use Rattle.judging.specs.Ranking.{Ready, pair, rank-at, Given, given, tail-after, Finding, Grew, RowDone, Done, Found, Ranked, Names, leaf-false, may-fall};
 use crate::shape::Shape;
 use files::cells::get16;
@@ -26,7 +27,7 @@ use files::record::Operator;
 
 // Gives pair (g, r) rank k + 1 and puts it at the queue's end, unless it has a rank. The queue's end after it.
 fn give(work: &mut [u8], tail: usize, g: usize, r: usize, k: u16) -> usize
-    requires { ⌜ (pair g r < 8192) × ((rank-at (now work) g r ≡ 0 → tail < 8192) × ((41664 ≤ length (now work)) × (k ≤ 8192))) ⌝ }
+    requires { ⌜ (pair g r < max-pairs) × ((rank-at (now work) g r ≡ 0 → tail < max-pairs) × ((judge-room ≤ length (now work)) × (k ≤ max-pairs))) ⌝ }
     ensures { λ t. ⌜ (t ≡ tail-after (now (work .entry)) tail g r) × (now (work .exit) ≡ given (now (work .entry)) tail g r k) ⌝ }
 {
     let p = Shape::STRIDE * g + r;
@@ -40,7 +41,7 @@ fn give(work: &mut [u8], tail: usize, g: usize, r: usize, k: u16) -> usize
 
 // Whether pair (g, r) is false at level k, by its rank.
 fn is_false(work: &[u8], g: usize, r: usize, k: u16) -> bool
-    requires { ⌜ (pair g r < 8192) × (41664 ≤ length (now work)) ⌝ }
+    requires { ⌜ (pair g r < max-pairs) × (judge-room ≤ length (now work)) ⌝ }
     ensures { λ b. ⌜ b ≡ (leb 1 (rank-at (now (work .entry)) g r) && leb (rank-at (now (work .entry)) g r) k) ⌝ }
 {
     let x = get16(work, 0, Shape::STRIDE * g + r);

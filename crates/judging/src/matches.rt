@@ -8,8 +8,10 @@ ghost use lib.ListN.{length, replicate};
 ghost use Rattle.files.specs.Access.{GraphFile};
 ghost use Rattle.files.specs.Cells.{has-bit};
 ghost use Rattle.files.specs.Decode.{decode-graph};
+ghost use Rattle.files.specs.Places.{line-bytes, max-nodes};
 ghost use Rattle.files.specs.Record.{count};
 ghost use Rattle.files.specs.Refusal.{nodes-of};
+ghost use Rattle.judging.specs.Places.{compare-room};
 ghost use Rattle.judging.specs.Refinement.{Both, rel, edge, labelled-into, Within, Preceded, Preceding, Asked, Sifted, LostMet, Contained, Refining, Shrank, NodeMatched, LabelMatched};
 ghost use Rattle.judging.specs.Simulation.{related};
 use crate::rows::any_at;
@@ -39,7 +41,7 @@ pub(crate) fn source_of(graph: &[u8], nodes: usize, e: usize) -> usize
 // All that the sources of a slot's edges are related to.
 fn related_to_sources(first: &[u8], second: &[u8], s: Sizes, work: &[u8], slot: usize) -> [u8; LINE]
     requires { ⌜ (Both s (now first) (now second)) × ((slot < 9 * s .first .nodes) × (Refining (decode-graph (now first)) (decode-graph (now second)) (now work))) ⌝ }
-    ensures { λ r. ⌜ (length r ≡ 32) × ((Within (s .second .nodes) r) × ((e h : ℕ) → e < s .first .edges → T (labelled-into (decode-graph (now (first .entry))) slot e) → h < 256 → T (rel (now (work .entry)) ((edge (decode-graph (now (first .entry))) e) .from) h) → T (has-bit r 0 h))) ⌝ }
+    ensures { λ r. ⌜ (length r ≡ line-bytes) × ((Within (s .second .nodes) r) × ((e h : ℕ) → e < s .first .edges → T (labelled-into (decode-graph (now (first .entry))) slot e) → h < max-nodes → T (rel (now (work .entry)) ((edge (decode-graph (now (first .entry))) e) .from) h) → T (has-bit r 0 h))) ⌝ }
 {
     let mut found = [0u8; LINE];
     let mut at = get16(work, Sizes::HEADS, slot) as usize;
@@ -54,8 +56,8 @@ fn related_to_sources(first: &[u8], second: &[u8], s: Sizes, work: &[u8], slot: 
 
 // A row together with the predecessors of those nodes of another that stand in its word k.
 fn with_predecessors(work: &[u8], nodes: &[u8], row: &[u8], k: usize) -> [u8; LINE]
-    requires { ⌜ ((32 ≤ length (now nodes)) × (32 ≤ length (now row))) × ((165152 ≤ length (now work)) × (k < 8)) ⌝ }
-    ensures { λ r. ⌜ (length r ≡ 32) × (Preceded (now (work .entry)) (now (nodes .entry)) (now (row .entry)) r (32 * k) (32 * k + 32)) ⌝ }
+    requires { ⌜ ((32 ≤ length (now nodes)) × (32 ≤ length (now row))) × ((compare-room ≤ length (now work)) × (k < 8)) ⌝ }
+    ensures { λ r. ⌜ (length r ≡ line-bytes) × (Preceded (now (work .entry)) (now (nodes .entry)) (now (row .entry)) r (32 * k) (32 * k + 32)) ⌝ }
 {
     let mut met = row_at(row, 0);
     let mut rest = get32(nodes, 0, k);
@@ -70,8 +72,8 @@ fn with_predecessors(work: &[u8], nodes: &[u8], row: &[u8], k: usize) -> [u8; LI
 
 // The predecessors of all nodes of a row.
 fn predecessors(work: &[u8], nodes: &[u8]) -> [u8; LINE]
-    requires { ⌜ (32 ≤ length (now nodes)) × (165152 ≤ length (now work)) ⌝ }
-    ensures { λ r. ⌜ (length r ≡ 32) × (Preceded (now (work .entry)) (now (nodes .entry)) (replicate 32 0) r 0 256) ⌝ }
+    requires { ⌜ (32 ≤ length (now nodes)) × (compare-room ≤ length (now work)) ⌝ }
+    ensures { λ r. ⌜ (length r ≡ line-bytes) × (Preceded (now (work .entry)) (now (nodes .entry)) (replicate line-bytes 0) r 0 256) ⌝ }
 {
     let mut met = [0u8; LINE];
     let mut k = 0;
@@ -92,7 +94,7 @@ fn nodes_near(
     lost: &[u8],
 ) -> [u8; LINE]
     requires { ⌜ ((32 ≤ length (now row)) × (32 ≤ length (now lost))) × ((Both s (now first) (now second)) × (Refining (decode-graph (now first)) (decode-graph (now second)) (now work))) ⌝ }
-    ensures { λ r. ⌜ (length r ≡ 32) × (Preceding (decode-graph (now (second .entry))) (now (row .entry)) r) ⌝ }
+    ensures { λ r. ⌜ (length r ≡ line-bytes) × (Preceding (decode-graph (now (second .entry))) (now (row .entry)) r) ⌝ }
 {
     if size_of_row(lost) < size_of_row(row) {
         return [255u8; LINE];
@@ -102,7 +104,7 @@ fn nodes_near(
 
 // Adds node x, unless an edge of it with this label leads into the row.
 fn sift_at(work: &[u8], label: usize, row: &[u8], gone: &mut [u8], x: usize)
-    requires { ⌜ ((32 ≤ length (now row)) × (32 ≤ length (now gone))) × ((165152 ≤ length (now work)) × ((label < 9) × (x < 256))) ⌝ }
+    requires { ⌜ ((32 ≤ length (now row)) × (32 ≤ length (now gone))) × ((compare-room ≤ length (now work)) × ((label < 9) × (x < max-nodes))) ⌝ }
     ensures { λ _. ⌜ Asked (now (work .entry)) label (now (row .entry)) (now (gone .entry)) (now (gone .exit)) x ⌝ }
 {
     if !meets(
@@ -116,7 +118,7 @@ fn sift_at(work: &[u8], label: usize, row: &[u8], gone: &mut [u8], x: usize)
 
 // The same for those nodes found that stand in word k of their row.
 fn sift_word(work: &[u8], label: usize, row: &[u8], found: &[u8], gone: &mut [u8], k: usize)
-    requires { ⌜ ((32 ≤ length (now row)) × ((32 ≤ length (now found)) × (32 ≤ length (now gone)))) × ((165152 ≤ length (now work)) × ((label < 9) × (k < 8))) ⌝ }
+    requires { ⌜ ((32 ≤ length (now row)) × ((32 ≤ length (now found)) × (32 ≤ length (now gone)))) × ((compare-room ≤ length (now work)) × ((label < 9) × (k < 8))) ⌝ }
     ensures { λ _. ⌜ Sifted (now (work .entry)) label (now (row .entry)) (now (found .entry)) (now (gone .entry)) (now (gone .exit)) (32 * k) (32 * k + 32) ⌝ }
 {
     let mut rest = get32(found, 0, k);
@@ -129,7 +131,7 @@ fn sift_word(work: &[u8], label: usize, row: &[u8], found: &[u8], gone: &mut [u8
 
 // The same for all nodes found.
 fn sift(work: &[u8], label: usize, row: &[u8], found: &[u8], gone: &mut [u8])
-    requires { ⌜ ((32 ≤ length (now row)) × ((32 ≤ length (now found)) × (32 ≤ length (now gone)))) × ((165152 ≤ length (now work)) × (label < 9)) ⌝ }
+    requires { ⌜ ((32 ≤ length (now row)) × ((32 ≤ length (now found)) × (32 ≤ length (now gone)))) × ((compare-room ≤ length (now work)) × (label < 9)) ⌝ }
     ensures { λ _. ⌜ Sifted (now (work .entry)) label (now (row .entry)) (now (found .entry)) (now (gone .entry)) (now (gone .exit)) 0 256 ⌝ }
 {
     let mut k = 0;
@@ -148,8 +150,8 @@ pub(crate) fn drop_from(
     slot: usize,
     gone: &[u8],
 )
-    requires { ⌜ (32 ≤ length (now gone)) × ((Both s (now first) (now second)) × ((slot < 9 * s .first .nodes) × ((Refining (decode-graph (now first)) (decode-graph (now second)) (now work)) × ((e h : ℕ) → e < s .first .edges → T (labelled-into (decode-graph (now first)) slot e) → h < 256 → T (has-bit (now gone) 0 h) → T (related (decode-graph (now first)) (decode-graph (now second)) ((edge (decode-graph (now first)) e) .from) h) → ⊥)))) ⌝ }
-    ensures { λ _. ⌜ (Shrank (decode-graph (now (first .entry))) (decode-graph (now (second .entry))) (now (work .entry)) (now (work .exit))) × ((e h : ℕ) → e < s .first .edges → T (labelled-into (decode-graph (now (first .entry))) slot e) → h < 256 → T (rel (now (work .exit)) ((edge (decode-graph (now (first .entry))) e) .from) h) → T (has-bit (now (gone .entry)) 0 h) → ⊥) ⌝ }
+    requires { ⌜ (32 ≤ length (now gone)) × ((Both s (now first) (now second)) × ((slot < 9 * s .first .nodes) × ((Refining (decode-graph (now first)) (decode-graph (now second)) (now work)) × ((e h : ℕ) → e < s .first .edges → T (labelled-into (decode-graph (now first)) slot e) → h < max-nodes → T (has-bit (now gone) 0 h) → T (related (decode-graph (now first)) (decode-graph (now second)) ((edge (decode-graph (now first)) e) .from) h) → ⊥)))) ⌝ }
+    ensures { λ _. ⌜ (Shrank (decode-graph (now (first .entry))) (decode-graph (now (second .entry))) (now (work .entry)) (now (work .exit))) × ((e h : ℕ) → e < s .first .edges → T (labelled-into (decode-graph (now (first .entry))) slot e) → h < max-nodes → T (rel (now (work .exit)) ((edge (decode-graph (now (first .entry))) e) .from) h) → T (has-bit (now (gone .entry)) 0 h) → ⊥) ⌝ }
 {
     let mut at = get16(work, Sizes::HEADS, slot) as usize;
     while at > 0 {

@@ -3,6 +3,7 @@
 ghost use Prim.Native.Nat.{_≤_, _<_};
 ghost use lib.ListN.{length};
 ghost use Rattle.judging.specs.Chains.{Outside};
+ghost use Rattle.judging.specs.Places.{compare-room, cursors-base, neighbours-base};
 ghost use Rattle.judging.specs.Refinement.{Both};
 use crate::matches::source_of;
 use crate::sizes::Sizes;
@@ -23,8 +24,8 @@ struct Place {
 
 // Leaves the node, for the one from which it was met; a root was met from itself.
 fn leave(first: &[u8], second: &[u8], s: Sizes, work: &mut [u8], w: Place) -> Place
-    requires { ⌜ (Both s (now first) (now second)) × ((w .node < s .first .nodes) × (165152 ≤ length (now work))) ⌝ }
-    ensures { λ r. ⌜ (r .node < s .first .nodes) × (Outside 29760 30816 (now (work .entry)) (now (work .exit))) ⌝ }
+    requires { ⌜ (Both s (now first) (now second)) × ((w .node < s .first .nodes) × (compare-room ≤ length (now work))) ⌝ }
+    ensures { λ r. ⌜ (r .node < s .first .nodes) × (Outside cursors-base neighbours-base (now (work .entry)) (now (work .exit))) ⌝ }
 {
     let at = w.node;
     let left = w.left;
@@ -46,8 +47,8 @@ fn leave(first: &[u8], second: &[u8], s: Sizes, work: &mut [u8], w: Place) -> Pl
 
 // Goes along the next edge of the node, or leaves it.
 fn step(first: &[u8], second: &[u8], s: Sizes, work: &mut [u8], w: Place) -> Place
-    requires { ⌜ (Both s (now first) (now second)) × ((w .node < s .first .nodes) × (165152 ≤ length (now work))) ⌝ }
-    ensures { λ r. ⌜ (r .node < s .first .nodes) × (Outside 29760 30816 (now (work .entry)) (now (work .exit))) ⌝ }
+    requires { ⌜ (Both s (now first) (now second)) × ((w .node < s .first .nodes) × (compare-room ≤ length (now work))) ⌝ }
+    ensures { λ r. ⌜ (r .node < s .first .nodes) × (Outside cursors-base neighbours-base (now (work .entry)) (now (work .exit))) ⌝ }
 {
     let at = w.node;
     let e = get16(work, Sizes::CURSORS, at) as usize;
@@ -80,8 +81,8 @@ fn walk_from(
     root: usize,
     left: usize,
 ) -> usize
-    requires { ⌜ (Both s (now first) (now second)) × ((root < s .first .nodes) × (165152 ≤ length (now work))) ⌝ }
-    ensures { λ _. ⌜ Outside 29760 30816 (now (work .entry)) (now (work .exit)) ⌝ }
+    requires { ⌜ (Both s (now first) (now second)) × ((root < s .first .nodes) × (compare-room ≤ length (now work))) ⌝ }
+    ensures { λ _. ⌜ Outside cursors-base neighbours-base (now (work .entry)) (now (work .exit)) ⌝ }
 {
     let mut w = Place {
         node: root,
@@ -101,8 +102,8 @@ fn walk_from(
 
 // Walks from a root that was not met. How many nodes are left by then.
 fn visit(first: &[u8], second: &[u8], s: Sizes, work: &mut [u8], root: usize, left: usize) -> usize
-    requires { ⌜ (Both s (now first) (now second)) × ((root < s .first .nodes) × (165152 ≤ length (now work))) ⌝ }
-    ensures { λ _. ⌜ Outside 29760 30816 (now (work .entry)) (now (work .exit)) ⌝ }
+    requires { ⌜ (Both s (now first) (now second)) × ((root < s .first .nodes) × (compare-room ≤ length (now work))) ⌝ }
+    ensures { λ _. ⌜ Outside cursors-base neighbours-base (now (work .entry)) (now (work .exit)) ⌝ }
 {
     if has_bit(work, Sizes::SEEN, root) {
         return left;
@@ -114,8 +115,8 @@ fn visit(first: &[u8], second: &[u8], s: Sizes, work: &mut [u8], root: usize, le
 
 // The first edge of each node is its next one.
 fn put_cursors(first: &[u8], second: &[u8], s: Sizes, work: &mut [u8])
-    requires { ⌜ (Both s (now first) (now second)) × (165152 ≤ length (now work)) ⌝ }
-    ensures { λ _. ⌜ Outside 29760 30816 (now (work .entry)) (now (work .exit)) ⌝ }
+    requires { ⌜ (Both s (now first) (now second)) × (compare-room ≤ length (now work)) ⌝ }
+    ensures { λ _. ⌜ Outside cursors-base neighbours-base (now (work .entry)) (now (work .exit)) ⌝ }
 {
     let mut left = s.first.edges;
     while left > 0 {
@@ -127,8 +128,8 @@ fn put_cursors(first: &[u8], second: &[u8], s: Sizes, work: &mut [u8])
 
 // Walks from every node that was not met.
 pub(crate) fn put_in_order(first: &[u8], second: &[u8], s: Sizes, work: &mut [u8])
-    requires { ⌜ (Both s (now first) (now second)) × (165152 ≤ length (now work)) ⌝ }
-    ensures { λ _. ⌜ Outside 29760 30816 (now (work .entry)) (now (work .exit)) ⌝ }
+    requires { ⌜ (Both s (now first) (now second)) × (compare-room ≤ length (now work)) ⌝ }
+    ensures { λ _. ⌜ Outside cursors-base neighbours-base (now (work .entry)) (now (work .exit)) ⌝ }
 {
     put_cursors(first, second, s, work);
     let mut root = 0;

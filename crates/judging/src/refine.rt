@@ -7,7 +7,9 @@ ghost use lib.Dec.{T, ltb};
 ghost use lib.ListN.{length};
 ghost use Rattle.files.specs.Decode.{decode-graph};
 ghost use Rattle.files.specs.Cells.{has-bit};
+ghost use Rattle.files.specs.Places.{max-nodes, line-bytes};
 ghost use Rattle.judging.specs.Chains.{Outside};
+ghost use Rattle.judging.specs.Places.{compare-room, held-base, kinds-base};
 ghost use Rattle.judging.specs.Refinement.{Both, rel, held, load, Lacking, Refining, Shrank, Leading, NodeMatched, Took, Matching, Settled};
 use crate::matches::drop_from;
 use crate::matches::hand_on;
@@ -34,8 +36,8 @@ fn take(first: &[u8], second: &[u8], s: Sizes, work: &mut [u8], v: usize)
 
 // The nodes of the second graph without an edge of this label.
 fn lacking(s: Sizes, work: &[u8], label: usize) -> [u8; LINE]
-    requires { ⌜ (165152 ≤ length (now work)) × ((s .second .nodes ≤ 256) × (label < 9)) ⌝ }
-    ensures { λ r. ⌜ (length r ≡ 32) × (Lacking (now (work .entry)) label (s .second .nodes) r) ⌝ }
+    requires { ⌜ (compare-room ≤ length (now work)) × ((s .second .nodes ≤ max-nodes) × (label < 9)) ⌝ }
+    ensures { λ r. ⌜ (length r ≡ line-bytes) × (Lacking (now (work .entry)) label (s .second .nodes) r) ⌝ }
 {
     let mut row = [0u8; LINE];
     let mut x = 0;
@@ -75,8 +77,8 @@ fn drop_lacking(first: &[u8], second: &[u8], s: Sizes, work: &mut [u8])
 
 // The row of all nodes of the second graph.
 fn everything(s: Sizes) -> [u8; LINE]
-    requires { ⌜ s .second .nodes ≤ 256 ⌝ }
-    ensures { λ r. ⌜ (length r ≡ 32) × ((h : ℕ) → h < 256 → has-bit r 0 h ≡ ltb h (s .second .nodes)) ⌝ }
+    requires { ⌜ s .second .nodes ≤ max-nodes ⌝ }
+    ensures { λ r. ⌜ (length r ≡ line-bytes) × ((h : ℕ) → h < max-nodes → has-bit r 0 h ≡ ltb h (s .second .nodes)) ⌝ }
 {
     let mut row = [0u8; LINE];
     let mut x = 0;
@@ -89,8 +91,8 @@ fn everything(s: Sizes) -> [u8; LINE]
 
 // Holds all nodes of the second graph for every node of the first.
 fn hold_everything(first: &[u8], second: &[u8], s: Sizes, work: &mut [u8])
-    requires { ⌜ (Both s (now first) (now second)) × (165152 ≤ length (now work)) ⌝ }
-    ensures { λ _. ⌜ ((v h : ℕ) → v < s .first .nodes → h < 256 → held (now (work .exit)) v h ≡ ltb h (s .second .nodes)) × (Outside 8192 16384 (now (work .entry)) (now (work .exit))) ⌝ }
+    requires { ⌜ (Both s (now first) (now second)) × (compare-room ≤ length (now work)) ⌝ }
+    ensures { λ _. ⌜ ((v h : ℕ) → v < s .first .nodes → h < max-nodes → held (now (work .exit)) v h ≡ ltb h (s .second .nodes)) × (Outside held-base kinds-base (now (work .entry)) (now (work .exit))) ⌝ }
 {
     let row = everything(s);
     let mut v = 0;
@@ -102,8 +104,8 @@ fn hold_everything(first: &[u8], second: &[u8], s: Sizes, work: &mut [u8])
 
 // Whether node v has lost anything since its row was last taken.
 fn has_lost(first: &[u8], second: &[u8], s: Sizes, work: &[u8], v: usize) -> bool
-    requires { ⌜ (Both s (now first) (now second)) × ((v < s .first .nodes) × (165152 ≤ length (now work))) ⌝ }
-    ensures { λ r. ⌜ (T r → (h : ℕ) × (h < 256) × T (held (now (work .entry)) v h) × (T (rel (now (work .entry)) v h) → ⊥)) × (T (not r) → (h : ℕ) → h < 256 → T (held (now (work .entry)) v h) → T (rel (now (work .entry)) v h)) ⌝ }
+    requires { ⌜ (Both s (now first) (now second)) × ((v < s .first .nodes) × (compare-room ≤ length (now work))) ⌝ }
+    ensures { λ r. ⌜ (T r → (h : ℕ) × (h < max-nodes) × T (held (now (work .entry)) v h) × (T (rel (now (work .entry)) v h) → ⊥)) × (T (not r) → (h : ℕ) → h < max-nodes → T (held (now (work .entry)) v h) → T (rel (now (work .entry)) v h)) ⌝ }
 {
     exceeds(work, Sizes::HELD + LINE * v, LINE * v)
 }
@@ -136,8 +138,8 @@ fn sweep(first: &[u8], second: &[u8], s: Sizes, work: &mut [u8])
 
 // The lowest node that has lost anything, or the number of nodes.
 fn lowest_unsettled(first: &[u8], second: &[u8], s: Sizes, work: &[u8]) -> usize
-    requires { ⌜ (Both s (now first) (now second)) × (165152 ≤ length (now work)) ⌝ }
-    ensures { λ r. ⌜ (r < s .first .nodes → (h : ℕ) × (h < 256) × T (held (now (work .entry)) r h) × (T (rel (now (work .entry)) r h) → ⊥)) × (s .first .nodes ≤ r → (v h : ℕ) → v < s .first .nodes → h < 256 → T (held (now (work .entry)) v h) → T (rel (now (work .entry)) v h)) ⌝ }
+    requires { ⌜ (Both s (now first) (now second)) × (compare-room ≤ length (now work)) ⌝ }
+    ensures { λ r. ⌜ (r < s .first .nodes → (h : ℕ) × (h < max-nodes) × T (held (now (work .entry)) r h) × (T (rel (now (work .entry)) r h) → ⊥)) × (s .first .nodes ≤ r → (v h : ℕ) → v < s .first .nodes → h < max-nodes → T (held (now (work .entry)) v h) → T (rel (now (work .entry)) v h)) ⌝ }
 {
     let mut v = 0;
     while v < s.first.nodes {
@@ -165,7 +167,7 @@ fn settle(first: &[u8], second: &[u8], s: Sizes, work: &mut [u8])
 
 // The largest simulation, whatever the buffer held.
 pub(crate) fn refine(first: &[u8], second: &[u8], s: Sizes, work: &mut [u8])
-    requires { ⌜ (Both s (now first) (now second)) × (165152 ≤ length (now work)) ⌝ }
+    requires { ⌜ (Both s (now first) (now second)) × (compare-room ≤ length (now work)) ⌝ }
     ensures { λ _. ⌜ Settled (decode-graph (now (first .entry))) (decode-graph (now (second .entry))) (now (work .exit)) ⌝ }
 {
     prepare(first, second, s, work);

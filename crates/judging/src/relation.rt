@@ -9,8 +9,10 @@ ghost use Rattle.files.specs.Access.{GraphFile};
 ghost use Rattle.files.specs.Cells.{put-bit};
 ghost use Rattle.files.specs.Decode.{decode-graph};
 ghost use Rattle.files.specs.Graph.{node};
+ghost use Rattle.files.specs.Places.{line-bytes, max-nodes};
 ghost use Rattle.files.specs.Refusal.{nodes-of};
 ghost use Rattle.judging.specs.Chains.{Chained, Outside};
+ghost use Rattle.judging.specs.Places.{compare-room, cursors-base, heads-base, held-base, kinds-base, neighbours-base, neighbours-end, nexts-base};
 ghost use Rattle.judging.specs.Refinement.{Both, rel, edge, kind, KindRows, labelled-into, Neighbours, Refining};
 ghost use Rattle.judging.specs.Simulation.{alike};
 use crate::chains::link;
@@ -37,8 +39,8 @@ fn kind_of(graph: &[u8], g: usize) -> usize
 
 // Puts the second graph's nodes into the rows of their kinds.
 fn put_kinds(first: &[u8], second: &[u8], s: Sizes, work: &mut [u8])
-    requires { ⌜ (Both s (now first) (now second)) × ((165152 ≤ length (now work)) × ((q : ℕ) → 16384 ≤ q → q < 16960 → getD (now work) q 0 ≡ 0)) ⌝ }
-    ensures { λ _. ⌜ (KindRows (decode-graph (now (second .entry))) (s .second .nodes) (now (work .exit))) × (Outside 16384 16960 (now (work .entry)) (now (work .exit))) ⌝ }
+    requires { ⌜ (Both s (now first) (now second)) × ((compare-room ≤ length (now work)) × ((q : ℕ) → kinds-base ≤ q → q < heads-base → getD (now work) q 0 ≡ 0)) ⌝ }
+    ensures { λ _. ⌜ (KindRows (decode-graph (now (second .entry))) (s .second .nodes) (now (work .exit))) × (Outside kinds-base heads-base (now (work .entry)) (now (work .exit))) ⌝ }
 {
     let mut h = 0;
     while h < s.second.nodes {
@@ -50,8 +52,8 @@ fn put_kinds(first: &[u8], second: &[u8], s: Sizes, work: &mut [u8])
 
 // Relates every node of the first graph to all of its kind.
 fn relate(first: &[u8], second: &[u8], s: Sizes, work: &mut [u8])
-    requires { ⌜ (Both s (now first) (now second)) × ((165152 ≤ length (now work)) × (KindRows (decode-graph (now second)) (s .second .nodes) (now work))) ⌝ }
-    ensures { λ _. ⌜ ((g h : ℕ) → g < s .first .nodes → h < 256 → rel (now (work .exit)) g h ≡ (ltb h (s .second .nodes) && alike (node (decode-graph (now (first .entry))) g) (node (decode-graph (now (second .entry))) h))) × (Outside 0 8192 (now (work .entry)) (now (work .exit))) ⌝ }
+    requires { ⌜ (Both s (now first) (now second)) × ((compare-room ≤ length (now work)) × (KindRows (decode-graph (now second)) (s .second .nodes) (now work))) ⌝ }
+    ensures { λ _. ⌜ ((g h : ℕ) → g < s .first .nodes → h < max-nodes → rel (now (work .exit)) g h ≡ (ltb h (s .second .nodes) && alike (node (decode-graph (now (first .entry))) g) (node (decode-graph (now (second .entry))) h))) × (Outside 0 held-base (now (work .entry)) (now (work .exit))) ⌝ }
 {
     let mut g = 0;
     while g < s.first.nodes {
@@ -73,8 +75,8 @@ fn slot_of(first: &[u8], second: &[u8], s: Sizes, e: usize) -> usize
 
 // Links every edge of the first graph to its slot.
 fn link_slots(first: &[u8], second: &[u8], s: Sizes, work: &mut [u8])
-    requires { ⌜ (Both s (now first) (now second)) × ((165152 ≤ length (now work)) × ((q : ℕ) → 16960 ≤ q → q < 21568 → getD (now work) q 0 ≡ 0)) ⌝ }
-    ensures { λ _. ⌜ (Chained (now (work .exit)) 16960 21568 (labelled-into (decode-graph (now (first .entry)))) (9 * s .first .nodes) (s .first .edges)) × (Outside 16960 29760 (now (work .entry)) (now (work .exit))) ⌝ }
+    requires { ⌜ (Both s (now first) (now second)) × ((compare-room ≤ length (now work)) × ((q : ℕ) → heads-base ≤ q → q < nexts-base → getD (now work) q 0 ≡ 0)) ⌝ }
+    ensures { λ _. ⌜ (Chained (now (work .exit)) heads-base nexts-base (labelled-into (decode-graph (now (first .entry)))) (9 * s .first .nodes) (s .first .edges)) × (Outside heads-base cursors-base (now (work .entry)) (now (work .exit))) ⌝ }
 {
     let mut e = 0;
     while e < s.first.edges {
@@ -86,8 +88,8 @@ fn link_slots(first: &[u8], second: &[u8], s: Sizes, work: &mut [u8])
 
 // Puts edge j of the second graph into the successors of where it comes from and the predecessors of where it leads to.
 fn put_edge(first: &[u8], second: &[u8], s: Sizes, work: &mut [u8], j: usize)
-    requires { ⌜ (Both s (now first) (now second)) × ((j < s .second .edges) × (165152 ≤ length (now work))) ⌝ }
-    ensures { λ _. ⌜ now (work .exit) ≡ put-bit (put-bit (now (work .entry)) (30816 + 32 * (10 * (edge (decode-graph (now (second .entry))) j) .from + (edge (decode-graph (now (second .entry))) j) .label)) ((edge (decode-graph (now (second .entry))) j) .to)) (30816 + 32 * (10 * (edge (decode-graph (now (second .entry))) j) .to + 9)) ((edge (decode-graph (now (second .entry))) j) .from) ⌝ }
+    requires { ⌜ (Both s (now first) (now second)) × ((j < s .second .edges) × (compare-room ≤ length (now work))) ⌝ }
+    ensures { λ _. ⌜ now (work .exit) ≡ put-bit (put-bit (now (work .entry)) (neighbours-base + line-bytes * (10 * (edge (decode-graph (now (second .entry))) j) .from + (edge (decode-graph (now (second .entry))) j) .label)) ((edge (decode-graph (now (second .entry))) j) .to)) (neighbours-base + line-bytes * (10 * (edge (decode-graph (now (second .entry))) j) .to + 9)) ((edge (decode-graph (now (second .entry))) j) .from) ⌝ }
 {
     let x = edge_at(second, s.second.nodes, j);
     let label = x.label as usize;
@@ -105,8 +107,8 @@ fn put_edge(first: &[u8], second: &[u8], s: Sizes, work: &mut [u8], j: usize)
 
 // Puts all edges of the second graph.
 fn put_edges(first: &[u8], second: &[u8], s: Sizes, work: &mut [u8])
-    requires { ⌜ (Both s (now first) (now second)) × ((165152 ≤ length (now work)) × ((q : ℕ) → 30816 ≤ q → q < 30816 + 320 * s .second .nodes → getD (now work) q 0 ≡ 0)) ⌝ }
-    ensures { λ _. ⌜ (Neighbours (decode-graph (now (second .entry))) (s .second .nodes) (now (work .exit))) × (Outside 30816 112736 (now (work .entry)) (now (work .exit))) ⌝ }
+    requires { ⌜ (Both s (now first) (now second)) × ((compare-room ≤ length (now work)) × ((q : ℕ) → neighbours-base ≤ q → q < neighbours-base + 320 * s .second .nodes → getD (now work) q 0 ≡ 0)) ⌝ }
+    ensures { λ _. ⌜ (Neighbours (decode-graph (now (second .entry))) (s .second .nodes) (now (work .exit))) × (Outside neighbours-base neighbours-end (now (work .entry)) (now (work .exit))) ⌝ }
 {
     let mut j = 0;
     while j < s.second.edges {
@@ -117,7 +119,7 @@ fn put_edges(first: &[u8], second: &[u8], s: Sizes, work: &mut [u8])
 
 // All that the search starts from, whatever the buffer held.
 pub(crate) fn prepare(first: &[u8], second: &[u8], s: Sizes, work: &mut [u8])
-    requires { ⌜ (Both s (now first) (now second)) × (165152 ≤ length (now work)) ⌝ }
+    requires { ⌜ (Both s (now first) (now second)) × (compare-room ≤ length (now work)) ⌝ }
     ensures { λ _. ⌜ Refining (decode-graph (now (first .entry))) (decode-graph (now (second .entry))) (now (work .exit)) ⌝ }
 {
     clear(&mut work[Sizes::KINDS..Sizes::NEIGHBOURS + Sizes::ROWS * LINE * s.second.nodes]);

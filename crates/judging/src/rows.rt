@@ -7,6 +7,7 @@ ghost use lib.Bits.{bitAnd};
 ghost use lib.Dec.{T};
 ghost use lib.ListN.{length};
 ghost use Rattle.files.specs.Cells.{has-bit};
+ghost use Rattle.files.specs.Places.{line-bytes, max-nodes};
 ghost use Rattle.judging.specs.Chains.{Outside};
 ghost use Rattle.judging.specs.Words.{ones-in};
 use files::cells::get32;
@@ -15,15 +16,15 @@ use files::encode::LINE;
 
 // The digits of one byte that another has not.
 pub(crate) fn without(x: u8, y: u8) -> u8
-    ensures { λ r. ⌜ (r ≡ bitAnd x (255 - y)) × (y < 256) ⌝ }
+    ensures { λ r. ⌜ (r ≡ bitAnd x (255 - y)) × (y < max-nodes) ⌝ }
 {
     x & !y
 }
 
 // The row from `at` on.
 pub(crate) fn row_at(work: &[u8], at: usize) -> [u8; LINE]
-    requires { ⌜ at + 32 ≤ length (now work) ⌝ }
-    ensures { λ r. ⌜ (length r ≡ 32) × ((h : ℕ) → h < 256 → has-bit r 0 h ≡ has-bit (now (work .entry)) at h) ⌝ }
+    requires { ⌜ at + line-bytes ≤ length (now work) ⌝ }
+    ensures { λ r. ⌜ (length r ≡ line-bytes) × ((h : ℕ) → h < max-nodes → has-bit r 0 h ≡ has-bit (now (work .entry)) at h) ⌝ }
 {
     let mut row = [0u8; LINE];
     let mut k = 0;
@@ -36,8 +37,8 @@ pub(crate) fn row_at(work: &[u8], at: usize) -> [u8; LINE]
 
 // What the row from `at` on has and another has not.
 pub(crate) fn row_without(work: &[u8], at: usize, row: &[u8]) -> [u8; LINE]
-    requires { ⌜ (at + 32 ≤ length (now work)) × (32 ≤ length (now row)) ⌝ }
-    ensures { λ r. ⌜ (length r ≡ 32) × ((h : ℕ) → h < 256 → has-bit r 0 h ≡ (has-bit (now (work .entry)) at h && not (has-bit (now (row .entry)) 0 h))) ⌝ }
+    requires { ⌜ (at + line-bytes ≤ length (now work)) × (32 ≤ length (now row)) ⌝ }
+    ensures { λ r. ⌜ (length r ≡ line-bytes) × ((h : ℕ) → h < max-nodes → has-bit r 0 h ≡ (has-bit (now (work .entry)) at h && not (has-bit (now (row .entry)) 0 h))) ⌝ }
 {
     let mut rest = [0u8; LINE];
     let mut k = 0;
@@ -50,8 +51,8 @@ pub(crate) fn row_without(work: &[u8], at: usize, row: &[u8]) -> [u8; LINE]
 
 // Stores a row from `at` on.
 pub(crate) fn put_row(work: &mut [u8], at: usize, row: &[u8])
-    requires { ⌜ (at + 32 ≤ length (now work)) × (32 ≤ length (now row)) ⌝ }
-    ensures { λ _. ⌜ ((h : ℕ) → h < 256 → has-bit (now (work .exit)) at h ≡ has-bit (now (row .entry)) 0 h) × (Outside at (at + 32) (now (work .entry)) (now (work .exit))) ⌝ }
+    requires { ⌜ (at + line-bytes ≤ length (now work)) × (32 ≤ length (now row)) ⌝ }
+    ensures { λ _. ⌜ ((h : ℕ) → h < max-nodes → has-bit (now (work .exit)) at h ≡ has-bit (now (row .entry)) 0 h) × (Outside at (at + line-bytes) (now (work .entry)) (now (work .exit))) ⌝ }
 {
     let mut k = 0;
     while k < LINE {
@@ -62,8 +63,8 @@ pub(crate) fn put_row(work: &mut [u8], at: usize, row: &[u8])
 
 // A row and the row from `at` on together.
 pub(crate) fn row_with(row: &[u8], work: &[u8], at: usize) -> [u8; LINE]
-    requires { ⌜ (at + 32 ≤ length (now work)) × (32 ≤ length (now row)) ⌝ }
-    ensures { λ r. ⌜ (length r ≡ 32) × ((h : ℕ) → h < 256 → has-bit r 0 h ≡ (has-bit (now (row .entry)) 0 h || has-bit (now (work .entry)) at h)) ⌝ }
+    requires { ⌜ (at + line-bytes ≤ length (now work)) × (32 ≤ length (now row)) ⌝ }
+    ensures { λ r. ⌜ (length r ≡ line-bytes) × ((h : ℕ) → h < max-nodes → has-bit r 0 h ≡ (has-bit (now (row .entry)) 0 h || has-bit (now (work .entry)) at h)) ⌝ }
 {
     let mut both = [0u8; LINE];
     let mut k = 0;
@@ -77,7 +78,7 @@ pub(crate) fn row_with(row: &[u8], work: &[u8], at: usize) -> [u8; LINE]
 // What two rows have in common.
 pub(crate) fn common(row: &[u8], other: &[u8]) -> [u8; LINE]
     requires { ⌜ (32 ≤ length (now row)) × (32 ≤ length (now other)) ⌝ }
-    ensures { λ r. ⌜ (length r ≡ 32) × ((h : ℕ) → h < 256 → has-bit r 0 h ≡ (has-bit (now (row .entry)) 0 h && has-bit (now (other .entry)) 0 h)) ⌝ }
+    ensures { λ r. ⌜ (length r ≡ line-bytes) × ((h : ℕ) → h < max-nodes → has-bit r 0 h ≡ (has-bit (now (row .entry)) 0 h && has-bit (now (other .entry)) 0 h)) ⌝ }
 {
     let mut both = [0u8; LINE];
     let mut k = 0;
@@ -90,8 +91,8 @@ pub(crate) fn common(row: &[u8], other: &[u8]) -> [u8; LINE]
 
 // Takes a row out of the row from `at` on.
 pub(crate) fn drop_row(work: &mut [u8], at: usize, row: &[u8])
-    requires { ⌜ (at + 32 ≤ length (now work)) × (32 ≤ length (now row)) ⌝ }
-    ensures { λ _. ⌜ ((h : ℕ) → h < 256 → has-bit (now (work .exit)) at h ≡ (has-bit (now (work .entry)) at h && not (has-bit (now (row .entry)) 0 h))) × (Outside at (at + 32) (now (work .entry)) (now (work .exit))) ⌝ }
+    requires { ⌜ (at + line-bytes ≤ length (now work)) × (32 ≤ length (now row)) ⌝ }
+    ensures { λ _. ⌜ ((h : ℕ) → h < max-nodes → has-bit (now (work .exit)) at h ≡ (has-bit (now (work .entry)) at h && not (has-bit (now (row .entry)) 0 h))) × (Outside at (at + line-bytes) (now (work .entry)) (now (work .exit))) ⌝ }
 {
     let rest = row_without(work, at, row);
     put_row(work, at, &rest);
@@ -99,8 +100,8 @@ pub(crate) fn drop_row(work: &mut [u8], at: usize, row: &[u8])
 
 // Whether a row and the row from `at` on have a bit in common.
 pub(crate) fn meets(row: &[u8], work: &[u8], at: usize) -> bool
-    requires { ⌜ (at + 32 ≤ length (now work)) × (32 ≤ length (now row)) ⌝ }
-    ensures { λ r. ⌜ (T r → (h : ℕ) × (h < 256) × T (has-bit (now (row .entry)) 0 h) × T (has-bit (now (work .entry)) at h)) × (T (not r) → (h : ℕ) → h < 256 → T (has-bit (now (row .entry)) 0 h) → T (has-bit (now (work .entry)) at h) → ⊥) ⌝ }
+    requires { ⌜ (at + line-bytes ≤ length (now work)) × (32 ≤ length (now row)) ⌝ }
+    ensures { λ r. ⌜ (T r → (h : ℕ) × (h < max-nodes) × T (has-bit (now (row .entry)) 0 h) × T (has-bit (now (work .entry)) at h)) × (T (not r) → (h : ℕ) → h < max-nodes → T (has-bit (now (row .entry)) 0 h) → T (has-bit (now (work .entry)) at h) → ⊥) ⌝ }
 {
     let mut any = 0;
     let mut k = 0;
@@ -113,8 +114,8 @@ pub(crate) fn meets(row: &[u8], work: &[u8], at: usize) -> bool
 
 // Whether the row from `at` on has a bit.
 pub(crate) fn any_at(work: &[u8], at: usize) -> bool
-    requires { ⌜ at + 32 ≤ length (now work) ⌝ }
-    ensures { λ r. ⌜ (T r → (h : ℕ) × (h < 256) × T (has-bit (now (work .entry)) at h)) × (T (not r) → (h : ℕ) → h < 256 → has-bit (now (work .entry)) at h ≡ false) ⌝ }
+    requires { ⌜ at + line-bytes ≤ length (now work) ⌝ }
+    ensures { λ r. ⌜ (T r → (h : ℕ) × (h < max-nodes) × T (has-bit (now (work .entry)) at h)) × (T (not r) → (h : ℕ) → h < max-nodes → has-bit (now (work .entry)) at h ≡ false) ⌝ }
 {
     let mut any = 0;
     let mut k = 0;
@@ -127,8 +128,8 @@ pub(crate) fn any_at(work: &[u8], at: usize) -> bool
 
 // Whether the row from `at` on has a bit that the row from `less` on has not.
 pub(crate) fn exceeds(work: &[u8], at: usize, less: usize) -> bool
-    requires { ⌜ (at + 32 ≤ length (now work)) × (less + 32 ≤ length (now work)) ⌝ }
-    ensures { λ r. ⌜ (T r → (h : ℕ) × (h < 256) × T (has-bit (now (work .entry)) at h) × (T (has-bit (now (work .entry)) less h) → ⊥)) × (T (not r) → (h : ℕ) → h < 256 → T (has-bit (now (work .entry)) at h) → T (has-bit (now (work .entry)) less h)) ⌝ }
+    requires { ⌜ (at + line-bytes ≤ length (now work)) × (less + 32 ≤ length (now work)) ⌝ }
+    ensures { λ r. ⌜ (T r → (h : ℕ) × (h < max-nodes) × T (has-bit (now (work .entry)) at h) × (T (has-bit (now (work .entry)) less h) → ⊥)) × (T (not r) → (h : ℕ) → h < max-nodes → T (has-bit (now (work .entry)) at h) → T (has-bit (now (work .entry)) less h)) ⌝ }
 {
     let mut any = 0;
     let mut k = 0;

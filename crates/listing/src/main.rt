@@ -2,9 +2,13 @@
 ghost use mathlib.Core.Path.{_≡_};
 ghost use Prim.Native.Nat.{min};
 ghost use lib.ListN.{length};
+ghost use Rattle.files.specs.Places.{graph-room};
+ghost use Rattle.maximal.specs.Places.{model-room};
+use files::record::Limits;
 use files::record::Record;
 use libc::STDIN_FILENO;
 use maximal::answers::Modelled;
+use maximal::places::Places;
 use printing::say;
 use printing::say_decimal;
 use printing::say_graph;
@@ -14,6 +18,9 @@ use printing::stdout::stdout;
 
 // Bytes past these stay unread.
 const LONGEST: usize = 60000;
+
+// Room for every model.
+const OUTPUT: usize = Record::LEN * (Limits::NODES + Limits::EDGES);
 
 // Where the interface file ends and the property begins: after the first six bytes, or at the end of a shorter input.
 fn cut(n: usize) -> usize
@@ -38,16 +45,16 @@ fn list(stdout: &mut [u8; BUFFERED], input: &[u8], out: &mut [u8], work: &mut [u
     }
 }
 
-fn output() -> [u8; 26112]
-    ensures { λ r. ⌜ 26112 ≡ length r ⌝ }
+fn output() -> [u8; OUTPUT]
+    ensures { λ r. ⌜ graph-room ≡ length r ⌝ }
 {
-    [0; 26112]
+    [0; OUTPUT]
 }
 
-fn work_buffer() -> [u8; 103456]
-    ensures { λ r. ⌜ 103456 ≡ length r ⌝ }
+fn work_buffer() -> [u8; Places::ROOM]
+    ensures { λ r. ⌜ model-room ≡ length r ⌝ }
 {
-    [0; 103456]
+    [0; Places::ROOM]
 }
 
 fn main() {

@@ -11,12 +11,13 @@ use lib.Dec.{eqb}
 use lib.ListN.{getD}
 use lib.Pow.{shr-le, shr-shr}
 use Rattle.files.specs.Cells.{cell, has-bit}
+use Rattle.files.specs.Places.{byte-end}
 use Rattle.judging.specs.Words.{bit-of-word, word-lt, lowest-digit, digits-below}
 use Rattle.maximal.specs.Bits.{NextBit}
 
 -- ---- the next bit
 
-module _ (w : List ℕ) (base : ℕ) (bytes : (b : ℕ) → getD w b 0 < 256) where
+module _ (w : List ℕ) (base : ℕ) (bytes : (b : ℕ) → getD w b 0 < byte-end) where
   abbrev word : ℕ → ℕ
   word i = cell w base 4 i
 

@@ -14,11 +14,13 @@ use Rattle.files.specs.Interface.{Interface}
 use Rattle.files.specs.Limits.{desk}
 use Rattle.files.specs.Outcome.{Answers, TooLarge, refusal-at, refused-answer, verdict-answer}
 use Rattle.files.specs.Outcome.Ends.{answers-large, answers-short, answers-written}
+use Rattle.files.specs.Places.{record-len}
 use Rattle.files.specs.Property.{Row, Property}
 use Rattle.files.specs.Record.{count}
 use Rattle.files.specs.Refusal.{property, refusal}
 use Rattle.files.specs.declared.record.Limits.{Limits}
 use Rattle.files.specs.declared.refusal.Refusal.{Refusal}
+use Rattle.maximal.specs.Places.{max-followers, max-states}
 use Rattle.maximal.specs.declared.places.Scope.{Scope}
 use Rattle.maximal.specs.Charting.{Scoped, Crowded, Arranged}
 use Rattle.maximal.specs.Charting.Files.{file-named}
@@ -47,15 +49,15 @@ scope-of L p b a =
 
 -- ---- the model
 
-total-few : (w : List ℕ) (c n : ℕ) → c ≤ 256 → total w c n ≤ 2304 * n
+total-few : (w : List ℕ) (c n : ℕ) → c ≤ max-states → total w c n ≤ max-followers * n
 total-few w c zero h = omega arith
 total-few w c (suc n) h = omega (arith, total-few w c n h, tally-from-le w c n 9 h)
 
 -- what is counted fits a length
-pub edges-few : (w : List ℕ) (c limit n : ℕ) → c ≤ 256 → n ≡ tally-upto w c limit c → n ≤ 2304 * c
+pub edges-few : (w : List ℕ) (c limit n : ℕ) → c ≤ max-states → n ≡ tally-upto w c limit c → n ≤ max-followers * c
 edges-few w c limit n h e = go (upto-is w c limit c)
   where
-    go : (tally-upto w c limit c ≡ total w c c) ⊎ ((limit < tally-upto w c limit c) × (tally-upto w c limit c ≤ total w c c)) → n ≤ 2304 * c
+    go : (tally-upto w c limit c ≡ total w c c) ⊎ ((limit < tally-upto w c limit c) × (tally-upto w c limit c ≤ total w c c)) → n ≤ max-followers * c
     go (inl d) = omega (arith, e, d, total-few w c c h)
     go (inr d) = omega (arith, e, d .1, total-few w c c h)
 
@@ -97,13 +99,13 @@ module _ (L : Limits) (i p : List ℕ) (f : PropertyFile p) (s : Scope) (states-
       small (inl h) = omega (arith, h, model-nodes-many I P wf c w x, within, states-are)
       small (inr h) = omega (arith, h, edges-counted, few)
 
-      long : length (graph-bytes G) ≡ 6 * (c + n)
-      long = model-length I P wf c w x ∙ ap (λ (m : ℕ). 6 * (c + m)) (sym edges-counted)
+      long : length (graph-bytes G) ≡ record-len * (c + n)
+      long = model-length I P wf c w x ∙ ap (λ (m : ℕ). record-len * (c + m)) (sym edges-counted)
 
-      pub answers-full : (r : Refusal) → length out < 6 * (c + n) → r ≡ refusal-at 12 0 0 → Answers (from-size L i p (length out)) out out (refused-answer r)
+      pub answers-full : (r : Refusal) → length out < record-len * (c + n) → r ≡ refusal-at 12 0 0 → Answers (from-size L i p (length out)) out out (refused-answer r)
       answers-full r h e = answers-short L G [] out small r (omega (arith, long, h)) e
 
-      pub answers-model : (out′ : List ℕ) → 6 * (c + n) ≤ length out → out′ ≡ graph-bytes G ++ drop (length (graph-bytes G)) out → Answers (from-size L i p (length out)) out out′ (verdict-answer 1 (c ∷ n ∷ []))
+      pub answers-model : (out′ : List ℕ) → record-len * (c + n) ≤ length out → out′ ≡ graph-bytes G ++ drop (length (graph-bytes G)) out → Answers (from-size L i p (length out)) out out′ (verdict-answer 1 (c ∷ n ∷ []))
       answers-model out′ h e = answers-written L G [] out small out′ c n (omega (arith, long, h)) e (sym (model-nodes-many I P wf c w x)) edges-counted
 
 -- ---- the limits of the desk

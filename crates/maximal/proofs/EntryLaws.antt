@@ -11,8 +11,10 @@ use lib.Pow.{pow-lt}
 use Rattle.files.specs.Basics.Tests.{any}
 use Rattle.files.specs.Decode.{decode-property}
 use Rattle.files.specs.Interface.{Interface, provides}
+use Rattle.files.specs.Places.{line-bytes}
 use Rattle.files.specs.Property.{Row, Property}
 use Rattle.judging.specs.Chains.{Outside}
+use Rattle.maximal.specs.Places.{entries-slot, targets-base, max-states}
 use Rattle.maximal.specs.declared.places.Scope.{Scope}
 use Rattle.maximal.specs.Charting.{Scoped, flag-of, state-of, target, Known, Admitted}
 use Rattle.maximal.specs.Charting.Entries.{EntriesBelow, entries-none, entries-more}
@@ -32,7 +34,7 @@ pub record KindsEntered (s : Scope) (I : Interface) (P : List Row) (long₀ k c 
   pub entries : EntriesBelow I P k c w
 
 -- the tables stand before the rows, so a row may be cleared
-pub kinds-none : (s : Scope) (I : Interface) (p : List ℕ) → Scoped s p → (w w′ : List ℕ) → Tables (decode-property p) w → ((t : ℕ) → t < 256 → target w′ 2304 t ≡ false) → Outside (13312 + 32 * 2304) (13312 + 32 * 2304 + 32) w w′
+pub kinds-none : (s : Scope) (I : Interface) (p : List ℕ) → Scoped s p → (w w′ : List ℕ) → Tables (decode-property p) w → ((t : ℕ) → t < max-states → target w′ entries-slot t ≡ false) → Outside (targets-base + line-bytes * entries-slot) (targets-base + line-bytes * entries-slot + line-bytes) w w′
     → KindsEntered s I (decode-property p) (length w′) 2 0 w′
 kinds-none s I p scoped w w′ x blank o = record {
   fits = omega arith;
@@ -66,11 +68,11 @@ module _ (s : Scope) (I : Interface) (p : List ℕ) (scoped : Scoped s p) where
 
     module _ (long₀ c : ℕ) (w : List ℕ) (x : KindsEntered s I P long₀ kind c w) where
       -- the entries of a provided method are entered ..
-      pub kinds-with : b ≡ true → (t : ℕ) (w′ : List ℕ) → length w′ ≡ length w → t ≤ s .states → (t ≤ s .states → Admitted I P c t kind entry-sets 2304 w w′) → KindsEntered s I P long₀ (kind + 1) t w′
+      pub kinds-with : b ≡ true → (t : ℕ) (w′ : List ℕ) → length w′ ≡ length w → t ≤ s .states → (t ≤ s .states → Admitted I P c t kind entry-sets entries-slot w w′) → KindsEntered s I P long₀ (kind + 1) t w′
       kinds-with e t w′ same l f = record {
         fits = l;
         long = same ∙ x .long;
-        tables = tables-admitted s I p scoped c t kind 2304 entry-sets w w′ (f l) (x .tables);
+        tables = tables-admitted s I p scoped c t kind entries-slot entry-sets w w′ (f l) (x .tables);
         entries = entries-more I P wf kind c t entry-sets w w′ (x .entries) (f l) (entries-are true e);
       }
 
@@ -80,5 +82,5 @@ module _ (s : Scope) (I : Interface) (p : List ℕ) (scoped : Scoped s p) where
         fits = x .fits;
         long = x .long;
         tables = x .tables;
-        entries = entries-more I P wf kind c c [] w w (x .entries) (admitted-none I P c kind 2304 w (x .entries .holds) (omega arith)) (entries-are false e);
+        entries = entries-more I P wf kind c c [] w w (x .entries) (admitted-none I P c kind entries-slot w (x .entries .holds) (omega arith)) (entries-are false e);
       }

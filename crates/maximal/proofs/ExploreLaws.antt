@@ -14,8 +14,10 @@ use Rattle.files.specs.Cells.{put-cell}
 use Rattle.files.specs.Cells.Laws.{byte-outside, cell-agree, cell-same, cell-other, bit-byte}
 use Rattle.files.specs.Decode.{decode-property}
 use Rattle.files.specs.Interface.{Interface, requires-method}
+use Rattle.files.specs.Places.{line-bytes, byte-end}
 use Rattle.files.specs.Property.{Row, Property}
 use Rattle.judging.specs.Chains.{Outside}
+use Rattle.maximal.specs.Places.{asked-base, entries-slot, methods-base, model-room, sets-end, slots, targets-base, kinds-base, max-states, sets-base}
 use Rattle.maximal.specs.declared.places.Scope.{Scope}
 use Rattle.maximal.specs.Charting.{Scoped, flag-of, kind-at, set-at, method-at, asked-at, target, earlier, Known, Crowded, Admitted, Charting, Asking}
 use Rattle.maximal.specs.Charting.Files.{rows-is, rows-fit, rows-named}
@@ -77,10 +79,10 @@ module _ (s : Scope) (I : Interface) (p : List ℕ) (scoped : Scoped s p) where
     state : Known I P (kind-at w (q / 9)) (set-at w (q / 9))
     state = asking .charting .holds .known (q / 9) here
 
-    pub slot-fits : q ≤ 2304
+    pub slot-fits : q ≤ entries-slot
     slot-fits = omega (arith, asking .charting .holds .few)
 
-    pub method-fits : 2 * method + 1 < 256
+    pub method-fits : 2 * method + 1 < byte-end
     method-fits = omega (arith, asking .of-method, state .method-to)
 
     pub set-fits : set < 2 ^ s .rows
@@ -113,18 +115,18 @@ module _ (s : Scope) (I : Interface) (p : List ℕ) (scoped : Scoped s p) where
     pub of-states : i < c
     pub of-labels : label < 9
     pub in-scope : c ≤ s .states
-    pub room : 103456 ≤ length w
+    pub room : model-room ≤ length w
     pub tables₀ : Tables P w₀
     pub charting₀ : Charting I P c (9 * i + label) w₀
-    pub blank : (t : ℕ) → t < 256 → target w (9 * i + label) t ≡ false
-    pub beside : Outside (13312 + 32 * (9 * i + label)) (13312 + 32 * (9 * i + label) + 32) w₀ w
+    pub blank : (t : ℕ) → t < max-states → target w (9 * i + label) t ≡ false
+    pub beside : Outside (targets-base + line-bytes * (9 * i + label)) (targets-base + line-bytes * (9 * i + label) + 32) w₀ w
     pub told : b ≡ (eqb label 0 || requires-method I label)
 
   module _ {i label c : ℕ} {w₀ w : List ℕ} {b : Bool} (y : Cleared i label c w₀ w b) where
     abbrev q : ℕ
     q = 9 * i + label
 
-    pub in-rows : q < 2304
+    pub in-rows : q < slots
     in-rows = omega (arith, y .charting₀ .holds .few)
 
     x : Charting I P c q w
@@ -145,16 +147,16 @@ module _ (s : Scope) (I : Interface) (p : List ℕ) (scoped : Scoped s p) where
     labelled : is-label I P (q % 9) ≡ b
     labelled = ap (is-label I P) of-label ∙ label-is I P wf label ∙ sym (y .told)
 
-    pub worked-none : not b ≡ true → (w₁ : List ℕ) → w₁ ≡ put-cell w 1792 1 q 0 → Worked s I P c c (q + 1) w₁
+    pub worked-none : not b ≡ true → (w₁ : List ℕ) → w₁ ≡ put-cell w methods-base 1 q 0 → Worked s I P c c (q + 1) w₁
     worked-none e w₁ d =
         worked-all s I P c (q + 1) w₁ (y .in-scope)
         (followed-none I P wf c q w₁ (λ t m. bits q t ∙ y .blank t m)
-        (ap (λ (u : List ℕ). method-at u q) d ∙ cell-same w 1792 1 q 0 (omega (arith, in-rows)) (omega arith)) (λ t. off b e (subst T labelled t))
-        (charting-same I P c w w₁ (λ j l. cell-agree w₁ w 256 1 j (λ n m k. low n (omega (arith, x .holds .few))))
-        (λ j l. cell-agree w₁ w 512 4 j (λ n m k. low n (omega (arith, x .holds .few)))) q in-rows (omega arith) (λ j t l m n. bits j t)
+        (ap (λ (u : List ℕ). method-at u q) d ∙ cell-same w methods-base 1 q 0 (omega (arith, in-rows)) (omega arith)) (λ t. off b e (subst T labelled t))
+        (charting-same I P c w w₁ (λ j l. cell-agree w₁ w kinds-base 1 j (λ n m k. low n (omega (arith, x .holds .few))))
+        (λ j l. cell-agree w₁ w sets-base 4 j (λ n m k. low n (omega (arith, x .holds .few)))) q in-rows (omega arith) (λ j t l m n. bits j t)
         (λ j l. (
-          ap (λ (u : List ℕ). method-at u j) d ∙ cell-other w 1792 1 q j 0 (λ z. omega arith),
-          cell-agree w₁ w 4096 4 j
+          ap (λ (u : List ℕ). method-at u j) d ∙ cell-other w methods-base 1 q j 0 (λ z. omega arith),
+          cell-agree w₁ w asked-base 4 j
               (λ n m k. high n (omega (arith, in-rows))),
         )) x))
         (tables-same P w w₁ (rows-fit s p scoped) (λ n l. low n (omega arith)) tables)
@@ -163,14 +165,14 @@ module _ (s : Scope) (I : Interface) (p : List ℕ) (scoped : Scoped s p) where
         off true e t = subst T (sym e) tt
         off false e t = t
 
-        low : (n : ℕ) → n < 1792 → getD w₁ n 0 ≡ getD w n 0
-        low n l = ap (λ (u : List ℕ). getD u n 0) d ∙ byte-outside w 1792 1 q 0 n (inl (omega arith))
+        low : (n : ℕ) → n < methods-base → getD w₁ n 0 ≡ getD w n 0
+        low n l = ap (λ (u : List ℕ). getD u n 0) d ∙ byte-outside w methods-base 1 q 0 n (inl (omega arith))
 
-        high : (n : ℕ) → 4096 ≤ n → getD w₁ n 0 ≡ getD w n 0
-        high n l = ap (λ (u : List ℕ). getD u n 0) d ∙ byte-outside w 1792 1 q 0 n (inr (omega (arith, in-rows)))
+        high : (n : ℕ) → asked-base ≤ n → getD w₁ n 0 ≡ getD w n 0
+        high n l = ap (λ (u : List ℕ). getD u n 0) d ∙ byte-outside w methods-base 1 q 0 n (inr (omega (arith, in-rows)))
 
         bits : (j t : ℕ) → target w₁ j t ≡ target w j t
-        bits j t = bit-byte w₁ w 13312 13312 (256 * j + t) (high (13312 + (256 * j + t) / 8) (omega arith))
+        bits j t = bit-byte w₁ w targets-base targets-base (max-states * j + t) (high (targets-base + (max-states * j + t) / 8) (omega arith))
 
     -- the rows of the state, and so those of them that are among others
     pub among-fits : (v t : ℕ) → v ≡ set-at w i → bitAnd v t < 2 ^ s .rows
@@ -183,24 +185,24 @@ module _ (s : Scope) (I : Interface) (p : List ℕ) (scoped : Scoped s p) where
       pub follows : not b ≡ false
       pub is-kind : kind ≡ kind-at w i
       pub asks : set ≡ asked-of P (set-at w i) label
-      pub narrow : set < 4294967296
-      pub put-method : w₁ ≡ put-cell w 1792 1 q (kind / 2)
-      pub put-asked : w₂ ≡ put-cell w₁ 4096 4 q set
+      pub narrow : set < sets-end
+      pub put-method : w₁ ≡ put-cell w methods-base 1 q (kind / 2)
+      pub put-asked : w₂ ≡ put-cell w₁ asked-base 4 q set
 
     module _ {kind set : ℕ} {w₁ w₂ : List ℕ} (z : Stored kind set w₁ w₂) where
-      outside : Outside 1792 13312 w w₂
+      outside : Outside methods-base targets-base w w₂
       outside = slot-outside q (kind / 2) set w w₁ w₂ in-rows (y .room) (z .put-method) (z .put-asked)
 
       kinds : (j : ℕ) → j < c → kind-at w₂ j ≡ kind-at w j
-      kinds j l = cell-agree w₂ w 256 1 j (λ d m n. outside d (inl (omega (arith, x .holds .few))))
+      kinds j l = cell-agree w₂ w kinds-base 1 j (λ d m n. outside d (inl (omega (arith, x .holds .few))))
 
       sets-kept : (j : ℕ) → j < c → set-at w₂ j ≡ set-at w j
-      sets-kept j l = cell-agree w₂ w 512 4 j (λ d m n. outside d (inl (omega (arith, x .holds .few))))
+      sets-kept j l = cell-agree w₂ w sets-base 4 j (λ d m n. outside d (inl (omega (arith, x .holds .few))))
 
       bits : (j t : ℕ) → target w₂ j t ≡ target w j t
-      bits j t = bit-byte w₂ w 13312 13312 (256 * j + t) (outside (13312 + (256 * j + t) / 8) (inr (omega arith)))
+      bits j t = bit-byte w₂ w targets-base targets-base (max-states * j + t) (outside (targets-base + (max-states * j + t) / 8) (inr (omega arith)))
 
-      method-low : kind / 2 < 256
+      method-low : kind / 2 < byte-end
       method-low = omega (arith, z .is-kind, state-i .method-to)
 
       slot-here : (method-at w₂ q ≡ kind / 2) × (asked-at w₂ q ≡ set)
@@ -231,8 +233,8 @@ module _ (s : Scope) (I : Interface) (p : List ℕ) (scoped : Scoped s p) where
       may-follow = (tables-here, asking-here)
 
       -- an earlier slot asks the same
-      pub worked-again : (j : ℕ) → j ≡ earlier w q (kind / 2) set → j < q → (w₃ : List ℕ) → ((t : ℕ) → t < 256 → target w₃ q t ≡ target w₂ j t)
-          → Outside (13312 + 32 * q) (13312 + 32 * q + 32) w₂ w₃ → Worked s I P c c (q + 1) w₃
+      pub worked-again : (j : ℕ) → j ≡ earlier w q (kind / 2) set → j < q → (w₃ : List ℕ) → ((t : ℕ) → t < max-states → target w₃ q t ≡ target w₂ j t)
+          → Outside (targets-base + line-bytes * q) (targets-base + line-bytes * q + line-bytes) w₂ w₃ → Worked s I P c c (q + 1) w₃
       worked-again j is-j l w₃ row rest =
           worked-all s I P c (q + 1) w₃ (y .in-scope)
           (followed-again I P wf (s .ors) (scoped .enough-ors) c q (kind / 2) set j w₂ w₃ (omega arith) l (omega (arith, z .is-kind, state-i .method-from))

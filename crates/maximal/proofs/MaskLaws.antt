@@ -28,11 +28,12 @@ use Rattle.maximal.specs.Masks.{member, within, Partly, Taken, untrue-at
 use Rattle.maximal.specs.Masks.Laws.{member-or, member-and, member-xor, member-one, member-none, member-lt, members-eq, within-e, within-i}
 use Rattle.maximal.specs.Masks.Laws.{mask-lt, member-mask, untrue-mask, asked-lt, member-asked}
 use Rattle.maximal.specs.Masks.Order.{partly-on, worked-more}
+use Rattle.maximal.specs.Places.{sets-end}
 
 -- ---- one row, and the highest row
 
 -- the set of row r, as the code shifts it
-pub one-shifted : (r : ℕ) → r < 32 → 1 * 2 ^ r % 4294967296 ≡ 2 ^ r
+pub one-shifted : (r : ℕ) → r < 32 → 1 * 2 ^ r % sets-end ≡ 2 ^ r
 one-shifted r h = shl-exact {a = 1} 1 r 32 (omega arith) (omega arith) ∙ one-mul (2 ^ r)
 
 -- a set without its highest place is below it

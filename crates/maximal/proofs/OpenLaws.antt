@@ -16,6 +16,7 @@ use Rattle.maximal.specs.Masks.Laws.{member-or, member-and, member-one, 
 use Rattle.maximal.specs.Masks.Order.{taken-row, member-ands, and-rows-lt}
 use Rattle.maximal.specs.Collected.{unsettled, operands, Bounded, stopped, Tables}
 use Rattle.maximal.specs.Collected.Worked.{partly-ands, completion-ands, stopped-all, stopped-open, stopped-on}
+use Rattle.maximal.specs.Places.{operands-base}
 
 -- two rows are settled where one of them is there
 pub either-settled : (k s a b : ℕ) → s < 2 ^ k → a < k → b < k → apart s (bitOr (2 ^ a) (2 ^ b)) ≡ not (member s a) && not (member s b)
@@ -156,7 +157,7 @@ module _ (P : List Row) (wf : Property P) (w : List ℕ) (tables : Tables P w) (
   opened-none n e i =
       ap₂ (λ (j k : ℕ). record { row = j; set = s; worked = k }) e (sym i) ∙ sym (y .leads ∙ ap (λ (k : ℕ). stopped P s k b) (sym i) ∙ stopped-all P wf b s)
 
-  module _ (r : ℕ) (t : Taken s d r) (x : ℕ) (read : x ≡ cell w 128 4 r) where
+  module _ (r : ℕ) (t : Taken s d r) (x : ℕ) (read : x ≡ cell w operands-base 4 r) where
     test-is : apart b x ≡ unsettled (row P r) b
     test-is = ap (apart b) (read ∙ tables .operands-are r (row-lt P wf s d b (y .bounded) r t)) ∙ operands-test P wf s d b (y .bounded) r t
 

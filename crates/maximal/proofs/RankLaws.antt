@@ -15,10 +15,12 @@ use Rattle.files.specs.Basics.Queue.{Once, room}
 use Rattle.files.specs.Basics.Tables.{tally, tally-same}
 use Rattle.files.specs.Cells.{has-bit, put-bit}
 use Rattle.files.specs.Cells.Laws.{has-bit-is, bit-same, bit-other}
+use Rattle.files.specs.Places.{line-bytes}
 use Rattle.maximal.specs.Charting.{order-at, rank-at, Ordered, Ranked}
 use Rattle.maximal.specs.Listing.{leads, tally-under}
 use Rattle.maximal.specs.Listing.Laws.{keep-tally}
 use Rattle.maximal.proofs.SlotLaws.{in-row}
+use Rattle.maximal.specs.Places.{targets-base, max-states}
 
 -- ---- tallies along a function
 
@@ -78,16 +80,16 @@ module _ (c : ℕ) (w : List ℕ) (ord : Ordered c w) (ranked : Ranked c w) wher
           (λ t h z. (at-rank t h .0, subst (λ (m : ℕ). T (p m)) (sym (at-rank t h .1)) z))
 
   -- the bits of the row of the i-th state under label l are the edges
-  pub tally-row : (i l r : ℕ) → r ≡ 13312 + 32 * (9 * order-at w i + l) → tally (has-bit w r) c ≡ tally-under w c i l
+  pub tally-row : (i l r : ℕ) → r ≡ targets-base + line-bytes * (9 * order-at w i + l) → tally (has-bit w r) c ≡ tally-under w c i l
   tally-row i l r e =
       ap (λ (b : ℕ). tally (has-bit w b) c) e
-      ∙ tally-same (has-bit w (13312 + 32 * (9 * order-at w i + l))) (λ t. has-bit w 13312 (256 * (9 * order-at w i + l) + t)) c (λ t h. sym (in-row w (9 * order-at w i + l) t))
-      ∙ sym (tally-in-order (λ t. has-bit w 13312 (256 * (9 * order-at w i + l) + t)))
+      ∙ tally-same (has-bit w (targets-base + line-bytes * (9 * order-at w i + l))) (λ t. has-bit w targets-base (max-states * (9 * order-at w i + l) + t)) c (λ t h. sym (in-row w (9 * order-at w i + l) t))
+      ∙ sym (tally-in-order (λ t. has-bit w targets-base (max-states * (9 * order-at w i + l) + t)))
 
   -- ---- a row whose bits are moved
 
   module _ (base : ℕ) where
-    pub marked-none : (row : List ℕ) → row ≡ replicate 32 0 → c ≤ 256 → Marked c w base 0 row
+    pub marked-none : (row : List ℕ) → row ≡ replicate 32 0 → c ≤ max-states → Marked c w base 0 row
     marked-none row e few j h =
         has-bit-is row 0 j
         ∙ ap (λ (x : ℕ). eqb (x / 2 ^ (j % 8) % 2) 1) (ap (λ (l : List ℕ). getD l (0 + j / 8) 0) e ∙ getD-replicate {A = ℕ} 32 (0 + j / 8) 0 0 (omega arith))
@@ -126,5 +128,5 @@ module _ (c : ℕ) (w : List ℕ) (ord : Ordered c w) (ranked : Ranked c w) wher
     marked-all row x j h = x j h ∙ ap (λ (z : Bool). z && has-bit w base (order-at w j)) (lt-ltb (order-at w j) c (ord .below j h))
 
     -- in a row that is so marked, the edges of the i-th state under label l
-    pub leads-row : (row : List ℕ) → ((j : ℕ) → j < c → has-bit row 0 j ≡ has-bit w base (order-at w j)) → (i l : ℕ) → base ≡ 13312 + 32 * (9 * order-at w i + l) → (j : ℕ) → j < c → has-bit row 0 j ≡ leads w i l j
+    pub leads-row : (row : List ℕ) → ((j : ℕ) → j < c → has-bit row 0 j ≡ has-bit w base (order-at w j)) → (i l : ℕ) → base ≡ targets-base + line-bytes * (9 * order-at w i + l) → (j : ℕ) → j < c → has-bit row 0 j ≡ leads w i l j
     leads-row row x i l e j h = x j h ∙ ap (λ (b : ℕ). has-bit w b (order-at w j)) e ∙ sym (in-row w (9 * order-at w i + l) (order-at w j))

@@ -18,6 +18,7 @@ use Rattle.files.specs.Property.{Row}
 use Rattle.judging.specs.Chains.{Outside}
 use Rattle.judging.specs.Sheets.Laws.{least-none}
 use Rattle.judging.proofs.CauseLaws.{none-on}
+use Rattle.maximal.specs.Places.{candidates-base, entries-slot, model-room, order-base, sets-end, targets-base, kinds-base, max-states, sets-base}
 use Rattle.maximal.specs.declared.places.Scope.{Scope}
 use Rattle.maximal.specs.Charting.{Scoped, kind-at, set-at, same-state, found, target, Elsewhere, Known, Holds, Crowded, Admitted}
 use Rattle.maximal.specs.Charting.Files.{rows-named}
@@ -47,22 +48,22 @@ none-of-four f i none a b c d ia ib ic id e =
 -- ---- a state stored, and marked in a row
 
 -- a state that is there, marked
-module _ (I : Interface) (P : List Row) (c kind set q : ℕ) (hq : q ≤ 2304) (w w′ : List ℕ) (h : Holds I P c w) (room : 103456 ≤ length w) (t : ℕ) (ht : t < c) (is-kind : kind-at w t ≡ kind) (is-set : set-at w t ≡ set) (e : w′ ≡ put-bit w 13312 (256 * q + t)) where
+module _ (I : Interface) (P : List Row) (c kind set q : ℕ) (hq : q ≤ entries-slot) (w w′ : List ℕ) (h : Holds I P c w) (room : model-room ≤ length w) (t : ℕ) (ht : t < c) (is-kind : kind-at w t ≡ kind) (is-set : set-at w t ≡ set) (e : w′ ≡ put-bit w targets-base (max-states * q + t)) where
   abbrev v : List ℕ
-  v = put-bit w 13312 (256 * q + t)
+  v = put-bit w targets-base (max-states * q + t)
 
-  outside : Outside 256 87072 w v
-  outside b (inl l) = bit-outside w 13312 (256 * q + t) b (λ z. omega arith)
-  outside b (inr l) = bit-outside w 13312 (256 * q + t) b (λ z. omega (arith, h .few))
+  outside : Outside kinds-base candidates-base w v
+  outside b (inl l) = bit-outside w targets-base (max-states * q + t) b (λ z. omega arith)
+  outside b (inr l) = bit-outside w targets-base (max-states * q + t) b (λ z. omega (arith, h .few))
 
   kinds : (i : ℕ) → i < c → kind-at v i ≡ kind-at w i
-  kinds i l = cell-agree v w 256 1 i (λ b m n. bit-outside w 13312 (256 * q + t) b (λ z. omega (arith, h .few)))
+  kinds i l = cell-agree v w kinds-base 1 i (λ b m n. bit-outside w targets-base (max-states * q + t) b (λ z. omega (arith, h .few)))
 
   sets : (i : ℕ) → i < c → set-at v i ≡ set-at w i
-  sets i l = cell-agree v w 512 4 i (λ b m n. bit-outside w 13312 (256 * q + t) b (λ z. omega (arith, h .few)))
+  sets i l = cell-agree v w sets-base 4 i (λ b m n. bit-outside w targets-base (max-states * q + t) b (λ z. omega (arith, h .few)))
 
-  pub marked-one : Admitted I P c c kind (set ∷ []) q w w′ × Outside 256 87072 w w′
-  marked-one = subst (λ (u : List ℕ). Admitted I P c c kind (set ∷ []) q w u × Outside 256 87072 w u) (sym e) (
+  pub marked-one : Admitted I P c c kind (set ∷ []) q w w′ × Outside kinds-base candidates-base w w′
+  marked-one = subst (λ (u : List ℕ). Admitted I P c c kind (set ∷ []) q w u × Outside kinds-base candidates-base w u) (sym e) (
     record {
       holds = holds-same I P c w v kinds sets h;
       more = omega arith;
@@ -70,7 +71,7 @@ module _ (I : Interface) (P : List Row) (c kind set q : ℕ) (hq : q ≤ 2304) (
       sets-kept = sets;
       there = λ u i. at-t u (List·Memᴰ·cases-cons i);
       marked = λ u l. bit u l (ℕ-discrete u t);
-      others-kept = λ p u l m d. bit-other w 13312 (256 * q + t) (256 * p + u) (λ z. d (omega (arith, h .few)));
+      others-kept = λ p u l m d. bit-other w targets-base (max-states * q + t) (max-states * p + u) (λ z. d (omega (arith, h .few)));
       elsewhere = beside;
     },
     outside,
@@ -82,7 +83,7 @@ module _ (I : Interface) (P : List Row) (c kind set q : ℕ) (hq : q ≤ 2304) (
 
       beside : Elsewhere w v
       beside b (inl l) = outside b (inl l)
-      beside b (inr l) = bit-outside w 13312 (256 * q + t) b (λ z. omega (arith, l .1))
+      beside b (inr l) = bit-outside w targets-base (max-states * q + t) b (λ z. omega (arith, l .1))
 
       is-it : ℕ → Bool
       is-it u = ltb u c && (eqb (kind-at v u) kind && (eqb (set-at v u) set || false))
@@ -104,12 +105,12 @@ module _ (I : Interface) (P : List Row) (c kind set q : ℕ) (hq : q ≤ 2304) (
       it-is = and-i (ltb t c) (eqb (kind-at v t) kind && (eqb (set-at v t) set || false)) (lt→ltb t c ht)
           (and-i (eqb (kind-at v t) kind) (eqb (set-at v t) set || false) (eq-eqb (kind-at v t) kind (kinds t ht ∙ is-kind)) (or-l (eqb (set-at v t) set) false (eq-eqb (set-at v t) set (sets t ht ∙ is-set))))
 
-      bit : (u : ℕ) → u < 256 → Dec (u ≡ t) → target v q u ≡ (target w q u || is-it u)
+      bit : (u : ℕ) → u < max-states → Dec (u ≡ t) → target v q u ≡ (target w q u || is-it u)
       bit u l (yes z) =
-          ap (λ (i : ℕ). target v q i) z ∙ bit-same w 13312 (256 * q + t) (omega (arith, h .few))
+          ap (λ (i : ℕ). target v q i) z ∙ bit-same w targets-base (max-states * q + t) (omega (arith, h .few))
           ∙ sym (T-eq (target w q u || is-it u) (or-r (target w q u) (is-it u) (subst (λ (i : ℕ). T (is-it i)) (sym z) it-is)))
       bit u l (no z) =
-          bit-other w 13312 (256 * q + t) (256 * q + u) (λ d. z (omega arith))
+          bit-other w targets-base (max-states * q + t) (max-states * q + u) (λ d. z (omega arith))
           ∙ sym (or-off (target w q u) (is-it u) (off (is-it u) (λ y. z (only u y))))
         where
           or-off : (a b : Bool) → b ≡ false → (a || b) ≡ a
@@ -117,33 +118,33 @@ module _ (I : Interface) (P : List Row) (c kind set q : ℕ) (hq : q ≤ 2304) (
           or-off false b z = z
 
 -- a state that is not there, stored behind the others
-module _ (I : Interface) (P : List Row) (c kind set q : ℕ) (hq : q ≤ 2304) (w w₁ w₂ : List ℕ) (h : Holds I P c w) (room : 103456 ≤ length w) (fits : c < 256) (x : Known I P kind set) (narrow : set < 4294967296) (new : found w c kind set ≡ c)
-    (e₁ : w₁ ≡ put-cell w 256 1 c kind) (e₂ : w₂ ≡ put-cell w₁ 512 4 c set) where
+module _ (I : Interface) (P : List Row) (c kind set q : ℕ) (hq : q ≤ entries-slot) (w w₁ w₂ : List ℕ) (h : Holds I P c w) (room : model-room ≤ length w) (fits : c < max-states) (x : Known I P kind set) (narrow : set < sets-end) (new : found w c kind set ≡ c)
+    (e₁ : w₁ ≡ put-cell w kinds-base 1 c kind) (e₂ : w₂ ≡ put-cell w₁ sets-base 4 c set) where
   abbrev once : List ℕ
-  once = put-cell w 256 1 c kind
+  once = put-cell w kinds-base 1 c kind
 
   abbrev both : List ℕ
-  both = put-cell once 512 4 c set
+  both = put-cell once sets-base 4 c set
 
   is-both : w₂ ≡ both
-  is-both = e₂ ∙ ap (λ (u : List ℕ). put-cell u 512 4 c set) e₁
+  is-both = e₂ ∙ ap (λ (u : List ℕ). put-cell u sets-base 4 c set) e₁
 
   kinds-before : (i : ℕ) → i < c → kind-at both i ≡ kind-at w i
-  kinds-before i l = cell-apart once 512 4 c set 256 1 i (inl (omega arith)) ∙ cell-other w 256 1 c i kind (λ z. omega arith)
+  kinds-before i l = cell-apart once sets-base 4 c set kinds-base 1 i (inl (omega arith)) ∙ cell-other w kinds-base 1 c i kind (λ z. omega arith)
 
   sets-before : (i : ℕ) → i < c → set-at both i ≡ set-at w i
-  sets-before i l = cell-other once 512 4 c i set (λ z. omega arith) ∙ cell-apart w 256 1 c kind 512 4 i (inr (omega arith))
+  sets-before i l = cell-other once sets-base 4 c i set (λ z. omega arith) ∙ cell-apart w kinds-base 1 c kind sets-base 4 i (inr (omega arith))
 
   kind-new : kind-at both c ≡ kind
-  kind-new = cell-apart once 512 4 c set 256 1 c (inl (omega arith)) ∙ cell-same w 256 1 c kind (omega arith) (omega (arith, x .method-to))
+  kind-new = cell-apart once sets-base 4 c set kinds-base 1 c (inl (omega arith)) ∙ cell-same w kinds-base 1 c kind (omega arith) (omega (arith, x .method-to))
 
   set-new : set-at both c ≡ set
-  set-new = cell-same once 512 4 c set (omega (arith, length-put-cell w 256 1 c kind)) narrow
+  set-new = cell-same once sets-base 4 c set (omega (arith, length-put-cell w kinds-base 1 c kind)) narrow
 
   -- every byte but those of the state
-  byte-kept : (b : ℕ) → (b < 256) ⊎ (1536 ≤ b) → getD both b 0 ≡ getD w b 0
-  byte-kept b (inl l) = byte-outside once 512 4 c set b (inl (omega arith)) ∙ byte-outside w 256 1 c kind b (inl (omega arith))
-  byte-kept b (inr l) = byte-outside once 512 4 c set b (inr (omega arith)) ∙ byte-outside w 256 1 c kind b (inr (omega arith))
+  byte-kept : (b : ℕ) → (b < kinds-base) ⊎ (order-base ≤ b) → getD both b 0 ≡ getD w b 0
+  byte-kept b (inl l) = byte-outside once sets-base 4 c set b (inl (omega arith)) ∙ byte-outside w kinds-base 1 c kind b (inl (omega arith))
+  byte-kept b (inr l) = byte-outside once sets-base 4 c set b (inr (omega arith)) ∙ byte-outside w kinds-base 1 c kind b (inr (omega arith))
 
   below : (i : ℕ) → i < c + 1 → Dec (i ≡ c) → (i ≡ c) ⊎ (i < c)
   below i l (yes z) = inl z
@@ -174,20 +175,20 @@ module _ (I : Interface) (P : List Row) (c kind set q : ℕ) (hq : q ≤ 2304) (
 
   stored-one : Admitted I P c (c + 1) kind [] q w both
   stored-one = admitted-unmarked I P c (c + 1) kind q w both holds-new (omega arith) kinds-before sets-before hq
-      (λ p t l m. bit-byte both w 13312 13312 (256 * p + t) (byte-kept (13312 + (256 * p + t) / 8) (inr (omega arith)))) (λ b d. byte-kept b (side b d))
+      (λ p t l m. bit-byte both w targets-base targets-base (max-states * p + t) (byte-kept (targets-base + (max-states * p + t) / 8) (inr (omega arith)))) (λ b d. byte-kept b (side b d))
     where
-      side : (b : ℕ) → (b < 256) ⊎ ((1536 ≤ b) × (b < 13312)) → (b < 256) ⊎ (1536 ≤ b)
+      side : (b : ℕ) → (b < kinds-base) ⊎ ((order-base ≤ b) × (b < targets-base)) → (b < kinds-base) ⊎ (order-base ≤ b)
       side b (inl l) = inl l
       side b (inr l) = inr (l .0)
 
   -- and marked
-  pub new-marked : (w₃ : List ℕ) → w₃ ≡ put-bit w₂ 13312 (256 * q + c) → Admitted I P c (c + 1) kind (set ∷ []) q w w₃ × Outside 256 87072 w w₃
+  pub new-marked : (w₃ : List ℕ) → w₃ ≡ put-bit w₂ targets-base (max-states * q + c) → Admitted I P c (c + 1) kind (set ∷ []) q w w₃ × Outside kinds-base candidates-base w w₃
   new-marked w₃ e =
-      let long : length both ≡ length w = length-put-cell once 512 4 c set ∙ length-put-cell w 256 1 c kind in
-      let m = marked-one I P (c + 1) kind set q hq both w₃ holds-new (omega (arith, long)) c (omega arith) kind-new set-new (e ∙ ap (λ (u : List ℕ). put-bit u 13312 (256 * q + c)) is-both) in
+      let long : length both ≡ length w = length-put-cell once sets-base 4 c set ∙ length-put-cell w kinds-base 1 c kind in
+      let m = marked-one I P (c + 1) kind set q hq both w₃ holds-new (omega (arith, long)) c (omega arith) kind-new set-new (e ∙ ap (λ (u : List ℕ). put-bit u targets-base (max-states * q + c)) is-both) in
       (admitted-both I P c (c + 1) (c + 1) kind [] (set ∷ []) q w both w₃ stored-one (m .0), λ b d. m .1 b d ∙ byte-kept b (side b d))
     where
-      side : (b : ℕ) → (b < 256) ⊎ (87072 ≤ b) → (b < 256) ⊎ (1536 ≤ b)
+      side : (b : ℕ) → (b < kinds-base) ⊎ (candidates-base ≤ b) → (b < kinds-base) ⊎ (order-base ≤ b)
       side b (inl l) = inl l
       side b (inr l) = inr (omega arith)
 
@@ -196,9 +197,9 @@ module _ (I : Interface) (P : List Row) (c kind set q : ℕ) (hq : q ≤ 2304) (
 -- what is known of t states after those of A, from c states on
 abbrev pub Entered : Scope → Interface → List Row → ℕ → ℕ → ℕ → List ℕ → ℕ → List ℕ → List ℕ → Type 0
 Entered s I P c t kind A q w w′ =
-    (t ≤ s .states → Admitted I P c t kind A q w w′ × Outside 256 87072 w w′) × ((t ≤ s .states + 1) × (s .states < t → Crowded I P (s .states)))
+    (t ≤ s .states → Admitted I P c t kind A q w w′ × Outside kinds-base candidates-base w w′) × ((t ≤ s .states + 1) × (s .states < t → Crowded I P (s .states)))
 
-module _ (s : Scope) (I : Interface) (p : List ℕ) (scoped : Scoped s p) (q c kind set : ℕ) (w : List ℕ) (hq : q ≤ 2304) (hc : c ≤ s .states) (room : 103456 ≤ length w)
+module _ (s : Scope) (I : Interface) (p : List ℕ) (scoped : Scoped s p) (q c kind set : ℕ) (w : List ℕ) (hq : q ≤ entries-slot) (hc : c ≤ s .states) (room : model-room ≤ length w)
     (h : Holds I (decode-property p) c w) (x : Known I (decode-property p) kind set) (t : ℕ) (is : t ≡ found w c kind set) where
   abbrev P : List Row
   P = decode-property p
@@ -206,7 +207,7 @@ module _ (s : Scope) (I : Interface) (p : List ℕ) (scoped : Scoped s p) (q c k
   not-found : (t < c → ⊥) → found w c kind set ≡ c
   not-found g = least-none (same-state w kind set) c (λ i l. not-T (same-state w kind set i) (λ z. g (subst (λ (n : ℕ). n < c) (sym is) (least-lt (same-state w kind set) c i l z))))
 
-  pub entered-again : t < c → (w′ : List ℕ) → w′ ≡ put-bit w 13312 (256 * q + t) → Entered s I P c c kind (set ∷ []) q w w′
+  pub entered-again : t < c → (w′ : List ℕ) → w′ ≡ put-bit w targets-base (max-states * q + t) → Entered s I P c c kind (set ∷ []) q w w′
   entered-again l w′ e = (λ m. marked-one I P c kind set q hq w w′ h room t l (eqb→eq (kind-at w t) kind (and-l (eqb (kind-at w t) kind) (eqb (set-at w t) set) there)) (eqb→eq (set-at w t) set (and-r (eqb (kind-at w t) kind) (eqb (set-at w t) set) there)) e, (omega arith, λ m. absurd (omega arith)))
     where
       there : T (same-state w kind set t)
@@ -215,7 +216,7 @@ module _ (s : Scope) (I : Interface) (p : List ℕ) (scoped : Scoped s p) (q c k
   pub entered-past : (t < c → ⊥) → c ≡ s .states → Entered s I P c (c + 1) kind (set ∷ []) q w w
   entered-past g e = (λ m. absurd (omega arith), (omega arith, λ m. subst (Crowded I P) e (crowded I P (rows-named s p scoped) c w h kind set x (not-found g))))
 
-  pub entered-new : (t < c → ⊥) → (c ≡ s .states → ⊥) → set < 4294967296 → (w₁ w₂ w₃ : List ℕ) → w₁ ≡ put-cell w 256 1 c kind → w₂ ≡ put-cell w₁ 512 4 c set → w₃ ≡ put-bit w₂ 13312 (256 * q + c)
+  pub entered-new : (t < c → ⊥) → (c ≡ s .states → ⊥) → set < sets-end → (w₁ w₂ w₃ : List ℕ) → w₁ ≡ put-cell w kinds-base 1 c kind → w₂ ≡ put-cell w₁ sets-base 4 c set → w₃ ≡ put-bit w₂ targets-base (max-states * q + c)
       → Entered s I P c (c + 1) kind (set ∷ []) q w w₃
   entered-new g d narrow w₁ w₂ w₃ e₁ e₂ e₃ =
       (λ m. new-marked I P c kind set q hq w w₁ w₂ h room (omega (arith, scoped .few-states)) x narrow (not-found g) e₁ e₂ w₃ e₃, (omega arith, λ m. absurd (omega arith)))

@@ -13,8 +13,10 @@ use Rattle.files.specs.Basics.Tests.{any}
 use Rattle.files.specs.Cells.{cell, has-bit}
 use Rattle.files.specs.Decode.{decode-property}
 use Rattle.files.specs.Interface.{Interface}
+use Rattle.files.specs.Places.{max-rows}
 use Rattle.files.specs.Property.{Row}
 use Rattle.files.specs.Record.{count}
+use Rattle.maximal.specs.Places.{asked-base, candidates-base, entries-slot, methods-base, order-base, targets-base, kinds-base, max-states, sets-base}
 use Rattle.maximal.specs.declared.places.Scope.{Scope}
 use Rattle.maximal.specs.Collected.{or-count}
 use Rattle.maximal.specs.Masks.{rows, asked-of}
@@ -32,19 +34,19 @@ pub mod Entries
 pub record Scoped (s : Scope) (p : List ℕ) : Type 0 where
   pub file : PropertyFile p
   pub rows-are : s .rows ≡ count p
-  pub few-rows : s .rows ≤ 32
+  pub few-rows : s .rows ≤ max-rows
   pub enough-ors : or-count (decode-property p) ≤ s .ors
   pub few-ors : s .ors ≤ 12
-  pub few-states : s .states ≤ 256
+  pub few-states : s .states ≤ max-states
 
 -- ---- what the buffer holds
 
 -- twice the method and the return flag of state i, and its set of rows
 abbrev pub kind-at : List ℕ → ℕ → ℕ
-kind-at w i = cell w 256 1 i
+kind-at w i = cell w kinds-base 1 i
 
 abbrev pub set-at : List ℕ → ℕ → ℕ
-set-at w i = cell w 512 4 i
+set-at w i = cell w sets-base 4 i
 
 abbrev pub flag-of : ℕ → Bool
 flag-of kind = eqb (kind % 2) 1
@@ -62,7 +64,7 @@ is-pair w a b byte set i = eqb (cell w a 1 i) byte && eqb (cell w b 4 i) set
 
 -- state i has this kind and set
 abbrev pub same-state : List ℕ → ℕ → ℕ → ℕ → Bool
-same-state w kind set i = is-pair w 256 512 kind set i
+same-state w kind set i = is-pair w kinds-base sets-base kind set i
 
 -- the state with this kind and set among the first c, or c
 abbrev pub found : List ℕ → ℕ → ℕ → ℕ → ℕ
@@ -70,26 +72,26 @@ found w c kind set = least (same-state w kind set) c
 
 -- the method of a slot, 0 where its label is none; and what its state asks for under its label
 abbrev pub method-at : List ℕ → ℕ → ℕ
-method-at w p = cell w 1792 1 p
+method-at w p = cell w methods-base 1 p
 
 abbrev pub asked-at : List ℕ → ℕ → ℕ
-asked-at w p = cell w 4096 4 p
+asked-at w p = cell w asked-base 4 p
 
 -- state t follows by slot p
 abbrev pub target : List ℕ → ℕ → ℕ → Bool
-target w p t = has-bit w 13312 (256 * p + t)
+target w p t = has-bit w targets-base (max-states * p + t)
 
 -- the first slot below q with this method that asks for this set, or q
 abbrev pub earlier : List ℕ → ℕ → ℕ → ℕ → ℕ
-earlier w q method set = least (is-pair w 1792 4096 method set) q
+earlier w q method set = least (is-pair w methods-base asked-base method set) q
 
 -- the number of the state that stands k-th
 abbrev pub order-at : List ℕ → ℕ → ℕ
-order-at w k = cell w 1536 1 k
+order-at w k = cell w order-base 1 k
 
 -- at which place state t stands
 abbrev pub rank-at : List ℕ → ℕ → ℕ
-rank-at w t = cell w 87072 1 t
+rank-at w t = cell w candidates-base 1 t
 
 -- the first k states in order have their places
 abbrev pub Ranked : ℕ → List ℕ → Type 0
@@ -101,7 +103,7 @@ comes-before w a b = ltb (kind-at w a) (kind-at w b) || (eqb (kind-at w a) (kind
 
 -- bytes other than those of the states and the rows of bits
 abbrev pub Elsewhere : List ℕ → List ℕ → Type 0
-Elsewhere w w′ = (b : ℕ) → (b < 256) ⊎ ((1536 ≤ b) × (b < 13312)) → getD w′ b 0 ≡ getD w b 0
+Elsewhere w w′ = (b : ℕ) → (b < kinds-base) ⊎ ((order-base ≤ b) × (b < targets-base)) → getD w′ b 0 ≡ getD w b 0
 
 -- the first c states are apart
 abbrev pub Distinct : ℕ → List ℕ → Type 0
@@ -123,7 +125,7 @@ module _ (I : Interface) (P : List Row) where
 
   -- the buffer holds c states of the model, each once
   pub record Holds (c : ℕ) (w : List ℕ) : Type 0 where
-    pub few : c ≤ 256
+    pub few : c ≤ max-states
     pub known : (i : ℕ) → i < c → Known (kind-at w i) (set-at w i)
     pub once : Distinct c w
 
@@ -138,13 +140,13 @@ module _ (I : Interface) (P : List Row) where
     pub kinds-kept : (i : ℕ) → i < c → kind-at w′ i ≡ kind-at w i
     pub sets-kept : (i : ℕ) → i < c → set-at w′ i ≡ set-at w i
     pub there : (u : ℕ) → List·Memᴰ u A → (i : ℕ) × (i < c′) × (kind-at w′ i ≡ kind) × (set-at w′ i ≡ u)
-    pub marked : (t : ℕ) → t < 256 → target w′ q t ≡ (target w q t || (ltb t c′ && (eqb (kind-at w′ t) kind && any (λ u. eqb (set-at w′ t) u) A)))
-    pub others-kept : (p t : ℕ) → p ≤ 2304 → t < 256 → (p ≡ q → ⊥) → target w′ p t ≡ target w p t
+    pub marked : (t : ℕ) → t < max-states → target w′ q t ≡ (target w q t || (ltb t c′ && (eqb (kind-at w′ t) kind && any (λ u. eqb (set-at w′ t) u) A)))
+    pub others-kept : (p t : ℕ) → p ≤ entries-slot → t < max-states → (p ≡ q → ⊥) → target w′ p t ≡ target w p t
     pub elsewhere : Elsewhere w w′
 
   -- slot p is worked: its row has the states that follow, and they are all there
   pub record Followed (c : ℕ) (w : List ℕ) (p : ℕ) : Type 0 where
-    pub bits : (t : ℕ) → t < 256 → target w p t ≡ (ltb t c && is-next I P (stored (length P) w (p / 9)) (p % 9) (stored (length P) w t))
+    pub bits : (t : ℕ) → t < max-states → target w p t ≡ (ltb t c && is-next I P (stored (length P) w (p / 9)) (p % 9) (stored (length P) w t))
     pub all-there : (s : State) → Next I P (stored (length P) w (p / 9)) (p % 9) s → (t : ℕ) × (t < c) × (stored (length P) w t ≡ s)
     pub method-is : T (is-label I P (p % 9)) → method-at w p ≡ kind-at w (p / 9) / 2
     pub no-method : (T (is-label I P (p % 9)) → ⊥) → method-at w p ≡ 0
@@ -153,14 +155,14 @@ module _ (I : Interface) (P : List Row) where
   -- the entries are there, and the slots below q are worked
   pub record Charting (c q : ℕ) (w : List ℕ) : Type 0 where
     pub holds : Holds c w
-    pub entry-bits : (t : ℕ) → t < 256 → target w 2304 t ≡ (ltb t c && is-entry I P (stored (length P) w t))
+    pub entry-bits : (t : ℕ) → t < max-states → target w entries-slot t ≡ (ltb t c && is-entry I P (stored (length P) w t))
     pub entries-there : (s : State) → Entry I P s → (t : ℕ) × (t < c) × (stored (length P) w t ≡ s)
     pub followed : (p : ℕ) → p < q → Followed c w p
 
   -- slot q is next, its row is blank, and it has its method and what it asks for
   pub record Asking (c q method set : ℕ) (w : List ℕ) : Type 0 where
     pub charting : Charting c q w
-    pub blank : (t : ℕ) → t < 256 → target w q t ≡ false
+    pub blank : (t : ℕ) → t < max-states → target w q t ≡ false
     pub label : T (is-label I P (q % 9))
     pub method-is : method-at w q ≡ method
     pub asked-is : asked-at w q ≡ set
@@ -171,7 +173,7 @@ module _ (I : Interface) (P : List Row) where
   pub record Charted (c : ℕ) (w : List ℕ) : Type 0 where
     pub holds : Holds c w
     pub complete : (s : State) → Reached I P s → (t : ℕ) × (t < c) × (stored (length P) w t ≡ s)
-    pub entries-are : (t : ℕ) → t < c → target w 2304 t ≡ is-entry I P (stored (length P) w t)
+    pub entries-are : (t : ℕ) → t < c → target w entries-slot t ≡ is-entry I P (stored (length P) w t)
     pub follows-are : (i l t : ℕ) → i < c → l < 9 → t < c → target w (9 * i + l) t ≡ is-next I P (stored (length P) w i) l (stored (length P) w t)
 
   -- the states in order

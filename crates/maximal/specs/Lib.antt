@@ -1,3 +1,4 @@
+pub mod Places
 pub mod Model
 pub mod Masks
 pub mod Collected

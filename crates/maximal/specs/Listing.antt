@@ -7,6 +7,7 @@ use Rattle.files.specs.Basics.Lists.{each, keep, span}
 use Rattle.files.specs.Basics.Tables.{tally}
 use Rattle.files.specs.Basics.Tests.{one}
 use Rattle.maximal.specs.Charting.{kind-at, target, order-at}
+use Rattle.maximal.specs.Places.{entries-slot}
 pub mod Laws
 
 -- an edge with label l leads from the i-th state to the j-th
@@ -29,7 +30,7 @@ tally-upto w c limit (suc n) = cond (ltb limit (tally-upto w c limit n)) (tally-
 -- the i-th state as a node
 abbrev pub node-bytes : List ℕ → ℕ → List ℕ
 node-bytes w i =
-    1 ∷ kind-at w (order-at w i) / 2 ∷ kind-at w (order-at w i) % 2 ∷ one (target w 2304 (order-at w i)) ∷ 0 ∷ 0 ∷ []
+    1 ∷ kind-at w (order-at w i) / 2 ∷ kind-at w (order-at w i) % 2 ∷ one (target w entries-slot (order-at w i)) ∷ 0 ∷ 0 ∷ []
 
 -- the edges with label l from the i-th state, and those with a label below n
 abbrev pub under-bytes : List ℕ → ℕ → ℕ → ℕ → List ℕ

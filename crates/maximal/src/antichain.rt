@@ -8,6 +8,7 @@ ghost use Rattle.files.specs.Basics.Tests.{any};
 ghost use Rattle.judging.specs.Chains.{Outside};
 ghost use Rattle.maximal.specs.Masks.{within};
 ghost use Rattle.maximal.specs.Collected.{inserted, listed};
+ghost use Rattle.maximal.specs.Places.{candidates-base, max-candidates, model-room};
 use crate::places::Places;
 use files::cells::get32;
 use files::cells::put32;
@@ -21,7 +22,7 @@ fn is_within(u: u32, s: u32) -> bool
 
 // Whether a listed set is within s.
 fn has_within(work: &[u8], count: usize, s: u32) -> bool
-    requires { ⌜ (count ≤ 4096) × (103456 ≤ length (now work)) ⌝ }
+    requires { ⌜ (count ≤ max-candidates) × (model-room ≤ length (now work)) ⌝ }
     ensures { λ t. ⌜ t ≡ any (λ u. within u s) (listed (now (work .entry)) count) ⌝ }
 {
     let mut i = 0;
@@ -36,8 +37,8 @@ fn has_within(work: &[u8], count: usize, s: u32) -> bool
 
 // Drops the listed sets that s is within. How many are left.
 fn drop_above(work: &mut [u8], count: usize, s: u32) -> usize
-    requires { ⌜ (count ≤ 4096) × (103456 ≤ length (now work)) ⌝ }
-    ensures { λ t. ⌜ (listed (now (work .exit)) t ≡ keep (λ u. not (within s u)) (listed (now (work .entry)) count)) × ((t ≤ count) × (Outside 87072 103456 (now (work .entry)) (now (work .exit)))) ⌝ }
+    requires { ⌜ (count ≤ max-candidates) × (model-room ≤ length (now work)) ⌝ }
+    ensures { λ t. ⌜ (listed (now (work .exit)) t ≡ keep (λ u. not (within s u)) (listed (now (work .entry)) count)) × ((t ≤ count) × (Outside candidates-base model-room (now (work .entry)) (now (work .exit)))) ⌝ }
 {
     let mut i = 0;
     let mut left = 0;
@@ -54,8 +55,8 @@ fn drop_above(work: &mut [u8], count: usize, s: u32) -> usize
 
 // Adds set s. How many are listed then.
 pub(crate) fn insert(work: &mut [u8], count: usize, s: u32) -> usize
-    requires { ⌜ (count < 4096) × (103456 ≤ length (now work)) ⌝ }
-    ensures { λ t. ⌜ (listed (now (work .exit)) t ≡ inserted (listed (now (work .entry)) count) s) × ((t ≤ count + 1) × (Outside 87072 103456 (now (work .entry)) (now (work .exit)))) ⌝ }
+    requires { ⌜ (count < max-candidates) × (model-room ≤ length (now work)) ⌝ }
+    ensures { λ t. ⌜ (listed (now (work .exit)) t ≡ inserted (listed (now (work .entry)) count) s) × ((t ≤ count + 1) × (Outside candidates-base model-room (now (work .entry)) (now (work .exit)))) ⌝ }
 {
     if has_within(work, count, s) {
         return count;

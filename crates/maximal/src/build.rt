@@ -8,6 +8,7 @@ ghost use Rattle.files.specs.Outcome.{Answers, Does};
 ghost use Rattle.files.specs.Settling.{Settles};
 ghost use Rattle.maximal.specs.Charting.{Scoped, Charted};
 ghost use Rattle.maximal.specs.Modelling.{modelled, modelled-answer, model-first, from-size, Bounded};
+ghost use Rattle.maximal.specs.Places.{model-room};
 use crate::answers::Modelled;
 use crate::explore::explore;
 use crate::order::arrange;
@@ -35,7 +36,7 @@ fn write_found(
     limits: Limits,
     c: usize,
 ) -> Modelled
-    requires { ⌜ (Scoped s (now property)) × ((s .states ≡ limits .nodes) × ((c ≤ s .states) × ((103456 ≤ length (now work)) × (Charted (decode-interface (now interface)) (decode-property (now property)) c (now work))))) ⌝ }
+    requires { ⌜ (Scoped s (now property)) × ((s .states ≡ limits .nodes) × ((c ≤ s .states) × ((model-room ≤ length (now work)) × (Charted (decode-interface (now interface)) (decode-property (now property)) c (now work))))) ⌝ }
     ensures { λ r. ⌜ Answers (from-size limits (now (interface .entry)) (now (property .entry)) (length (now (out .entry)))) (now (out .entry)) (now (out .exit)) (modelled-answer r) ⌝ }
 {
     arrange(interface, property, work, c);
@@ -59,7 +60,7 @@ fn build(
     work: &mut [u8],
     limits: Limits,
 ) -> Modelled
-    requires { ⌜ (InterfaceFile (now interface)) × ((Scoped s (now property)) × ((s .states ≡ limits .nodes) × (103456 ≤ length (now work)))) ⌝ }
+    requires { ⌜ (InterfaceFile (now interface)) × ((Scoped s (now property)) × ((s .states ≡ limits .nodes) × (model-room ≤ length (now work)))) ⌝ }
     ensures { λ r. ⌜ Answers (from-size limits (now (interface .entry)) (now (property .entry)) (length (now (out .entry)))) (now (out .entry)) (now (out .exit)) (modelled-answer r) ⌝ }
 {
     let c = explore(interface, property, s, work);

@@ -9,10 +9,12 @@ ghost use lib.ListN.{length};
 ghost use Rattle.files.specs.Interface.{requires-method};
 ghost use Rattle.files.specs.Access.{InterfaceFile};
 ghost use Rattle.files.specs.Decode.{decode-interface, decode-property};
+ghost use Rattle.files.specs.Places.{line-bytes};
 ghost use Rattle.judging.specs.Chains.{Outside};
 ghost use Rattle.maximal.specs.Charting.{Scoped, target, Crowded, Charting, Asking, Charted};
 ghost use Rattle.maximal.specs.Collected.{Tables};
 ghost use Rattle.maximal.specs.Masks.{Boxes};
+ghost use Rattle.maximal.specs.Places.{entries-slot, model-room, slots, targets-base, max-states};
 use crate::masks::LABELS;
 use crate::masks::asked;
 use crate::masks::boxes_by_label;
@@ -40,8 +42,8 @@ fn is_label(interface: &[u8], label: u8) -> bool
 
 // Row q becomes blank.
 fn clear_row(work: &mut [u8], q: usize)
-    requires { ⌜ (q ≤ 2304) × (103456 ≤ length (now work)) ⌝ }
-    ensures { λ _. ⌜ ((t : ℕ) → t < 256 → target (now (work .exit)) q t ≡ false) × (Outside (13312 + 32 * q) (13312 + 32 * q + 32) (now (work .entry)) (now (work .exit))) ⌝ }
+    requires { ⌜ (q ≤ entries-slot) × (model-room ≤ length (now work)) ⌝ }
+    ensures { λ _. ⌜ ((t : ℕ) → t < max-states → target (now (work .exit)) q t ≡ false) × (Outside (targets-base + line-bytes * q) (targets-base + line-bytes * q + line-bytes) (now (work .entry)) (now (work .exit))) ⌝ }
 {
     let mut k = 0;
     while k < LINE {
@@ -52,7 +54,7 @@ fn clear_row(work: &mut [u8], q: usize)
 
 // Enters the entries of all provided methods.
 fn enter_entries(interface: &[u8], property: &[u8], s: Scope, work: &mut [u8]) -> usize
-    requires { ⌜ (InterfaceFile (now interface)) × ((Scoped s (now property)) × ((103456 ≤ length (now work)) × (Tables (decode-property (now property)) (now work)))) ⌝ }
+    requires { ⌜ (InterfaceFile (now interface)) × ((Scoped s (now property)) × ((model-room ≤ length (now work)) × (Tables (decode-property (now property)) (now work)))) ⌝ }
     ensures { λ t. ⌜ (t ≤ s .states → (Charting (decode-interface (now (interface .entry))) (decode-property (now (property .entry))) t 0 (now (work .exit))) × (Tables (decode-property (now (property .entry))) (now (work .exit)))) × ((t ≤ s .states + 1) × (s .states < t → Crowded (decode-interface (now (interface .entry))) (decode-property (now (property .entry))) (s .states))) ⌝ }
 {
     clear_row(work, Places::ENTRIES);
@@ -72,8 +74,8 @@ fn enter_entries(interface: &[u8], property: &[u8], s: Scope, work: &mut [u8]) -
 
 // Row q becomes as row p.
 fn copy_row(work: &mut [u8], p: usize, q: usize)
-    requires { ⌜ (p < q) × ((q < 2304) × (103456 ≤ length (now work))) ⌝ }
-    ensures { λ _. ⌜ ((t : ℕ) → t < 256 → target (now (work .exit)) q t ≡ target (now (work .entry)) p t) × (Outside (13312 + 32 * q) (13312 + 32 * q + 32) (now (work .entry)) (now (work .exit))) ⌝ }
+    requires { ⌜ (p < q) × ((q < slots) × (model-room ≤ length (now work))) ⌝ }
+    ensures { λ _. ⌜ ((t : ℕ) → t < max-states → target (now (work .exit)) q t ≡ target (now (work .entry)) p t) × (Outside (targets-base + line-bytes * q) (targets-base + line-bytes * q + line-bytes) (now (work .entry)) (now (work .exit))) ⌝ }
 {
     let mut k = 0;
     while k < LINE {
@@ -94,7 +96,7 @@ fn follow_anew(
     method: u8,
     set: u32,
 ) -> usize
-    requires { ⌜ (Scoped s (now property)) × ((q < 9 * c) × ((c ≤ s .states) × ((103456 ≤ length (now work)) × ((Tables (decode-property (now property)) (now work)) × (Asking (decode-interface (now interface)) (decode-property (now property)) c q method set (now work)))))) ⌝ }
+    requires { ⌜ (Scoped s (now property)) × ((q < 9 * c) × ((c ≤ s .states) × ((model-room ≤ length (now work)) × ((Tables (decode-property (now property)) (now work)) × (Asking (decode-interface (now interface)) (decode-property (now property)) c q method set (now work)))))) ⌝ }
     ensures { λ t. ⌜ (t ≤ s .states → (Charting (decode-interface (now (interface .entry))) (decode-property (now (property .entry))) t (q + 1) (now (work .exit))) × ((Tables (decode-property (now (property .entry))) (now (work .exit))) × (c ≤ t))) × ((t ≤ s .states + 1) × (s .states < t → Crowded (decode-interface (now (interface .entry))) (decode-property (now (property .entry))) (s .states))) ⌝ }
 {
     let going = admit(interface, property, s, work, q, c, 2 * method, set);
@@ -115,7 +117,7 @@ fn follow(
     label: u8,
     c: usize,
 ) -> usize
-    requires { ⌜ (Boxes (decode-property (now property)) (now boxes)) × ((InterfaceFile (now interface)) × ((Scoped s (now property)) × ((i < c) × ((label < 9) × ((c ≤ s .states) × ((103456 ≤ length (now work)) × ((Tables (decode-property (now property)) (now work)) × (Charting (decode-interface (now interface)) (decode-property (now property)) c (9 * i + label) (now work))))))))) ⌝ }
+    requires { ⌜ (Boxes (decode-property (now property)) (now boxes)) × ((InterfaceFile (now interface)) × ((Scoped s (now property)) × ((i < c) × ((label < 9) × ((c ≤ s .states) × ((model-room ≤ length (now work)) × ((Tables (decode-property (now property)) (now work)) × (Charting (decode-interface (now interface)) (decode-property (now property)) c (9 * i + label) (now work))))))))) ⌝ }
     ensures { λ t. ⌜ (t ≤ s .states → (Charting (decode-interface (now (interface .entry))) (decode-property (now (property .entry))) t (9 * i + label + 1) (now (work .exit))) × ((Tables (decode-property (now (property .entry))) (now (work .exit))) × (c ≤ t))) × ((t ≤ s .states + 1) × (s .states < t → Crowded (decode-interface (now (interface .entry))) (decode-property (now (property .entry))) (s .states))) ⌝ }
 {
     let q = 9 * i + (label as usize);
@@ -148,7 +150,7 @@ fn expand(
     i: usize,
     c: usize,
 ) -> usize
-    requires { ⌜ (Boxes (decode-property (now property)) (now boxes)) × ((InterfaceFile (now interface)) × ((Scoped s (now property)) × ((i < c) × ((c ≤ s .states) × ((103456 ≤ length (now work)) × ((Tables (decode-property (now property)) (now work)) × (Charting (decode-interface (now interface)) (decode-property (now property)) c (9 * i) (now work)))))))) ⌝ }
+    requires { ⌜ (Boxes (decode-property (now property)) (now boxes)) × ((InterfaceFile (now interface)) × ((Scoped s (now property)) × ((i < c) × ((c ≤ s .states) × ((model-room ≤ length (now work)) × ((Tables (decode-property (now property)) (now work)) × (Charting (decode-interface (now interface)) (decode-property (now property)) c (9 * i) (now work)))))))) ⌝ }
     ensures { λ t. ⌜ (t ≤ s .states → (Charting (decode-interface (now (interface .entry))) (decode-property (now (property .entry))) t (9 * i + 9) (now (work .exit))) × ((Tables (decode-property (now (property .entry))) (now (work .exit))) × (c ≤ t))) × ((t ≤ s .states + 1) × (s .states < t → Crowded (decode-interface (now (interface .entry))) (decode-property (now (property .entry))) (s .states))) ⌝ }
 {
     let mut label = 0;
@@ -165,7 +167,7 @@ fn expand(
 
 // All states. How many there are; one more than there may be where there are more. Where no method is provided there is none, and no row is looked at.
 pub(crate) fn explore(interface: &[u8], property: &[u8], s: Scope, work: &mut [u8]) -> usize
-    requires { ⌜ (InterfaceFile (now interface)) × ((Scoped s (now property)) × (103456 ≤ length (now work))) ⌝ }
+    requires { ⌜ (InterfaceFile (now interface)) × ((Scoped s (now property)) × (model-room ≤ length (now work))) ⌝ }
     ensures { λ t. ⌜ (t ≤ s .states → Charted (decode-interface (now (interface .entry))) (decode-property (now (property .entry))) t (now (work .exit))) × ((t ≤ s .states + 1) × (s .states < t → Crowded (decode-interface (now (interface .entry))) (decode-property (now (property .entry))) (s .states))) ⌝ }
 {
     if provided_methods(interface) == 0 {

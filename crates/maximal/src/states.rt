@@ -11,6 +11,7 @@ ghost use Rattle.files.specs.Decode.{decode-interface, decode-property};
 ghost use Rattle.judging.specs.Chains.{Outside};
 ghost use Rattle.maximal.specs.Charting.{Scoped, flag-of, is-pair, Known, Holds, Crowded, Admitted};
 ghost use Rattle.maximal.specs.Collected.{Tables, listed, supports-of};
+ghost use Rattle.maximal.specs.Places.{candidates-base, entries-slot, max-candidates, model-room, kinds-base};
 use crate::places::Places;
 use crate::places::Scope;
 use crate::supports::supports;
@@ -88,8 +89,8 @@ fn enter(
     kind: u8,
     set: u32,
 ) -> usize
-    requires { ⌜ (Scoped s (now property)) × ((q ≤ 2304) × ((c ≤ s .states) × ((103456 ≤ length (now work)) × ((Holds (decode-interface (now interface)) (decode-property (now property)) c (now work)) × (Known (decode-interface (now interface)) (decode-property (now property)) kind set))))) ⌝ }
-    ensures { λ t. ⌜ (t ≤ s .states → (Admitted (decode-interface (now (interface .entry))) (decode-property (now (property .entry))) c t kind (set ∷ []) q (now (work .entry)) (now (work .exit))) × (Outside 256 87072 (now (work .entry)) (now (work .exit)))) × ((t ≤ s .states + 1) × (s .states < t → Crowded (decode-interface (now (interface .entry))) (decode-property (now (property .entry))) (s .states))) ⌝ }
+    requires { ⌜ (Scoped s (now property)) × ((q ≤ entries-slot) × ((c ≤ s .states) × ((model-room ≤ length (now work)) × ((Holds (decode-interface (now interface)) (decode-property (now property)) c (now work)) × (Known (decode-interface (now interface)) (decode-property (now property)) kind set))))) ⌝ }
+    ensures { λ t. ⌜ (t ≤ s .states → (Admitted (decode-interface (now (interface .entry))) (decode-property (now (property .entry))) c t kind (set ∷ []) q (now (work .entry)) (now (work .exit))) × (Outside kinds-base candidates-base (now (work .entry)) (now (work .exit)))) × ((t ≤ s .states + 1) × (s .states < t → Crowded (decode-interface (now (interface .entry))) (decode-property (now (property .entry))) (s .states))) ⌝ }
 {
     let t = find_pair(work, Places::KINDS, Places::SETS, c, kind, set);
     if t < c {
@@ -116,7 +117,7 @@ fn enter_listed(
     kind: u8,
     n: usize,
 ) -> usize
-    requires { ⌜ (Scoped s (now property)) × ((q ≤ 2304) × ((c ≤ s .states) × ((n ≤ 4096) × ((103456 ≤ length (now work)) × ((Holds (decode-interface (now interface)) (decode-property (now property)) c (now work)) × ((u : ℕ) → List·Memᴰ u (listed (now work) n) → Known (decode-interface (now interface)) (decode-property (now property)) kind u)))))) ⌝ }
+    requires { ⌜ (Scoped s (now property)) × ((q ≤ entries-slot) × ((c ≤ s .states) × ((n ≤ max-candidates) × ((model-room ≤ length (now work)) × ((Holds (decode-interface (now interface)) (decode-property (now property)) c (now work)) × ((u : ℕ) → List·Memᴰ u (listed (now work) n) → Known (decode-interface (now interface)) (decode-property (now property)) kind u)))))) ⌝ }
     ensures { λ t. ⌜ (t ≤ s .states → Admitted (decode-interface (now (interface .entry))) (decode-property (now (property .entry))) c t kind (listed (now (work .entry)) n) q (now (work .entry)) (now (work .exit))) × ((t ≤ s .states + 1) × (s .states < t → Crowded (decode-interface (now (interface .entry))) (decode-property (now (property .entry))) (s .states))) ⌝ }
 {
     let mut k = 0;
@@ -143,7 +144,7 @@ pub(crate) fn admit(
     kind: u8,
     set: u32,
 ) -> usize
-    requires { ⌜ (Scoped s (now property)) × ((q ≤ 2304) × ((c ≤ s .states) × ((set < 2 ^ s .rows) × ((103456 ≤ length (now work)) × ((Tables (decode-property (now property)) (now work)) × ((Holds (decode-interface (now interface)) (decode-property (now property)) c (now work)) × ((u : ℕ) → List·Memᴰ u (supports-of (decode-property (now property)) (s .ors) (kind / 2) (flag-of kind) set) → Known (decode-interface (now interface)) (decode-property (now property)) kind u))))))) ⌝ }
+    requires { ⌜ (Scoped s (now property)) × ((q ≤ entries-slot) × ((c ≤ s .states) × ((set < 2 ^ s .rows) × ((model-room ≤ length (now work)) × ((Tables (decode-property (now property)) (now work)) × ((Holds (decode-interface (now interface)) (decode-property (now property)) c (now work)) × ((u : ℕ) → List·Memᴰ u (supports-of (decode-property (now property)) (s .ors) (kind / 2) (flag-of kind) set) → Known (decode-interface (now interface)) (decode-property (now property)) kind u))))))) ⌝ }
     ensures { λ t. ⌜ (t ≤ s .states → Admitted (decode-interface (now (interface .entry))) (decode-property (now (property .entry))) c t kind (supports-of (decode-property (now (property .entry))) (s .ors) (kind / 2) (flag-of kind) set) q (now (work .entry)) (now (work .exit))) × ((t ≤ s .states + 1) × (s .states < t → Crowded (decode-interface (now (interface .entry))) (decode-property (now (property .entry))) (s .states))) ⌝ }
 {
     let n = supports(property, s.rows, work, s.ors, kind / 2, kind % 2 == 1, set);

@@ -3,6 +3,7 @@
 ghost use mathlib.Core.Path.{_≡_};
 ghost use Prim.Native.Nat.{_≤_};
 ghost use lib.ListN.{length};
+ghost use Rattle.printing.specs.Places.{buffered, text-room};
 use crate::at_most;
 use crate::end_of;
 use files::cells::get32;
@@ -13,17 +14,17 @@ use libc::STDOUT_FILENO;
 const ROOM: usize = 65536;
 
 // A buffer's bytes: the text and its count.
-pub const BUFFERED: usize = 65540;
+pub const BUFFERED: usize = ROOM + 4;
 
 // A buffer with nothing in it.
 pub fn stdout() -> [u8; BUFFERED]
-    ensures { λ r. ⌜ 65540 ≡ length r ⌝ }
+    ensures { λ r. ⌜ buffered ≡ length r ⌝ }
 {
     [0; BUFFERED]
 }
 
 fn used(stdout: &[u8; BUFFERED]) -> usize
-    ensures { λ r. ⌜ r ≤ 65536 ⌝ }
+    ensures { λ r. ⌜ r ≤ text-room ⌝ }
 {
     at_most(get32(stdout, ROOM, 0) as usize, ROOM)
 }

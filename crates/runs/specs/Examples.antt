@@ -13,13 +13,15 @@ use Rattle.files.specs.Refusal.Examples.{one-one-accepted, call-accepted, retur
 use Rattle.files.specs.Rules.{watch}
 use Rattle.files.specs.Rules.Examples.{return-watch}
 use Rattle.files.specs.Sides.Examples.{call-of, returning-of, one-one-provided}
-use Rattle.judging.specs.Compare.{compare-room, compared}
-use Rattle.judging.specs.Judge.{judge-room, judged}
+use Rattle.judging.specs.Compare.{compared}
+use Rattle.judging.specs.Judge.{judged}
 use Rattle.judging.specs.Judge.Examples.{operators-hold, p4, p5, p6, p7}
 use Rattle.judging.specs.Levels.Examples.{at-three}
-use Rattle.maximal.specs.Modelling.{model-room, modelled}
+use Rattle.judging.specs.Places.{judge-room, compare-room}
+use Rattle.maximal.specs.Modelling.{modelled}
+use Rattle.maximal.specs.Places.{model-room}
+use Rattle.runs.specs.Regions.{watch-room}
 use Rattle.runs.specs.Summary.Trails.Examples.{p10-clean, p11-bad, p11-trail, p11-length}
-use Rattle.runs.specs.Prepared.{watch-room}
 use Rattle.runs.specs.Watching.{watched}
 use Rattle.runs.specs.Watching.Laws.{watch-on, clean-said, bad-said}
 use Rattle.judging.specs.Compare.Examples.{p8, p8-other, p9}

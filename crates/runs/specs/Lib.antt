@@ -5,6 +5,7 @@ pub mod Answer
 pub mod Joining
 pub mod Showing
 pub mod Forward
+pub mod Regions
 pub mod Prepared
 pub mod Worklist
 pub mod Searching

@@ -15,10 +15,12 @@ use Rattle.files.specs.Basics.Tables.{tally}
 use Rattle.files.specs.Basics.Tests.{any}
 use Rattle.files.specs.Cells.{cell, put-cell, has-bit, put-bit, put-at}
 use Rattle.files.specs.Graph.{Graph, Edge, size, node, no-edge, EntryOf}
+use Rattle.files.specs.Places.{record-len}
 use Rattle.files.specs.Rules.{Monitor, calls}
 use Rattle.maximal.specs.Masks.{member}
 use Rattle.runs.specs.Forward.{Searched, Met, turned}
 use Rattle.runs.specs.Prepared.{Tables}
+use Rattle.runs.specs.Regions.{entered-base, parents-base, points, seen-base, watch-room}
 use Rattle.runs.specs.Runs.{meth}
 use Rattle.runs.specs.Summary.{Place, Yields, is-entry-of, callee, spots, clean}
 use Rattle.runs.specs.Summary.Trails.{Rec, trail-rec-bytes, Where, before, here, end, is-bad, started, leaving, trail}
@@ -33,16 +35,16 @@ pub mod Trace
 
 abbrev pub item : List ℕ → ℕ → Rec
 item w i = record {
-  at = getD w (6 * i) 0;
-  state = getD w (6 * i + 1) 0;
-  step = getD w (6 * i + 2) 0;
-  label = getD w (6 * i + 3) 0;
-  to = getD w (6 * i + 4) 0;
-  now = getD w (6 * i + 5) 0;
+  at = getD w (record-len * i) 0;
+  state = getD w (record-len * i + 1) 0;
+  step = getD w (record-len * i + 2) 0;
+  label = getD w (record-len * i + 3) 0;
+  to = getD w (record-len * i + 4) 0;
+  now = getD w (record-len * i + 5) 0;
 }
 
 abbrev pub parent : List ℕ → ℕ → ℕ
-parent w i = cell w 12294 2 i
+parent w i = cell w parents-base 2 i
 
 -- where item i ends
 abbrev pub item-end : List ℕ → ℕ → Where
@@ -50,15 +52,15 @@ item-end w i = cond (eqb i 0) before (end (item w i))
 
 -- the place of node g and state q was met
 abbrev pub seen : List ℕ → ℕ → ℕ → Bool
-seen w g q = has-bit w 46684 (8 * g + q)
+seen w g q = has-bit w seen-base (8 * g + q)
 
 -- method l was entered in state q
 abbrev pub entered : List ℕ → ℕ → ℕ → Bool
-entered w l q = has-bit w 46940 (8 * l + q)
+entered w l q = has-bit w entered-base (8 * l + q)
 
 -- how many places were met
 pub places-seen : List ℕ → ℕ
-places-seen w = tally (λ (h : ℕ). has-bit w 46684 h) 2048
+places-seen w = tally (λ (h : ℕ). has-bit w seen-base h) points
 
 abbrev pub rec-of : ℕ → ℕ → ℕ → ℕ → ℕ → ℕ → Rec
 rec-of g q step l h r = record { at = g; state = q; step = step; label = l; to = h; now = r }
@@ -70,7 +72,7 @@ place g q = record { at = g; now = q }
 
 -- the list with one item more, found from item `head` by record r
 abbrev pub with-item : List ℕ → ℕ → ℕ → Rec → List ℕ
-with-item w tail head r = put-bit (put-cell (put-at w (6 * tail) (trail-rec-bytes r)) 12294 2 tail head) 46684 (8 * r .to + r .now)
+with-item w tail head r = put-bit (put-cell (put-at w (record-len * tail) (trail-rec-bytes r)) parents-base 2 tail head) seen-base (8 * r .to + r .now)
 
 -- nothing, where its place was met
 pub pushed : List ℕ → ℕ → ℕ → Rec → List ℕ
@@ -145,7 +147,7 @@ module _ (G : Graph) (mon : Monitor) where
   module _ (m : ℕ) where
     -- `head` items are searched from, and of the records from the next one those of the list rs are still to be looked at
     pub record Searching (head tail : ℕ) (rs : List Rec) (w : List ℕ) : Type 0 where
-      pub room : 46949 ≤ length w
+      pub room : watch-room ≤ length w
       pub tables : Tables G mon w
       pub way : ℕ → List Rec
       pub searched : Searched (leaving G mon m) end trail-rec-bytes before head tail (item-end w) way (λ r. List·Memᴰ r rs)
@@ -200,7 +202,7 @@ module _ (G : Graph) (mon : Monitor) where
       pub first-way : way 0 ≡ []
       pub linked : (k : ℕ) → 0 < k → k ≤ i → (parent w k < k) × (way k ≡ item w k ∷ way (parent w k))
       pub is-trail : turned (leaving G mon m) end trail-rec-bytes (way i) [] ≡ trail G mon m
-      pub few : i ≤ 2048
+      pub few : i ≤ points
 
     -- what the search says: 0 where the verdict is clean, else the item at which the trail ends
     abbrev pub Says : ℕ → List ℕ → Type 0

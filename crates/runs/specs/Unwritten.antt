@@ -7,14 +7,14 @@ use Rattle.files.specs.Decode.{decode-property, decode-interface, decode-rules}
 use Rattle.files.specs.Graph.{Graph}
 use Rattle.files.specs.Interface.{Interface, united}
 use Rattle.files.specs.Join.{join}
-use Rattle.files.specs.Limits.{desk}
 use Rattle.files.specs.Outcome.{Said, Outcome, Check, whole-check, file-checks, out-check, answered, Lines, whole-line, file-lines, out-line, short, no-start}
 use Rattle.files.specs.Outcome.{NoStart, too-large, TooLarge}
+use Rattle.files.specs.Places.{graph-room}
 use Rattle.files.specs.Refusal.{property, rules, interface}
 use Rattle.files.specs.Rules.{watch}
 use Rattle.files.specs.Sides.{shares, Shares, unprovided, Unprovided}
 use Rattle.files.specs.declared.record.Limits.{Limits}
-use Rattle.maximal.specs.Modelling.{model-room}
+use Rattle.maximal.specs.Places.{model-room}
 use Rattle.runs.specs.Composing.{Side, unwritten, gives, sides-said}
 pub mod Laws
 pub mod Work
@@ -23,7 +23,7 @@ pub mod Meaning
 -- the published lengths of the two work buffers: `store` holds two models, one behind the other, and is then watching's buffer; `work` is modelling's and then holds the
 -- joined graph
 abbrev pub both-store : ℕ
-both-store = 2 * (6 * (desk .nodes + desk .edges))
+both-store = 2 * graph-room
 
 abbrev pub both-work : ℕ
 both-work = model-room

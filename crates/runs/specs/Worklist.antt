@@ -17,6 +17,7 @@ use Rattle.files.specs.Graph.{Graph, Edge, size, node, no-edge}
 use Rattle.files.specs.Rules.{Monitor, calls, returns-to}
 use Rattle.maximal.specs.Masks.{member, mask}
 use Rattle.runs.specs.Prepared.{Grouped, Tables}
+use Rattle.runs.specs.Regions.{monitor-base, queue-cells, reached-base, seen-base, spare-base, waiting-base, watch-room}
 use Rattle.runs.specs.Runs.{meth}
 use Rattle.runs.specs.Summary.{Inside, Yields}
 pub mod Unions
@@ -66,27 +67,27 @@ point g p = 8 * g + p
 
 -- the states in which node g is reached, its method entered in state p
 abbrev pub reach : List ℕ → ℕ → ℕ → ℕ
-reach w g p = cell w 42516 1 (point g p)
+reach w g p = cell w reached-base 1 (point g p)
 
 -- 1 while the point waits
 abbrev pub waits : List ℕ → ℕ → ℕ → ℕ
-waits w g p = cell w 44564 1 (point g p)
+waits w g p = cell w waiting-base 1 (point g p)
 
 abbrev pub queue : List ℕ → ℕ → ℕ
 queue w i = cell w 0 2 i
 
 -- how many states are reached at all points together
 pub reached : List ℕ → ℕ
-reached w = tally (λ (h : ℕ). member (cell w 42516 1 (h / 8)) (h % 8)) 16384
+reached w = tally (λ (h : ℕ). member (cell w reached-base 1 (h / 8)) (h % 8)) queue-cells
 
 -- ---- states added to a point
 
 -- the list with the point's states, and with the point in the queue
 abbrev pub grown : List ℕ → ℕ → ℕ → ℕ → List ℕ
-grown w g p y = put-cell w 42516 1 (point g p) (bitOr (reach w g p) y)
+grown w g p y = put-cell w reached-base 1 (point g p) (bitOr (reach w g p) y)
 
 abbrev pub queued : List ℕ → ℕ → ℕ → ℕ → List ℕ
-queued w tail g p = put-cell (put-cell w 44564 1 (point g p) 1) 0 2 tail (point g p)
+queued w tail g p = put-cell (put-cell w waiting-base 1 (point g p) 1) 0 2 tail (point g p)
 
 -- nothing new; or new at a point that waits; or new, and the point is put at the queue's end
 pub added : List ℕ → ℕ → ℕ → ℕ → ℕ → List ℕ
@@ -100,7 +101,7 @@ added-tail w tail g p y = cond (eqb (bitOr (reach w g p) y) (reach w g p)) tail 
 
 -- what stands from the marks of the search on is as it was
 abbrev pub Past : List ℕ → List ℕ → Type 0
-Past w w′ = (q : ℕ) → 46684 ≤ q → getD w′ q 0 ≡ getD w q 0
+Past w w′ = (q : ℕ) → seen-base ≤ q → getD w′ q 0 ≡ getD w q 0
 
 -- for each caller a, from method 1 on, the states from which a call of method m enters it in state p
 abbrev pub Entering : Monitor → ℕ → ℕ → List ℕ → Type 0
@@ -133,7 +134,7 @@ module _ (G : Graph) (mon : Monitor) where
 
   -- all that is reached happens; the queue holds points, no more than there are states reached
   pub record Holding (tail : ℕ) (w : List ℕ) : Type 0 where
-    pub room : 46949 ≤ length w
+    pub room : watch-room ≤ length w
     pub tables : Tables G mon w
     pub reach-small : (g p : ℕ) → g < size G → p < 8 → reach w g p < 256
     pub reach-happens : (g p q : ℕ) → g < size G → p < 8 → q < 8 → T (member (reach w g p) q) → Inside G mon (meth G g) p g q
@@ -149,7 +150,7 @@ module _ (G : Graph) (mon : Monitor) where
     pub waits-kept : (g p : ℕ) → g < size G → p < 8 → waits w g p ≡ 1 → waits w′ g p ≡ 1
     pub new-queued : (g p : ℕ) → g < size G → p < 8 → waits w′ g p ≡ 1 → (waits w g p ≡ 1) ⊎ ((i : ℕ) × (tail ≤ i) × (i < tail′) × (queue w′ i ≡ point g p))
     pub queue-kept : (i : ℕ) → i < tail → queue w′ i ≡ queue w i
-    pub rest-kept : (q : ℕ) → ((32768 ≤ q) × (q < 42516)) ⊎ (46612 ≤ q) → getD w′ q 0 ≡ getD w q 0
+    pub rest-kept : (q : ℕ) → ((monitor-base ≤ q) × (q < reached-base)) ⊎ (spare-base ≤ q) → getD w′ q 0 ≡ getD w q 0
 
   -- all that is summed up happens
   abbrev pub SumsHappen : List (List ℕ) → Type 0

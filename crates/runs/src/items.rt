@@ -4,6 +4,7 @@ ghost use mathlib.Core.Bool.{not};
 ghost use Prim.Native.Nat.{_≤_, _<_};
 ghost use lib.Dec.{T};
 ghost use lib.ListN.{length};
+ghost use Rattle.runs.specs.Regions.{points, watch-room};
 ghost use Rattle.runs.specs.Searching.{rec-of, seen, pushed, pushed-tail};
 use crate::regions::Regions;
 use files::cells::has_bit;
@@ -24,7 +25,7 @@ pub(crate) fn push(
     to: u8,
     next: u8,
 ) -> usize
-    requires { ⌜ (next < 8) × ((46949 ≤ length (now work)) × ((head < tail) × (T (not (seen (now work) to next)) → tail ≤ 2048))) ⌝ }
+    requires { ⌜ (next < 8) × ((watch-room ≤ length (now work)) × ((head < tail) × (T (not (seen (now work) to next)) → tail ≤ points))) ⌝ }
     ensures { λ t. ⌜ (t ≡ pushed-tail (now (work .entry)) tail head (rec-of g q kind label to next)) × (now (work .exit) ≡ pushed (now (work .entry)) tail head (rec-of g q kind label to next)) ⌝ }
 {
     let at = 8 * (to as usize) + next as usize;

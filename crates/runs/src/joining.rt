@@ -7,6 +7,7 @@ ghost use Rattle.files.specs.Access.{InterfaceFile};
 ghost use Rattle.files.specs.Cells.{put-at};
 ghost use Rattle.files.specs.Decode.{decode-graph, graph-bytes};
 ghost use Rattle.files.specs.Outcome.{Answers, answered};
+ghost use Rattle.files.specs.Places.{record-len, max-nodes};
 ghost use Rattle.files.specs.Settling.{Settles, WherePassed};
 ghost use Rattle.files.specs.View.{Views};
 ghost use Rattle.judging.specs.Judge.{Strides};
@@ -32,7 +33,7 @@ use judging::sizes::Sizes;
 
 // Writes the joined graph: the first graph's nodes, the second's, the first's edges, the second's moved.
 pub(crate) fn write_join(graph1: &[u8], graph2: &[u8], s: Sizes, out: &mut [u8])
-    requires { ⌜ (Both s (now graph1) (now graph2)) × ((s .first .nodes + s .second .nodes ≤ 256) × (6 * (s .first .nodes + s .second .nodes + s .first .edges + s .second .edges) ≤ length (now out))) ⌝ }
+    requires { ⌜ (Both s (now graph1) (now graph2)) × ((s .first .nodes + s .second .nodes ≤ max-nodes) × (record-len * (s .first .nodes + s .second .nodes + s .first .edges + s .second .edges) ≤ length (now out))) ⌝ }
     ensures { λ _. ⌜ now (out .exit) ≡ put-at (now (out .entry)) 0 (graph-bytes (join (decode-graph (now (graph1 .entry))) (decode-graph (now (graph2 .entry))))) ⌝ }
 {
     let cut1 = Record::LEN * s.first.nodes;

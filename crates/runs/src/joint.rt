@@ -6,13 +6,16 @@ ghost use lib.ListN.{length, take, drop};
 ghost use Rattle.files.specs.Access.{InterfaceFile};
 ghost use Rattle.files.specs.Decode.{decode-graph, decode-interface, decode-rules};
 ghost use Rattle.files.specs.Outcome.{Answers};
+ghost use Rattle.files.specs.Places.{record-len};
 ghost use Rattle.files.specs.Rules.{watch};
 ghost use Rattle.files.specs.Sides.{lacks-entry};
 ghost use Rattle.files.specs.View.{Held};
 ghost use Rattle.judging.specs.Judge.{Strides};
 ghost use Rattle.judging.specs.Refinement.{Both};
+ghost use Rattle.maximal.specs.Places.{model-room};
 ghost use Rattle.runs.specs.Answer.{watched-answer};
 ghost use Rattle.runs.specs.Composing.Joined.{JoinedInto, JointReady, joint-outcome, joint-graph};
+ghost use Rattle.runs.specs.Regions.{watch-room};
 use crate::answers::Verdict;
 use crate::joining::write_join;
 use crate::watching::watch_runs;
@@ -32,8 +35,8 @@ pub enum Joint {
 
 // Nothing can be loaded where this model stands, behind `at` bytes of the buffer: it lacks an entry.
 pub(crate) fn bars(interface: &[u8], store: &[u8], at: usize, model: GraphView) -> bool
-    requires { ⌜ (InterfaceFile (now interface)) × ((Held model (take (6 * (model .nodes + model .edges)) (drop at (now store)))) × (at + 6 * (model .nodes + model .edges) ≤ length (now store))) ⌝ }
-    ensures { λ r. ⌜ r ≡ lacks-entry (decode-interface (now (interface .entry))) (decode-graph (take (6 * (model .nodes + model .edges)) (drop at (now (store .entry))))) ⌝ }
+    requires { ⌜ (InterfaceFile (now interface)) × ((Held model (take (record-len * (model .nodes + model .edges)) (drop at (now store)))) × (at + record-len * (model .nodes + model .edges) ≤ length (now store))) ⌝ }
+    ensures { λ r. ⌜ r ≡ lacks-entry (decode-interface (now (interface .entry))) (decode-graph (take (record-len * (model .nodes + model .edges)) (drop at (now (store .entry))))) ⌝ }
 {
     let end = at + Record::LEN * (model.nodes + model.edges);
     lacks_entry(interface, &store[at..end], model.nodes)
@@ -48,7 +51,7 @@ pub(crate) fn join_into(
     barred: bool,
     s: Sizes,
 ) -> Joint
-    requires { ⌜ (Both s (now graph1) (now graph2)) × ((Strides limits) × (103456 ≤ length (now work))) ⌝ }
+    requires { ⌜ (Both s (now graph1) (now graph2)) × ((Strides limits) × (model-room ≤ length (now work))) ⌝ }
     ensures { λ j. ⌜ JoinedInto limits barred s (now (graph1 .entry)) (now (graph2 .entry)) (now (work .entry)) (now (work .exit)) j ⌝ }
 {
     let nodes = s.first.nodes + s.second.nodes;
@@ -73,7 +76,7 @@ pub(crate) fn watch_joint(
     work: &[u8],
     s: Sizes,
 ) -> Verdict
-    requires { ⌜ (JointReady s (now work) (now rules) joint) × (46949 ≤ length (now store)) ⌝ }
+    requires { ⌜ (JointReady s (now work) (now rules) joint) × (watch-room ≤ length (now store)) ⌝ }
     ensures { λ v. ⌜ Answers (joint-outcome (joint-graph s (now (work .entry))) (watch (decode-rules (now (rules .entry)))) start (length (now (out .entry))) joint) (now (out .entry)) (now (out .exit)) (watched-answer v) ⌝ }
 {
     match joint {

@@ -5,6 +5,7 @@ ghost use denote.Ref.{ptr};
 ghost use Prim.Native.Nat.{_+_, _*_, _≤_};
 ghost use lib.ListN.{length};
 ghost use Rattle.files.specs.Outcome.{answer, written-of};
+ghost use Rattle.files.specs.Places.{record-len};
 ghost use Rattle.files.specs.Record.{part};
 ghost use Rattle.files.specs.Settling.{Settles, WherePassed};
 ghost use Rattle.files.specs.View.{Views};
@@ -73,8 +74,8 @@ pub fn find_place(graph1: &[u8], graph2: &[u8], number: usize, limits: Limits) -
 
 // Record i of a file.
 pub fn record_at<'a>(graph: &'a [u8], i: usize) -> &'a [u8]
-    requires { ⌜ 6 * i + 6 ≤ length (now graph) ⌝ }
-    ensures { λ r. ⌜ (now r ≡ part (now (graph .entry)) i 1) × (ptr r ≡ (ptr (graph .entry) .0, 6 * i + ptr (graph .entry) .1)) ⌝ }
+    requires { ⌜ record-len * i + record-len ≤ length (now graph) ⌝ }
+    ensures { λ r. ⌜ (now r ≡ part (now (graph .entry)) i 1) × (ptr r ≡ (ptr (graph .entry) .0, record-len * i + ptr (graph .entry) .1)) ⌝ }
 {
     &graph[Record::LEN * i..Record::LEN * i + Record::LEN]
 }

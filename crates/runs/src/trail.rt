@@ -4,7 +4,9 @@ ghost use mathlib.Core.List.{_++_};
 ghost use Prim.Native.Nat.{_*_, _≤_};
 ghost use lib.ListN.{length, drop};
 ghost use Rattle.files.specs.Decode.{decode-graph, decode-rules};
+ghost use Rattle.files.specs.Places.{record-len};
 ghost use Rattle.files.specs.Rules.{watch};
+ghost use Rattle.runs.specs.Regions.{watch-room};
 ghost use Rattle.runs.specs.Searching.{Traced};
 ghost use Rattle.runs.specs.Summary.Trails.{trail, trail-bytes};
 use crate::regions::Regions;
@@ -14,7 +16,7 @@ use files::record::Record;
 
 // How many records the trail has that ends at item i.
 pub(crate) fn count_records(graph: &[u8], rules: &[u8], work: &[u8], start: u8, i: usize) -> usize
-    requires { ⌜ (Traced (decode-graph (now graph)) (watch (decode-rules (now rules))) start i (now work)) × (46949 ≤ length (now work)) ⌝ }
+    requires { ⌜ (Traced (decode-graph (now graph)) (watch (decode-rules (now rules))) start i (now work)) × (watch-room ≤ length (now work)) ⌝ }
     ensures { λ n. ⌜ n ≡ length (trail (decode-graph (now (graph .entry))) (watch (decode-rules (now (rules .entry)))) start) ⌝ }
 {
     let mut at = i;
@@ -36,7 +38,7 @@ pub(crate) fn write_trail(
     n: usize,
     out: &mut [u8],
 )
-    requires { ⌜ (Traced (decode-graph (now graph)) (watch (decode-rules (now rules))) start i (now work)) × ((46949 ≤ length (now work)) × ((n ≡ length (trail (decode-graph (now graph)) (watch (decode-rules (now rules))) start)) × (6 * n ≤ length (now out)))) ⌝ }
+    requires { ⌜ (Traced (decode-graph (now graph)) (watch (decode-rules (now rules))) start i (now work)) × ((watch-room ≤ length (now work)) × ((n ≡ length (trail (decode-graph (now graph)) (watch (decode-rules (now rules))) start)) × (record-len * n ≤ length (now out)))) ⌝ }
     ensures { λ _. ⌜ now (out .exit) ≡ trail-bytes (decode-graph (now (graph .entry))) (watch (decode-rules (now (rules .entry)))) start ++ drop (length (trail-bytes (decode-graph (now (graph .entry))) (watch (decode-rules (now (rules .entry)))) start)) (now (out .entry)) ⌝ }
 {
     let mut at = i;

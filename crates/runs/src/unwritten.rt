@@ -6,22 +6,25 @@ ghost use lib.ListN.{length, take, drop};
 ghost use Rattle.files.specs.Access.{RulesFile};
 ghost use Rattle.files.specs.Decode.{decode-graph, decode-rules};
 ghost use Rattle.files.specs.Outcome.{Answers, Does, DoesBoth, answered};
+ghost use Rattle.files.specs.Places.{record-len};
 ghost use Rattle.files.specs.Rules.{watch};
 ghost use Rattle.files.specs.Settling.{Settles};
 ghost use Rattle.files.specs.View.{Held};
 ghost use Rattle.judging.specs.Judge.{Strides};
 ghost use Rattle.judging.specs.Refinement.{Both};
 ghost use Rattle.maximal.specs.Modelling.{Bounded, modelled, modelled-answer};
+ghost use Rattle.maximal.specs.Places.{model-room};
 ghost use Rattle.runs.specs.Answer.{watched-answer};
 ghost use Rattle.runs.specs.Composing.{joined-verdict, from-joined, compose-said, compose-last, OtherSide};
 ghost use Rattle.runs.specs.Composing.Joined.{JoinedInto};
-ghost use Rattle.runs.specs.Unwritten.{composed-both, both-first, both-last, both-said};
+ghost use Rattle.runs.specs.Unwritten.{composed-both, both-first, both-last, both-said, both-store};
 ghost use Rattle.runs.specs.Unwritten.Work.{PairRoom};
 use crate::answers::Verdict;
 use crate::joint::Joint;
 use crate::joint::bars;
 use crate::joint::join_into;
 use crate::joint::watch_joint;
+use crate::regions::Regions;
 use files::cells::clear;
 use files::offence::FileKind;
 use files::record::Limits;
@@ -38,9 +41,6 @@ use judging::sizes::Sizes;
 use maximal::answers::Modelled;
 use maximal::build::model_within;
 use maximal::places::Places;
-
-// The published length of `store`: two graph files of 256 nodes and 4,096 edges.
-pub const STORE: usize = 52224;
 
 // The model of a side, behind the first `at` bytes of the buffer, which stay.
 fn model_behind(
@@ -59,8 +59,8 @@ fn model_behind(
 
 // The join of two graphs that stand in one buffer, the second behind the first.
 fn join_stored(store: &[u8], work: &mut [u8], limits: Limits, barred: bool, s: Sizes) -> Joint
-    requires { ⌜ (Both s (take (6 * (s .first .nodes + s .first .edges)) (now store)) (take (6 * (s .second .nodes + s .second .edges)) (drop (6 * (s .first .nodes + s .first .edges)) (now store)))) × ((Strides limits) × ((52224 ≤ length (now store)) × (103456 ≤ length (now work)))) ⌝ }
-    ensures { λ j. ⌜ JoinedInto limits barred s (take (6 * (s .first .nodes + s .first .edges)) (now (store .entry))) (take (6 * (s .second .nodes + s .second .edges)) (drop (6 * (s .first .nodes + s .first .edges)) (now (store .entry)))) (now (work .entry)) (now (work .exit)) j ⌝ }
+    requires { ⌜ (Both s (take (record-len * (s .first .nodes + s .first .edges)) (now store)) (take (record-len * (s .second .nodes + s .second .edges)) (drop (record-len * (s .first .nodes + s .first .edges)) (now store)))) × ((Strides limits) × ((both-store ≤ length (now store)) × (model-room ≤ length (now work)))) ⌝ }
+    ensures { λ j. ⌜ JoinedInto limits barred s (take (record-len * (s .first .nodes + s .first .edges)) (now (store .entry))) (take (record-len * (s .second .nodes + s .second .edges)) (drop (record-len * (s .first .nodes + s .first .edges)) (now (store .entry)))) (now (work .entry)) (now (work .exit)) j ⌝ }
 {
     let first = Record::LEN * (s.first.nodes + s.first.edges);
     let second = first + Record::LEN * (s.second.nodes + s.second.edges);
@@ -85,8 +85,8 @@ fn watch_stored(
     barred: bool,
     s: Sizes,
 ) -> Verdict
-    requires { ⌜ (Both s (take (6 * (s .first .nodes + s .first .edges)) (now store)) (take (6 * (s .second .nodes + s .second .edges)) (drop (6 * (s .first .nodes + s .first .edges)) (now store)))) × ((RulesFile (now rules)) × ((Strides limits) × ((52224 ≤ length (now store)) × (103456 ≤ length (now work))))) ⌝ }
-    ensures { λ v. ⌜ Answers (answered (from-joined limits barred (decode-graph (take (6 * (s .first .nodes + s .first .edges)) (now (store .entry)))) (decode-graph (take (6 * (s .second .nodes + s .second .edges)) (drop (6 * (s .first .nodes + s .first .edges)) (now (store .entry))))) (watch (decode-rules (now (rules .entry)))) start (length (now (out .entry)))) (joined-verdict limits barred (decode-graph (take (6 * (s .first .nodes + s .first .edges)) (now (store .entry)))) (decode-graph (take (6 * (s .second .nodes + s .second .edges)) (drop (6 * (s .first .nodes + s .first .edges)) (now (store .entry))))) (watch (decode-rules (now (rules .entry)))) start (length (now (out .entry))))) (now (out .entry)) (now (out .exit)) (watched-answer v) ⌝ }
+    requires { ⌜ (Both s (take (record-len * (s .first .nodes + s .first .edges)) (now store)) (take (record-len * (s .second .nodes + s .second .edges)) (drop (record-len * (s .first .nodes + s .first .edges)) (now store)))) × ((RulesFile (now rules)) × ((Strides limits) × ((both-store ≤ length (now store)) × (model-room ≤ length (now work))))) ⌝ }
+    ensures { λ v. ⌜ Answers (answered (from-joined limits barred (decode-graph (take (record-len * (s .first .nodes + s .first .edges)) (now (store .entry)))) (decode-graph (take (record-len * (s .second .nodes + s .second .edges)) (drop (record-len * (s .first .nodes + s .first .edges)) (now (store .entry))))) (watch (decode-rules (now (rules .entry)))) start (length (now (out .entry)))) (joined-verdict limits barred (decode-graph (take (record-len * (s .first .nodes + s .first .edges)) (now (store .entry)))) (decode-graph (take (record-len * (s .second .nodes + s .second .edges)) (drop (record-len * (s .first .nodes + s .first .edges)) (now (store .entry))))) (watch (decode-rules (now (rules .entry)))) start (length (now (out .entry))))) (now (out .entry)) (now (out .exit)) (watched-answer v) ⌝ }
 {
     let joint = join_stored(store, work, limits, barred, s);
     watch_joint(joint, rules, start, out, store, work, s)
@@ -105,8 +105,8 @@ fn watch_second(
     barred: bool,
     first: GraphView,
 ) -> Verdict
-    requires { ⌜ (Held first (take (6 * (first .nodes + first .edges)) (now store))) × ((OtherSide limits (now interface) (now property)) × ((RulesFile (now rules)) × (PairRoom limits (now store) (now work)))) ⌝ }
-    ensures { λ v. ⌜ Answers (answered (compose-last limits barred (take (6 * (first .nodes + first .edges)) (now (store .entry))) (now (interface .entry)) (now (property .entry)) (now (rules .entry)) start (length (now (out .entry)))) (compose-said barred (take (6 * (first .nodes + first .edges)) (now (store .entry))) (now (interface .entry)) (now (property .entry)) (now (rules .entry)) start)) (now (out .entry)) (now (out .exit)) (watched-answer v) ⌝ }
+    requires { ⌜ (Held first (take (record-len * (first .nodes + first .edges)) (now store))) × ((OtherSide limits (now interface) (now property)) × ((RulesFile (now rules)) × (PairRoom limits (now store) (now work)))) ⌝ }
+    ensures { λ v. ⌜ Answers (answered (compose-last limits barred (take (record-len * (first .nodes + first .edges)) (now (store .entry))) (now (interface .entry)) (now (property .entry)) (now (rules .entry)) start (length (now (out .entry)))) (compose-said barred (take (record-len * (first .nodes + first .edges)) (now (store .entry))) (now (interface .entry)) (now (property .entry)) (now (rules .entry)) start)) (now (out .entry)) (now (out .exit)) (watched-answer v) ⌝ }
 {
     let at = Record::LEN * (first.nodes + first.edges);
     match model_behind(interface, property, store, at, work, limits) {
@@ -180,7 +180,7 @@ fn check_both(
 ) -> Settled
     ensures { λ r. ⌜ Settles (both-first limits (now (interface1 .entry)) (now (property1 .entry)) (now (interface2 .entry)) (now (property2 .entry)) (now (rules .entry)) start store work) r ⌝ }
 {
-    let room = whole_settled(13, (store < STORE) | (work < Places::ROOM));
+    let room = whole_settled(13, (store < Regions::TWO_GRAPHS) | (work < Places::ROOM));
     let sided1 = then_file(room, FileKind::Interface, interface1, 1, limits);
     let bound1 = then_file(sided1, FileKind::Property, property1, 2, limits);
     let sided2 = then_file(bound1, FileKind::Interface, interface2, 3, limits);

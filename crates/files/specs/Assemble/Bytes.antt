@@ -18,6 +18,7 @@ use Rattle.files.specs.Deliveries.{Delivery, decode-deliveries, assemble
 use Rattle.files.specs.Deliveries.Layout.{body-at, nodes-at, nodes-among, edges-at, assembled-sizes, assembled-bytes}
 use Rattle.files.specs.Graph.{Graph, size}
 use Rattle.files.specs.Join.{moved}
+use Rattle.files.specs.Places.{record-len}
 use Rattle.files.specs.Record.{part, write}
 use Rattle.files.specs.View.{Views}
 use Rattle.files.specs.declared.parts.Part.{Part}
@@ -28,28 +29,28 @@ use Rattle.files.specs.declared.record.Record.{Record}
 -- the bytes that the code cuts out: its nodes, and the whole part
 module _ (l : List ℕ) (m : ℕ) (p : Part) (at : StandsAt l m p) where
   abbrev node-run : List ℕ
-  node-run = take (6 * (p .start + p .nodes) - 6 * p .start) (drop (6 * p .start) l)
+  node-run = take (record-len * (p .start + p .nodes) - record-len * p .start) (drop (record-len * p .start) l)
 
   abbrev body-run : List ℕ
-  body-run = take (6 * p .end - 6 * p .start) (drop (6 * p .start) l)
+  body-run = take (record-len * p .end - record-len * p .start) (drop (record-len * p .start) l)
 
   pub node-cut : node-run ≡ write (map node-rec (nodes-at (decode-deliveries l) m))
   node-cut =
-      let k : 6 * (p .start + p .nodes) - 6 * p .start ≡ 6 * p .nodes = omega arith in
-      let within : 6 * p .nodes ≤ 6 * (p .end - p .start) = omega (arith, nodes-end at) in
+      let k : record-len * (p .start + p .nodes) - record-len * p .start ≡ record-len * p .nodes = omega arith in
+      let within : record-len * p .nodes ≤ record-len * (p .end - p .start) = omega (arith, nodes-end at) in
       let views = at .held .views in
-      ap (λ (q : ℕ). take q (drop (6 * p .start) l)) k
-      ∙ sym (take-take (6 * p .nodes) (6 * (p .end - p .start)) (drop (6 * p .start) l) within)
-      ∙ ap (λ (n : ℕ). take (6 * n) (part-bytes l p)) (views .nodes-are)
+      ap (λ (q : ℕ). take q (drop (record-len * p .start) l)) k
+      ∙ sym (take-take (record-len * p .nodes) (record-len * (p .end - p .start)) (drop (record-len * p .start) l) within)
+      ∙ ap (λ (n : ℕ). take (record-len * n) (part-bytes l p)) (views .nodes-are)
       ∙ nodes-written (views .graph-file .limits) (part-bytes l p) (views .graph-file .accepted)
       ∙ ap (λ (G : Graph). write (map node-rec (G .nodes))) (at .is-body)
 
-  pub node-cut-length : length node-run ≡ 6 * p .nodes
+  pub node-cut-length : length node-run ≡ record-len * p .nodes
   node-cut-length =
       omega (arith, ap length node-cut, length-write (map node-rec (nodes-at (decode-deliveries l) m)), length-map (nodes-at (decode-deliveries l) m) node-rec, node-count at)
 
   body-cut : body-run ≡ part-bytes l p
-  body-cut = let k : 6 * p .end - 6 * p .start ≡ 6 * (p .end - p .start) = omega arith in ap (λ (q : ℕ). take q (drop (6 * p .start) l)) k
+  body-cut = let k : record-len * p .end - record-len * p .start ≡ record-len * (p .end - p .start) = omega arith in ap (λ (q : ℕ). take q (drop (record-len * p .start) l)) k
 
   pub body-views : Views (part-view p) body-run
   body-views = subst (Views (part-view p)) (sym body-cut) (at .held .views)
@@ -69,17 +70,17 @@ module _ (f : ℕ → List Record) where
   abbrev pub run-count : ℕ → ℕ
   run-count k = length (each f (span 1 k))
 
-  run-length : (ms : List ℕ) → length (each (λ m. write (f m)) ms) ≡ 6 * length (each f ms)
+  run-length : (ms : List ℕ) → length (each (λ m. write (f m)) ms) ≡ record-len * length (each f ms)
   run-length [] = omega arith
   run-length (m ∷ ms) = omega (arith, length-append (write (f m)) (each (λ i. write (f i)) ms), length-append (f m) (each f ms), length-write (f m), run-length ms)
 
   module _ (out₀ out : List ℕ) (first end k m : ℕ) (x : Wrote out₀ out first end (run k)) (e : m ≡ 1 + k) where
-    pub run-on : (out′ : List ℕ) (end′ : ℕ) → 6 * first ≤ length out₀ → out′ ≡ put-at out (6 * end) (write (f m)) → length out′ ≡ length out → end′ ≡ end + length (f m) → Wrote out₀ out′ first end′ (run (k + 1))
+    pub run-on : (out′ : List ℕ) (end′ : ℕ) → record-len * first ≤ length out₀ → out′ ≡ put-at out (record-len * end) (write (f m)) → length out′ ≡ length out → end′ ≡ end + length (f m) → Wrote out₀ out′ first end′ (run (k + 1))
     run-on out′ end′ h a b d =
         wrote-more out₀ out out′ first end end′ (run k) (write (f m)) (run (k + 1)) h (each-one (λ i. write (f i)) k m e) x a b (omega (arith, d, length-write (f m)))
 
     -- there is room for one method more
-    pub run-fits : m ≤ 8 → 6 * (first + run-count 8) ≤ length out₀ → 6 * (end + length (f m)) ≤ length out
+    pub run-fits : m ≤ 8 → record-len * (first + run-count 8) ≤ length out₀ → record-len * (end + length (f m)) ≤ length out
     run-fits h room = omega (arith, e, room, x .as-long, x .up-to, run-length (span 1 k), length-more f k m e, some-of-all f (k + 1) (omega (arith, e, h)))
 
 counts-same : {A B : Type 0} (f : ℕ → List A) (g : ℕ → List B) (ms : List ℕ) → ((m : ℕ) → length (f m) ≡ length (g m)) → length (each f ms) ≡ length (each g ms)
@@ -115,9 +116,9 @@ module _ (ds : List Delivery) where
   all-edges = counts-same edge-recs (λ m. (body-at ds m) .edges) (span 1 8) edge-recs-count ∙ sym ((assembled-sizes ds) .1)
 
   -- nodes and edges, stored one behind the other, are its file
-  pub assembled-stored : (out o₁ o₂ : List ℕ) (n : ℕ) → n ≡ size (assembled ds) → o₁ ≡ put-at out 0 (run node-recs 8) → o₂ ≡ put-at o₁ (6 * n) (run edge-recs 8) → o₂ ≡ put-at out 0 (graph-bytes (assembled ds))
+  pub assembled-stored : (out o₁ o₂ : List ℕ) (n : ℕ) → n ≡ size (assembled ds) → o₁ ≡ put-at out 0 (run node-recs 8) → o₂ ≡ put-at o₁ (record-len * n) (run edge-recs 8) → o₂ ≡ put-at out 0 (graph-bytes (assembled ds))
   assembled-stored out o₁ o₂ n e a b =
-      let at : 6 * n ≡ 0 + length (run node-recs 8) = omega (arith, e, all-nodes, run-length node-recs (span 1 8)) in
+      let at : record-len * n ≡ 0 + length (run node-recs 8) = omega (arith, e, all-nodes, run-length node-recs (span 1 8)) in
       b
       ∙ ap₂ (λ (l : List ℕ) (k : ℕ). put-at l k (run edge-recs 8)) a at
       ∙ put-after out 0 (run node-recs 8) (run edge-recs 8) (omega arith)

@@ -18,6 +18,7 @@ use Rattle.files.specs.Deliveries.Written.{Opened}
 use Rattle.files.specs.Graph.{Graph, size, node}
 use Rattle.files.specs.Outcome.{Said, Outcome, Answer, Answers, answer, out-after, refusal-at, NoneOf, Lines}
 use Rattle.files.specs.Outcome.Meaning.{Decided, Refuses, Wrote, Enum, Heard, itself, heard-itself, only-verdict, outcome-case, said-iff, refuses-by, wrote-by}
+use Rattle.files.specs.Places.{record-len}
 use Rattle.files.specs.Refusal.{graph, refusal}
 use Rattle.files.specs.declared.answers.Assembled.{Assembled}
 use Rattle.files.specs.declared.answers.Assembled.the-variants.{Written, Refused}
@@ -47,8 +48,8 @@ pub record WrittenStanding (L : Limits) (ds : List Delivery) (n e : ℕ) (bytes 
 pub record AssembleMeans {R : Type 0} (tell : Assembled → R) (L : Limits) (l out out′ : List ℕ) (r : R) : Type 0 where
   pub refuses : Refuses (λ x. tell (Refused x)) (assemble-lines L l (length out)) out out′ r
   pub written-iff : ((n : ℕ) × (e : ℕ) × (r ≡ tell (Written n e))) ↔ NoneOf (assemble-lines L l (length out))
-  pub writes : (n e : ℕ) → r ≡ tell (Written n e) → WrittenStanding L (decode-deliveries l) n e (take (6 * (n + e)) out′)
-  pub past-unchanged : (n e : ℕ) → r ≡ tell (Written n e) → drop (6 * (n + e)) out′ ≡ drop (6 * (n + e)) out
+  pub writes : (n e : ℕ) → r ≡ tell (Written n e) → WrittenStanding L (decode-deliveries l) n e (take (record-len * (n + e)) out′)
+  pub past-unchanged : (n e : ℕ) → r ≡ tell (Written n e) → drop (record-len * (n + e)) out′ ≡ drop (record-len * (n + e)) out
 
 -- ---- the outcome
 
@@ -91,12 +92,12 @@ module _ {R : Type 0} (tell : Assembled → R) (heard : Heard tell) (L : Limits)
   value : (n e : ℕ) → tell c ≡ tell (Written n e) → (k : ℕ) → getD (said .values) k 0 ≡ getD (n ∷ e ∷ []) k 0
   value n e x k = ap (λ (xs : List ℕ). getD xs k 0) (is-written n e .0 x .2)
 
-  wrote : (n e : ℕ) → tell c ≡ tell (Written n e) → Wrote (6 * (n + e)) (graph-bytes G) out out′
+  wrote : (n e : ℕ) → tell c ≡ tell (Written n e) → Wrote (record-len * (n + e)) (graph-bytes G) out out′
   wrote n e x =
-      wrote-by o said ls d out out′ (answers .out-is) (is-written n e .0 x .0) (6 * (n + e))
-      (graph-length G ∙ ap₂ (λ (a b : ℕ). 6 * (a + b)) (value n e x 0) (value n e x 1))
+      wrote-by o said ls d out out′ (answers .out-is) (is-written n e .0 x .0) (record-len * (n + e))
+      (graph-length G ∙ ap₂ (λ (a b : ℕ). record-len * (a + b)) (value n e x 0) (value n e x 1))
 
-  writes : (n e : ℕ) → tell c ≡ tell (Written n e) → WrittenStanding L (decode-deliveries l) n e (take (6 * (n + e)) out′)
+  writes : (n e : ℕ) → tell c ≡ tell (Written n e) → WrittenStanding L (decode-deliveries l) n e (take (record-len * (n + e)) out′)
   writes n e x =
       let m = assemble-says L l (length out) said (d .accepted .1 (is-written n e .0 x .0)) in
       let is : decode-graph (graph-bytes G) ≡ G = m .is-assembled in

@@ -21,6 +21,7 @@ use Rattle.files.specs.Deliveries.Layout.{body-at, nodes-at, nodes-among
 use Rattle.files.specs.Deliveries.Names.{PartAt}
 use Rattle.files.specs.Deliveries.Parts.{opened-count, end-from, end-to}
 use Rattle.files.specs.Graph.{Graph, size}
+use Rattle.files.specs.Places.{max-edges, max-nodes}
 use Rattle.files.specs.Record.{count, part}
 use Rattle.files.specs.Record.Laws.{part-length}
 use Rattle.files.specs.Refusal.{graph, nodes-of, refusal}
@@ -142,8 +143,8 @@ some-of-all f k h =
 pub record Summed (l : List ℕ) (k nodes edges : ℕ) : Type 0 where
   pub nodes-so-far : nodes ≡ nodes-among (decode-deliveries l) 1 k
   pub edges-so-far : edges ≡ length (each (λ m. (body-at (decode-deliveries l) m) .edges) (span 1 k))
-  pub nodes-few : nodes ≤ 256 * k
-  pub edges-few : edges ≤ 4096 * k
+  pub nodes-few : nodes ≤ max-nodes * k
+  pub edges-few : edges ≤ max-edges * k
 
 pub summed-none : (l : List ℕ) → Summed l 0 0 0
 summed-none l = record { nodes-so-far = refl; edges-so-far = refl; nodes-few = omega arith; edges-few = omega arith }

@@ -10,6 +10,7 @@ use Rattle.files.specs.Deliveries.{decode-deliveries, repeated, Repeated
 use Rattle.files.specs.Deliveries.Repeats.{says-repeated}
 use Rattle.files.specs.Graph.{size}
 use Rattle.files.specs.Outcome.{answered, whole-check}
+use Rattle.files.specs.Places.{max-edges, max-nodes}
 use Rattle.files.specs.Settling.{Settles}
 use Rattle.files.specs.Settling.Laws.{delivery-known, whole-known}
 use Rattle.files.specs.declared.record.Limits.{Limits}
@@ -26,7 +27,7 @@ assembled-outcome-is L l out = refl
 pub not-repeated : (l : List ℕ) → repeated (decode-deliveries l) ≡ false → Repeated (decode-deliveries l) → ⊥
 not-repeated l e x = subst T e ((says-repeated (decode-deliveries l)) .hear x)
 
-pub assemble-known : (L : Limits) (l : List ℕ) → L .nodes ≤ 256 → L .edges ≤ 4096 → Settles (assemble-first L l) Passed → DeliveriesFile l
+pub assemble-known : (L : Limits) (l : List ℕ) → L .nodes ≤ max-nodes → L .edges ≤ max-edges → Settles (assemble-first L l) Passed → DeliveriesFile l
 assemble-known L l n e s =
     let a = delivery-known (λ cs. whole-check 14 (repeated (decode-deliveries l)) cs) L 1 l s in
     let b = whole-known (λ cs. cs) 14 (repeated (decode-deliveries l)) (a .1) in

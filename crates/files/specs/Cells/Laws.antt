@@ -15,38 +15,39 @@ use lib.Pow.{shl-exact}
 use lib.Seq.{getD-set-same, getD-set-other, set-out, getD-take, getD-drop, getD-append-add, length-take-le, sets-eq, length-sets, paste, paste-suc, take-length, take-at, drop-append-add, drop-drop}
 use Rattle.files.specs.Basics.Tests.{one, one-true, one-false, all, all-e, upto, upto-i}
 use Rattle.files.specs.Cells.{little, put-little, cell, put-cell, has-bit, put-bit, put-at}
+use Rattle.files.specs.Places.{three-bytes-end, two-bytes-end, byte-end}
 
 -- ---- numbers of n bytes
 
 length-little : (l : List ℕ) (p n v : ℕ) → length (put-little l p n v) ≡ length l
 unfolding put-little
 length-little l p zero v = refl
-length-little l p (suc n) v = length-little (set l p (v % 256)) (suc p) n (v / 256) ∙ length-set l p (v % 256)
+length-little l p (suc n) v = length-little (set l p (v % byte-end)) (suc p) n (v / byte-end) ∙ length-set l p (v % byte-end)
 
 outside-little : (l : List ℕ) (p n v q : ℕ) → (q < p) ⊎ (p + n ≤ q) → getD (put-little l p n v) q 0 ≡ getD l q 0
 unfolding put-little
 outside-little l p zero v q d = refl
 outside-little l p (suc n) v q (inl h) =
-    outside-little (set l p (v % 256)) (suc p) n (v / 256) q (inl (omega arith)) ∙ getD-set-other l p q (v % 256) 0 (λ e. omega arith)
+    outside-little (set l p (v % byte-end)) (suc p) n (v / byte-end) q (inl (omega arith)) ∙ getD-set-other l p q (v % byte-end) 0 (λ e. omega arith)
 outside-little l p (suc n) v q (inr h) =
-    outside-little (set l p (v % 256)) (suc p) n (v / 256) q (inr (omega arith)) ∙ getD-set-other l p q (v % 256) 0 (λ e. omega arith)
+    outside-little (set l p (v % byte-end)) (suc p) n (v / byte-end) q (inr (omega arith)) ∙ getD-set-other l p q (v % byte-end) 0 (λ e. omega arith)
 
 agree-little : (l m : List ℕ) (p n : ℕ) → ((q : ℕ) → p ≤ q → q < p + n → getD l q 0 ≡ getD m q 0) → little l p n ≡ little m p n
 unfolding little
 agree-little l m p zero f = refl
 agree-little l m p (suc n) f =
-    ap₂ (λ (a b : ℕ). a + 256 * b) (f p (omega arith) (omega arith)) (agree-little l m (suc p) n (λ q a b. f q (omega arith) (omega arith)))
+    ap₂ (λ (a b : ℕ). a + byte-end * b) (f p (omega arith) (omega arith)) (agree-little l m (suc p) n (λ q a b. f q (omega arith) (omega arith)))
 
-same-little : (l : List ℕ) (p n v : ℕ) → p + n ≤ length l → v < 256 ^ n → little (put-little l p n v) p n ≡ v
+same-little : (l : List ℕ) (p n v : ℕ) → p + n ≤ length l → v < byte-end ^ n → little (put-little l p n v) p n ≡ v
 unfolding little put-little
 same-little l p zero v h k = omega arith
 same-little l p (suc n) v h k =
-    let m : List ℕ = set l p (v % 256) in
-    let low : getD (put-little m (suc p) n (v / 256)) p 0 ≡ v % 256 =
-    outside-little m (suc p) n (v / 256) p (inl (omega arith)) ∙ getD-set-same l p (v % 256) 0 (omega arith) in
-    let high : little (put-little m (suc p) n (v / 256)) (suc p) n ≡ v / 256 =
-    same-little m (suc p) n (v / 256) (omega (arith, length-set l p (v % 256))) (omega (arith, pow-suc 256 n)) in
-    ap₂ (λ (a b : ℕ). a + 256 * b) low high ∙ omega arith
+    let m : List ℕ = set l p (v % byte-end) in
+    let low : getD (put-little m (suc p) n (v / byte-end)) p 0 ≡ v % byte-end =
+    outside-little m (suc p) n (v / byte-end) p (inl (omega arith)) ∙ getD-set-same l p (v % byte-end) 0 (omega arith) in
+    let high : little (put-little m (suc p) n (v / byte-end)) (suc p) n ≡ v / byte-end =
+    same-little m (suc p) n (v / byte-end) (omega (arith, length-set l p (v % byte-end))) (omega (arith, pow-suc 256 n)) in
+    ap₂ (λ (a b : ℕ). a + byte-end * b) low high ∙ omega arith
 
 -- ---- cells
 
@@ -65,7 +66,7 @@ unfolding cell
 cell-agree l m base w i f = agree-little l m (base + w * i) w f
 
 -- the same cell
-pub cell-same : (l : List ℕ) (base w i v : ℕ) → base + w * i + w ≤ length l → v < 256 ^ w → cell (put-cell l base w i v) base w i ≡ v
+pub cell-same : (l : List ℕ) (base w i v : ℕ) → base + w * i + w ≤ length l → v < byte-end ^ w → cell (put-cell l base w i v) base w i ≡ v
 unfolding cell put-cell
 cell-same l base w i v h k = same-little l (base + w * i) w v h k
 
@@ -86,7 +87,7 @@ cell-other l base w i j v f = cell-apart l base w i v base w j (go (decLt i j))
     go (no h) = let k : suc j ≤ i = omega arith in inl (omega (arith, mul-suc w j, mul-le-mul-left w k))
 
 -- one cell more of a region whose cells below i hold f
-pub cells-on : (f : ℕ → ℕ) (l l′ : List ℕ) (base w i v : ℕ) → l′ ≡ put-cell l base w i v → base + w * i + w ≤ length l → v < 256 ^ w → v ≡ f i
+pub cells-on : (f : ℕ → ℕ) (l l′ : List ℕ) (base w i v : ℕ) → l′ ≡ put-cell l base w i v → base + w * i + w ≤ length l → v < byte-end ^ w → v ≡ f i
     → ((j : ℕ) → j < i → cell l base w j ≡ f j) → (j : ℕ) → j < i + 1 → cell l′ base w j ≡ f j
 cells-on f l l′ base w i v put fits small e held j h = ap (λ (m : List ℕ). cell m base w j) put ∙ go (eq-or-lt-of-le (omega arith))
   where
@@ -209,13 +210,13 @@ pub cell-one : (l : List ℕ) (base i : ℕ) → cell l base 1 i ≡ getD l (bas
 unfolding cell little
 cell-one l base i = omega (arith, ap (λ (n : ℕ). getD l (base + n) 0) (one-mul i))
 
-pub cell-two : (l : List ℕ) (base i : ℕ) → cell l base 2 i ≡ getD l (base + 2 * i) 0 + 256 * getD l (base + 2 * i + 1) 0
+pub cell-two : (l : List ℕ) (base i : ℕ) → cell l base 2 i ≡ getD l (base + 2 * i) 0 + byte-end * getD l (base + 2 * i + 1) 0
 unfolding cell little
 cell-two l base i = omega (arith, ap (λ (n : ℕ). getD l n 0) (add-one (base + 2 * i)))
 
 pub cell-four : (l : List ℕ) (base i : ℕ)
     → cell l base 4 i
-    ≡ getD l (base + 4 * i) 0 + 256 * getD l (base + 4 * i + 1) 0 + 65536 * getD l (base + 4 * i + 2) 0 + 16777216 * getD l (base + 4 * i + 3) 0
+    ≡ getD l (base + 4 * i) 0 + byte-end * getD l (base + 4 * i + 1) 0 + two-bytes-end * getD l (base + 4 * i + 2) 0 + three-bytes-end * getD l (base + 4 * i + 3) 0
 unfolding cell little
 cell-four l base i =
     let p : ℕ = base + 4 * i in
@@ -228,20 +229,20 @@ pub put-cell-one : (l : List ℕ) (base i v : ℕ) → v < 256 → put-cell l ba
 unfolding put-cell put-little
 put-cell-one l base i v h = ap₂ (λ (n x : ℕ). set l (base + n) x) (one-mul i) (mod-eq-of-lt h)
 
-pub put-cell-two : (l : List ℕ) (base i v : ℕ) → put-cell l base 2 i v ≡ set (set l (base + 2 * i) (v % 256)) (base + 2 * i + 1) (v / 256 % 256)
+pub put-cell-two : (l : List ℕ) (base i v : ℕ) → put-cell l base 2 i v ≡ set (set l (base + 2 * i) (v % byte-end)) (base + 2 * i + 1) (v / byte-end % byte-end)
 unfolding put-cell put-little
 put-cell-two l base i v = rw add-one
 
 pub put-cell-four : (l : List ℕ) (base i v : ℕ)
     → put-cell l base 4 i v
-    ≡ set (set (set (set l (base + 4 * i) (v % 256)) (base + 4 * i + 1) (v / 256 % 256)) (base + 4 * i + 2) (v / 65536 % 256)) (base + 4 * i + 3) (v / 16777216 % 256)
+    ≡ set (set (set (set l (base + 4 * i) (v % byte-end)) (base + 4 * i + 1) (v / byte-end % byte-end)) (base + 4 * i + 2) (v / two-bytes-end % byte-end)) (base + 4 * i + 3) (v / three-bytes-end % byte-end)
 unfolding put-cell put-little
 put-cell-four l base i v =
     let p : ℕ = base + 4 * i in
     let two : p + 2 ≡ suc (suc p) = omega arith in
     let three : p + 3 ≡ suc (suc (suc p)) = omega arith in
-    let a : v / 65536 ≡ v / 256 / 256 = omega arith in
-    let b : v / 16777216 ≡ v / 256 / 256 / 256 = omega arith in
+    let a : v / two-bytes-end ≡ v / byte-end / byte-end = omega arith in
+    let b : v / three-bytes-end ≡ v / byte-end / byte-end / byte-end = omega arith in
     rw (add-one, two, three, a, b)
 
 pub has-bit-is : (l : List ℕ) (base h : ℕ) → has-bit l base h ≡ eqb (getD l (base + h / 8) 0 / 2 ^ (h % 8) % 2) 1
@@ -261,7 +262,7 @@ pub zero-bit : (w : List ℕ) (base h : ℕ) → getD w (base + h / 8) 0 ≡ 0 �
 zero-bit w base h e = has-bit-is w base h ∙ ap (λ (x : ℕ). eqb (x / 2 ^ (h % 8) % 2) 1) e ∙ ap (λ (x : ℕ). eqb (x % 2) 1) (zero-div (2 ^ (h % 8)))
 
 -- the mask of bit k, as the code shifts it
-pub weight : (k : ℕ) → k < 8 → 1 * 2 ^ k % 256 ≡ 2 ^ k
+pub weight : (k : ℕ) → k < 8 → 1 * 2 ^ k % byte-end ≡ 2 ^ k
 weight k h = shl-exact {a = 1} 1 k 8 (omega arith) (omega arith) ∙ one-mul (2 ^ k)
 
 -- a bit is its byte's

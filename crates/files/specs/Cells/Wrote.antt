@@ -7,12 +7,13 @@ use native.Mathlib.Omega.{arith}
 use lib.ListN.{length, take, drop, length-append, take-append-drop}
 use Rattle.files.specs.Cells.{put-at}
 use Rattle.files.specs.Cells.Laws.{put-at-is, put-after}
+use Rattle.files.specs.Places.{record-len}
 
 -- the bytes xs stand in `out` from record `at` on up to record `end`, and all else is as it was
 pub record Wrote (out₀ out : List ℕ) (at end : ℕ) (xs : List ℕ) : Type 0 where
   pub as-long : length out ≡ length out₀
-  pub bytes : out ≡ put-at out₀ (6 * at) xs
-  pub up-to : 6 * end ≡ 6 * at + length xs
+  pub bytes : out ≡ put-at out₀ (record-len * at) xs
+  pub up-to : record-len * end ≡ record-len * at + length xs
 
 pub wrote-none : (out : List ℕ) (at : ℕ) → Wrote out out at at []
 wrote-none out at = record {
@@ -22,12 +23,12 @@ wrote-none out at = record {
 }
   where
     p : ℕ
-    p = 6 * at
+    p = record-len * at
 
-pub wrote-more : (out₀ out out′ : List ℕ) (at end end′ : ℕ) (xs ys zs : List ℕ) → 6 * at ≤ length out₀ → zs ≡ xs ++ ys → Wrote out₀ out at end xs
-    → out′ ≡ put-at out (6 * end) ys → length out′ ≡ length out → 6 * end′ ≡ 6 * end + length ys → Wrote out₀ out′ at end′ zs
+pub wrote-more : (out₀ out out′ : List ℕ) (at end end′ : ℕ) (xs ys zs : List ℕ) → record-len * at ≤ length out₀ → zs ≡ xs ++ ys → Wrote out₀ out at end xs
+    → out′ ≡ put-at out (record-len * end) ys → length out′ ≡ length out → record-len * end′ ≡ record-len * end + length ys → Wrote out₀ out′ at end′ zs
 wrote-more out₀ out out′ at end end′ xs ys zs h e x a b d = record {
   as-long = b ∙ x .as-long;
-  bytes = a ∙ ap₂ (λ (m : List ℕ) (k : ℕ). put-at m k ys) (x .bytes) (x .up-to) ∙ put-after out₀ (6 * at) xs ys h ∙ ap (put-at out₀ (6 * at)) (sym e);
+  bytes = a ∙ ap₂ (λ (m : List ℕ) (k : ℕ). put-at m k ys) (x .bytes) (x .up-to) ∙ put-after out₀ (record-len * at) xs ys h ∙ ap (put-at out₀ (record-len * at)) (sym e);
   up-to = omega (arith, d, x .up-to, ap length e, length-append xs ys);
 }

@@ -14,6 +14,7 @@ use Rattle.files.specs.Basics.Tests.{one}
 use Rattle.files.specs.Decode.{Filed, node-rec, edge-rec, graph-recs, graph-bytes}
 use Rattle.files.specs.Decode.Written.{length-write, at-node, nodes-bytes, edges-bytes, kind-node, kind-edge, past-nodes}
 use Rattle.files.specs.Graph.{Node, Edge, Graph, Flow, node, no-node, size, no-edge}
+use Rattle.files.specs.Places.{record-len}
 use Rattle.files.specs.Record.{record-at, kind-at, count}
 use Rattle.files.specs.Refusal.{graph, edge-key, method-at, refusal}
 use Rattle.files.specs.Refusal.Laws.{accepted-iff}
@@ -53,7 +54,7 @@ module _ (L : Limits) (G : Graph) (filed : Filed L G) where
   edge-in : (j : ℕ) → j < length (G .edges) → List·Memᴰ (getD (G .edges) j no-edge) (G .edges)
   edge-in j h = index-e no-edge (G .edges) j h
 
-  no-ragged : length (graph-bytes G) ≡ 6 * length (graph-recs G)
+  no-ragged : length (graph-bytes G) ≡ record-len * length (graph-recs G)
   unfolding graph-bytes
   no-ragged = length-write (graph-recs G)
 

@@ -7,6 +7,7 @@ use native.Mathlib.Omega.{arith}
 use lib.Dec.{T}
 use lib.ListN.{length}
 use Rattle.files.specs.Basics.Says.{says-eq, says-sure}
+use Rattle.files.specs.Places.{record-len}
 use Rattle.files.specs.Record.{record-at, count, wrong}
 use Rattle.files.specs.Refusal.{Kind, refusal}
 use Rattle.files.specs.Refusal.Laws.{accepted-iff, says-wrong}
@@ -17,11 +18,11 @@ module _ (L : Limits) (k : Kind) (l : List ℕ) (accepted : refusal L k l ≡ no
   pub none-applies : (n i : ℕ) → Applies L k l n i → ⊥
   none-applies = (accepted-iff L k l) .0 accepted
 
-  pub whole-file : length l ≡ 6 * count l
-  whole-file = says-sure (says-eq (length l) (6 * count l)) (λ e. none-applies 1 0 (refl, λ n q. e (omega arith)))
+  pub whole-file : length l ≡ record-len * count l
+  whole-file = says-sure (says-eq (length l) (record-len * count l)) (λ e. none-applies 1 0 (refl, λ n q. e (omega arith)))
 
 -- a file of n records is accepted if no number from 2 to 8 applies
-pub accepted-if : (L : Limits) (k : Kind) (l : List ℕ) (n : ℕ) → length l ≡ 6 * n → ((i : ℕ) → i < count l → Misplaced k l i → ⊥) → ((i : ℕ) → i < count l → T (wrong (record-at l i)) → ⊥)
+pub accepted-if : (L : Limits) (k : Kind) (l : List ℕ) (n : ℕ) → length l ≡ record-len * n → ((i : ℕ) → i < count l → Misplaced k l i → ⊥) → ((i : ℕ) → i < count l → T (wrong (record-at l i)) → ⊥)
     → ((i : ℕ) → i < count l → Disordered k l i → ⊥) → (Passed L k l → ⊥) → (Missing k l → ⊥) → ((i : ℕ) → i < count l → Past k l i → ⊥) → ((i : ℕ) → Crossing k l i → ⊥)
     → refusal L k l ≡ none
 accepted-if L k l n e two three four five six seven eight = (accepted-iff L k l) .1 go

@@ -11,6 +11,7 @@ use Rattle.files.specs.Basics.Lists.{each-e}
 use Rattle.files.specs.Basics.Tests.{one}
 use Rattle.files.specs.Decode.{Filed, node-rec, edge-rec, graph-recs, graph-bytes}
 use Rattle.files.specs.Graph.{Node, Edge, Graph, size}
+use Rattle.files.specs.Places.{max-nodes}
 use Rattle.files.specs.Record.{six}
 use Rattle.files.specs.Refusal.{Kind, refusal}
 use Rattle.files.specs.Refusal.Laws.{refused-iff}
@@ -44,7 +45,7 @@ one-byte : (b : Bool) → one b < 256
 one-byte true = omega arith
 one-byte false = omega arith
 
-module _ (L : Limits) (G : Graph) (filed : Filed L G) (small : size G ≤ 256) where
+module _ (L : Limits) (G : Graph) (filed : Filed L G) (small : size G ≤ max-nodes) where
   node-bytes : (v : Node) → List·Memᴰ v (G .nodes) → Bytes (six (node-rec v))
   node-bytes v m = let a = filed .methods v m in six-bytes (node-rec v) (omega arith) (omega (arith, a .1)) (one-byte (v .ret)) (one-byte (v .entry)) (omega arith) (omega arith)
 

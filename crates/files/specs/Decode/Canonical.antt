@@ -16,6 +16,7 @@ use Rattle.files.specs.Decode.Graphs.{is-node, is-edge, few, decoded-siz
 use Rattle.files.specs.Decode.Written.{skip-rec, length-write, graph-bytes-is}
 use Rattle.files.specs.Basics.Says.{says-eq, says-sure}
 use Rattle.files.specs.Decode.AnyFile.{none-applies, whole-file}
+use Rattle.files.specs.Places.{record-len}
 use Rattle.files.specs.Record.{record-from, record-at, count, six, write, part}
 use Rattle.files.specs.Refusal.{graph, nodes-of, refusal}
 use Rattle.files.specs.declared.record.Limits.{Limits}
@@ -44,7 +45,7 @@ map-table g f a zero = refl
 map-table g f a (suc n) = ap (λ xs. g (f a) ∷ xs) (map-table g f (suc a) n)
 
 -- whole records are the bytes
-pub write-recs : (n : ℕ) (l : List ℕ) → length l ≡ 6 * n → write (table (record-at l) 0 n) ≡ l
+pub write-recs : (n : ℕ) (l : List ℕ) → length l ≡ record-len * n → write (table (record-at l) 0 n) ≡ l
 write-recs zero [] e = refl
 write-recs zero (a ∷ l) e = absurd (omega arith)
 write-recs (suc n) [] e = absurd (omega arith)
@@ -61,8 +62,8 @@ write-recs (suc n) (a ∷ b ∷ c ∷ d ∷ f ∷ g ∷ l) e =
 
     step : (i : ℕ) → record-at (a ∷ b ∷ c ∷ d ∷ f ∷ g ∷ l) (suc i) ≡ record-at l i
     step i =
-        let q : 6 * suc i ≡ 6 + 6 * i = omega arith in
-        ap (record-from (a ∷ b ∷ c ∷ d ∷ f ∷ g ∷ l)) q ∙ skip-rec (record { kind = a; first = b; second = c; third = d; fourth = f; fifth = g }) l (6 * i)
+        let q : record-len * suc i ≡ 6 + record-len * i = omega arith in
+        ap (record-from (a ∷ b ∷ c ∷ d ∷ f ∷ g ∷ l)) q ∙ skip-rec (record { kind = a; first = b; second = c; third = d; fourth = f; fifth = g }) l (record-len * i)
 
     rest : table (record-at (a ∷ b ∷ c ∷ d ∷ f ∷ g ∷ l)) 1 n ≡ table (record-at l) 0 n
     rest = table-shift (record-at (a ∷ b ∷ c ∷ d ∷ f ∷ g ∷ l)) 0 n ∙ table-same (λ i. record-at (a ∷ b ∷ c ∷ d ∷ f ∷ g ∷ l) (suc i)) (record-at l) 0 n (λ i x y. step i)
@@ -86,7 +87,7 @@ unused x f = says-sure (says-eq x 0) f
 -- one record of a file, as bytes
 pub part-one : (l : List ℕ) (i : ℕ) → i < count l → part l i 1 ≡ six (record-at l i)
 part-one l i h =
-    let n : length (part l i 1) ≡ 6 * 1 = part-length l i 1 (omega arith) in
+    let n : length (part l i 1) ≡ record-len * 1 = part-length l i 1 (omega arith) in
     let e : i + 0 ≡ i = add-zero i in
     sym (write-recs 1 (part l i 1) n) ∙ append-nil (six (record-at (part l i 1) 0)) ∙ ap six (part-record l i 1 0 (omega arith) (omega arith) ∙ ap (record-at l) e)
 
@@ -129,19 +130,19 @@ module _ (L : Limits) (l : List ℕ) (accepted : refusal L graph l ≡ none) whe
   both-parts : l ≡ node-part ++ edge-part
   both-parts = sym bytes-decode ∙ graph-bytes-is (decode-graph l)
 
-  node-part-length : length node-part ≡ 6 * nodes-of l
+  node-part-length : length node-part ≡ record-len * nodes-of l
   node-part-length = omega (arith, length-write (map node-rec ((decode-graph l) .nodes)), length-map ((decode-graph l) .nodes) node-rec, decoded-size L l accepted)
 
-  pub nodes-written : take (6 * nodes-of l) l ≡ write (map node-rec ((decode-graph l) .nodes))
-  nodes-written = ap (take (6 * nodes-of l)) both-parts ∙ take-at node-part edge-part (6 * nodes-of l) node-part-length
+  pub nodes-written : take (record-len * nodes-of l) l ≡ write (map node-rec ((decode-graph l) .nodes))
+  nodes-written = ap (take (record-len * nodes-of l)) both-parts ∙ take-at node-part edge-part (record-len * nodes-of l) node-part-length
 
   pub edges-written : part l (nodes-of l) (count l - nodes-of l) ≡ write (map edge-rec ((decode-graph l) .edges))
   edges-written =
-      let n : length edge-part ≤ 6 * (count l - nodes-of l) =
+      let n : length edge-part ≤ record-len * (count l - nodes-of l) =
       omega (arith, length-write (map edge-rec ((decode-graph l) .edges)), length-map ((decode-graph l) .edges) edge-rec, decoded-edges L l accepted) in
       ap (λ (m : List ℕ). part m (nodes-of l) (count l - nodes-of l)) both-parts
-      ∙ ap (take (6 * (count l - nodes-of l))) (drop-at node-part edge-part (6 * nodes-of l) node-part-length)
-      ∙ take-all (6 * (count l - nodes-of l)) edge-part n
+      ∙ ap (take (record-len * (count l - nodes-of l))) (drop-at node-part edge-part (record-len * nodes-of l) node-part-length)
+      ∙ take-all (record-len * (count l - nodes-of l)) edge-part n
 
   -- the six bytes of node g are those of record g
   pub shown-node : (g : ℕ) → g < size (decode-graph l) → part l g 1 ≡ six (node-rec (node (decode-graph l) g))

@@ -9,11 +9,12 @@ use Rattle.files.specs.Basics.Lists.{each, each-map, getD-map}
 use Rattle.files.specs.Basics.Tables.{table, table-is}
 use Rattle.files.specs.Decode.Canonical.{table-same, map-table, write-recs}
 use Rattle.files.specs.Decode.Written.{length-write, count-write, record-at-write}
+use Rattle.files.specs.Places.{record-len}
 use Rattle.files.specs.Record.{record-at, count, six, write}
 use Rattle.files.specs.declared.record.Record.{Record}
 
 module _ {A : Type 0} (enc : A → Record) (xs : List A) where
-  pub length-values : length (write (map enc xs)) ≡ 6 * length xs
+  pub length-values : length (write (map enc xs)) ≡ record-len * length xs
   length-values = omega (arith, length-write (map enc xs), length-map xs enc)
 
   pub count-values : count (write (map enc xs)) ≡ length xs
@@ -37,7 +38,7 @@ module _ {A : Type 0} (enc : A → Record) (dec : Record → A) where
   decode-each d back xs = subst (λ (l : List ℕ). table (λ i. dec (record-at l i)) 0 (count l) ≡ xs) (each-map six enc xs) (decode-values d back xs)
 
   -- a file whose records are those of their values is the bytes of its list
-  pub values-decode : (l : List ℕ) → length l ≡ 6 * count l → ((i : ℕ) → i < count l → enc (dec (record-at l i)) ≡ record-at l i)
+  pub values-decode : (l : List ℕ) → length l ≡ record-len * count l → ((i : ℕ) → i < count l → enc (dec (record-at l i)) ≡ record-at l i)
       → write (map enc (table (λ i. dec (record-at l i)) 0 (count l))) ≡ l
   values-decode l e f =
       ap write (map-table enc (λ i. dec (record-at l i)) 0 (count l) ∙ table-same (λ i. enc (dec (record-at l i))) (record-at l) 0 (count l) (λ i x y. f i (omega arith)))

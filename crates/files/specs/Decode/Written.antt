@@ -16,6 +16,7 @@ use Rattle.files.specs.Basics.Tests.{eq-eqb, one}
 use Rattle.files.specs.Decode.{to-node, to-edge, decode-graph, node-rec, edge-rec, graph-recs, graph-bytes}
 use Rattle.files.specs.Decode.Graphs.{one-kind}
 use Rattle.files.specs.Graph.{Node, Graph, node, no-node, size, no-edge}
+use Rattle.files.specs.Places.{record-len}
 use Rattle.files.specs.Record.{record-from, record-at, kind-at, count, six, write}
 use Rattle.files.specs.Refusal.{of-kind, nodes-of, edges-of}
 use Rattle.files.specs.declared.record.Record.{Record}
@@ -25,7 +26,7 @@ use Rattle.files.specs.declared.record.Record.{Record}
 abbrev no-record : Record
 no-record = record { kind = 0; first = 0; second = 0; third = 0; fourth = 0; fifth = 0 }
 
-pub length-write : (rs : List Record) → length (write rs) ≡ 6 * length rs
+pub length-write : (rs : List Record) → length (write rs) ≡ record-len * length rs
 length-write [] = refl
 length-write (r ∷ rs) = omega (arith, length-append (six r) (write rs), length-write rs)
 
@@ -49,8 +50,8 @@ pub record-at-write : (rs : List Record) (i : ℕ) → i < length rs → record-
 record-at-write [] i h = absurd (not-suc-le-zero h)
 record-at-write (r ∷ rs) zero h = refl
 record-at-write (r ∷ rs) (suc i) h =
-    let e : 6 * suc i ≡ 6 + 6 * i = omega arith in
-    ap (record-from (write (r ∷ rs))) e ∙ skip-rec r (write rs) (6 * i) ∙ record-at-write rs i (le-of-suc-le-suc h)
+    let e : record-len * suc i ≡ 6 + record-len * i = omega arith in
+    ap (record-from (write (r ∷ rs))) e ∙ skip-rec r (write rs) (record-len * i) ∙ record-at-write rs i (le-of-suc-le-suc h)
 
 -- ---- what stands in the file of a graph
 
@@ -67,9 +68,9 @@ module _ (G : Graph) where
   unfolding graph-bytes
   count-bytes = count-write (graph-recs G) ∙ length-recs
 
-  pub graph-length : length (graph-bytes G) ≡ 6 * (size G + length (G .edges))
+  pub graph-length : length (graph-bytes G) ≡ record-len * (size G + length (G .edges))
   unfolding graph-bytes
-  graph-length = length-write (graph-recs G) ∙ ap (λ (n : ℕ). 6 * n) length-recs
+  graph-length = length-write (graph-recs G) ∙ ap (λ (n : ℕ). record-len * n) length-recs
 
   pub at-node : (i : ℕ) → i < size G → record-at (graph-bytes G) i ≡ node-rec (node G i)
   unfolding graph-bytes

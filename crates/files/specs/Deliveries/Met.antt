@@ -17,13 +17,14 @@ use Rattle.files.specs.Deliveries.{opens, delivery-refusal, delivery-at,
 use Rattle.files.specs.Deliveries.Decoded.{decoded-in, decoded-supplied}
 use Rattle.files.specs.Deliveries.Parts.{open-i, open-e}
 use Rattle.files.specs.Deliveries.Repeats.{repeated-openings}
+use Rattle.files.specs.Places.{byte-end}
 use Rattle.files.specs.Record.{record-at, kind-at, count}
 use Rattle.files.specs.declared.record.Limits.{Limits}
 use Rattle.files.specs.declared.record.Record.{Record}
 
 -- its method and revision, in one number
 abbrev pub issue-at : List ℕ → ℕ → ℕ
-issue-at l i = 256 * (record-at l i) .first + (record-at l i) .second
+issue-at l i = byte-end * (record-at l i) .first + (record-at l i) .second
 
 -- every opening has a method up to 8 and a revision up to 255
 abbrev pub IssuesIn : List ℕ → Type 0

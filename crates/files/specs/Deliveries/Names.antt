@@ -22,6 +22,7 @@ use Rattle.files.specs.Deliveries.{opens, own-start, own-end, opened, ow
 use Rattle.files.specs.Deliveries.Parts.{open-e, open-i, part-is, number-is, closed-is, end-to, end-from, opened-count, opened-record, owned, Owned, start-is, start-opens, start-stays}
 use Rattle.files.specs.Deliveries.Steps.{delivery-test, delivery-named-is, delivery-lowest-is}
 use Rattle.files.specs.Outcome.{refusal-at}
+use Rattle.files.specs.Places.{record-len}
 use Rattle.files.specs.Record.{record-at, count, kind-at, wrong}
 use Rattle.files.specs.Refusal.{graph, nodes-of, method-at, misplaced, passed, past, crossing}
 use Rattle.files.specs.declared.offence.Found.{Found}
@@ -50,7 +51,7 @@ pub record LiesIn (l : List ℕ) (i : ℕ) (p : Part) : Type 0 where
   pub from-start : p .start ≤ i
   pub to-end : i < p .end
   pub end-in : p .end ≤ count l
-  pub is-part : take (6 * p .end - 6 * p .start) (drop (6 * p .start) l) ≡ opened l (p .start)
+  pub is-part : take (record-len * p .end - record-len * p .start) (drop (record-len * p .start) l) ≡ opened l (p .start)
   pub part-is-sound : Sound graph (opened l (p .start))
   pub nodes-are : p .nodes ≡ nodes-of (opened l (p .start))
   pub number-within : i - p .start < count (opened l (p .start))
@@ -109,8 +110,8 @@ none-more l a e f g i h k = go (ℕ-discrete i e)
     go (yes d) q = g (ap (kind-at l) (sym d) ∙ q)
     go (no d) q = f i h (omega arith) q
 
-pub part-bytes : (l : List ℕ) (a e : ℕ) → a ≤ e → e ≡ own-end l a → take (6 * e - 6 * a) (drop (6 * a) l) ≡ opened l a
-part-bytes l a e h d = let k : 6 * e - 6 * a ≡ 6 * (own-end l a - a) = omega (arith, d) in ap (λ (n : ℕ). take n (drop (6 * a) l)) k
+pub part-bytes : (l : List ℕ) (a e : ℕ) → a ≤ e → e ≡ own-end l a → take (record-len * e - record-len * a) (drop (record-len * a) l) ≡ opened l a
+part-bytes l a e h d = let k : record-len * e - record-len * a ≡ record-len * (own-end l a - a) = omega (arith, d) in ap (λ (n : ℕ). take n (drop (record-len * a) l)) k
 
 -- ---- 5
 

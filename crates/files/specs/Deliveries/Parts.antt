@@ -12,6 +12,7 @@ use Rattle.files.specs.Basics.First.{last-passes, last-above, last-is}
 use Rattle.files.specs.Basics.Least.{least-hit, least-before, least-le}
 use Rattle.files.specs.Basics.Tests.{eq-eqb}
 use Rattle.files.specs.Deliveries.{opens, own-start, own-end, opened, own-part, own-number, own-method, Unopened}
+use Rattle.files.specs.Places.{record-len}
 use Rattle.files.specs.Record.{record-at, kind-at, count}
 use Rattle.files.specs.Record.Laws.{part-record, part-length}
 
@@ -51,7 +52,7 @@ module _ (l : List ℕ) where
 
   -- ---- the part behind an opening
 
-  pub opened-length : (a : ℕ) → a ≤ count l → length (opened l a) ≡ 6 * (own-end l a - a)
+  pub opened-length : (a : ℕ) → a ≤ count l → length (opened l a) ≡ record-len * (own-end l a - a)
   opened-length a h = part-length l a (own-end l a - a) (omega (arith, end-from a, end-to a h))
 
   pub opened-count : (a : ℕ) → a ≤ count l → count (opened l a) ≡ own-end l a - a

@@ -11,6 +11,7 @@ use Rattle.files.specs.Decode.{decode-graph, edge-rec}
 use Rattle.files.specs.Graph.{Graph, Edge, no-edge}
 use Rattle.files.specs.Graph.Ends.{from-in, to-in}
 use Rattle.files.specs.Join.{moved}
+use Rattle.files.specs.Places.{max-nodes}
 use Rattle.files.specs.Record.{six, write, edge-record}
 use Rattle.files.specs.View.{Views, view-flow, view-size, view-edges}
 use Rattle.files.specs.declared.graph.GraphEdge.{GraphEdge}
@@ -21,7 +22,7 @@ abbrev pub moved-bytes : ℕ → Graph → ℕ → List ℕ
 moved-bytes n G j = six (edge-rec (moved n (getD (G .edges) j no-edge)))
 
 -- an edge of an accepted graph, moved, has its ends in a byte
-module _ (g : List ℕ) (v : GraphView) (x : Views v g) (n : ℕ) (fits : n + v .nodes ≤ 256) (j : ℕ) (h : j < v .edges) (u : GraphEdge) (held : u ≡ edge-held (getD ((decode-graph g) .edges) j no-edge)) where
+module _ (g : List ℕ) (v : GraphView) (x : Views v g) (n : ℕ) (fits : n + v .nodes ≤ max-nodes) (j : ℕ) (h : j < v .edges) (u : GraphEdge) (held : u ≡ edge-held (getD ((decode-graph g) .edges) j no-edge)) where
   inside : j < length ((decode-graph g) .edges)
   inside = omega (arith, h, view-edges x)
 

@@ -14,6 +14,7 @@ use Rattle.files.specs.Graph.{Graph, size}
 use Rattle.files.specs.Outcome.{Said, Outcome, refuses, Answer, Answers, answered, refused-answer, verdict-answer, refusal-at, whole-check, out-check, too-large, TooLarge, graph-said}
 use Rattle.files.specs.Outcome.Ends.{answers-large, answers-short, answers-written, answers-refused, answers-same, whole-refuses, whole-passes}
 use Rattle.files.specs.Outcome.Laws.{says-too-large, small-enough}
+use Rattle.files.specs.Places.{record-len}
 use Rattle.files.specs.Settling.{told}
 use Rattle.files.specs.declared.record.Limits.{Limits}
 use Rattle.files.specs.declared.refusal.Refusal.{Refusal}
@@ -29,7 +30,7 @@ module _ (L : Limits) (G : Graph) {n e : ℕ} (nodes-are : n ≡ size G) (edges-
   pub counted-large : over-limits L n e ≡ true → TooLarge L G
   counted-large t = says-too-large L G .say (subst T (sym t ∙ over-is) tt)
 
-  pub counted-bytes : length (graph-bytes G) ≡ 6 * (n + e)
+  pub counted-bytes : length (graph-bytes G) ≡ record-len * (n + e)
   counted-bytes = omega (arith, graph-length G, nodes-are, edges-are)
 
   module _ (within : over-limits L n e ≡ false) where
@@ -46,10 +47,10 @@ module _ (L : Limits) (G : Graph) {n e : ℕ} (nodes-are : n ≡ size G) (edges-
     pub large-refused : over-limits L n e ≡ true → (r : Refusal) → r ≡ refusal-at 11 0 0 → Answers sized out out (refused-answer r)
     large-refused t r d = answers-large L G more out r (counted-large t) d
 
-    pub short-refused : over-limits L n e ≡ false → length out < 6 * (n + e) → (r : Refusal) → r ≡ refusal-at 12 0 0 → Answers sized out out (refused-answer r)
+    pub short-refused : over-limits L n e ≡ false → length out < record-len * (n + e) → (r : Refusal) → r ≡ refusal-at 12 0 0 → Answers sized out out (refused-answer r)
     short-refused within h r d = answers-short L G more out (counted-small within) r (omega (arith, h, counted-bytes)) d
 
-    pub graph-written : over-limits L n e ≡ false → 6 * (n + e) ≤ length out → (out′ : List ℕ) → out′ ≡ put-at out 0 (graph-bytes G) → Answers sized out out′ (verdict-answer 1 (n ∷ e ∷ more))
+    pub graph-written : over-limits L n e ≡ false → record-len * (n + e) ≤ length out → (out′ : List ℕ) → out′ ≡ put-at out 0 (graph-bytes G) → Answers sized out out′ (verdict-answer 1 (n ∷ e ∷ more))
     graph-written within h out′ d =
         answers-written L G more out (counted-small within) out′ n e (omega (arith, h, counted-bytes)) (d ∙ put-front out (graph-bytes G)) nodes-are edges-are
 

@@ -8,6 +8,7 @@ use native.Mathlib.Omega.{arith}
 use lib.Dec.{T, eqb, eqb→eq}
 use lib.ListN.{length, getD, take, drop, length-take, length-drop}
 use lib.Seq.{getD-take, getD-drop}
+use Rattle.files.specs.Places.{record-len}
 use Rattle.files.specs.Record.{record-at, count, part, node-wrong, edge-wrong, row-wrong, rule-wrong, interface-wrong, wrong, parsed, parsed-as}
 use Rattle.files.specs.declared.record.Parsed.the-variants.{Node, Edge, Row, Rule, Interface, Wrong, Other}
 use Rattle.files.specs.declared.record.Parsed.{Parsed}
@@ -16,39 +17,39 @@ use borrow.Author.Tests.{eq-eqb, ne-eqb, eqb-true, eqb-false}
 
 -- ---- a range of a file
 
-part-byte : (l : List ℕ) (a n j p : ℕ) → j < 6 * n → 6 * a + j ≡ p → getD (part l a n) j 0 ≡ getD l p 0
-part-byte l a n j p h e = getD-take (6 * n) (drop (6 * a) l) j 0 h ∙ getD-drop (6 * a) l j 0 ∙ ap (λ (q : ℕ). getD l q 0) e
+part-byte : (l : List ℕ) (a n j p : ℕ) → j < record-len * n → record-len * a + j ≡ p → getD (part l a n) j 0 ≡ getD l p 0
+part-byte l a n j p h e = getD-take (record-len * n) (drop (record-len * a) l) j 0 h ∙ getD-drop (record-len * a) l j 0 ∙ ap (λ (q : ℕ). getD l q 0) e
 
 pub part-record : (l : List ℕ) (a n i : ℕ) → i < n → a + n ≤ count l → record-at (part l a n) i ≡ record-at l (a + i)
 part-record l a n i h k = λ t. record { kind = start t; first = byte 1 (omega arith) t; second = byte 2 (omega arith) t; third = byte 3 (omega arith) t; fourth = byte 4 (omega arith) t; fifth = byte 5 (omega arith) t }
   where
-    start : getD (part l a n) (6 * i) 0 ≡ getD l (6 * (a + i)) 0
-    start = part-byte l a n (6 * i) (6 * (a + i)) (omega arith) (omega arith)
+    start : getD (part l a n) (record-len * i) 0 ≡ getD l (record-len * (a + i)) 0
+    start = part-byte l a n (record-len * i) (record-len * (a + i)) (omega arith) (omega arith)
 
-    byte : (c : ℕ) → c < 6 → getD (part l a n) (6 * i + c) 0 ≡ getD l (6 * (a + i) + c) 0
-    byte c b = part-byte l a n (6 * i + c) (6 * (a + i) + c) (omega arith) (omega arith)
+    byte : (c : ℕ) → c < 6 → getD (part l a n) (record-len * i + c) 0 ≡ getD l (record-len * (a + i) + c) 0
+    byte c b = part-byte l a n (record-len * i + c) (record-len * (a + i) + c) (omega arith) (omega arith)
 
-pub part-length : (l : List ℕ) (a n : ℕ) → a + n ≤ count l → length (part l a n) ≡ 6 * n
-part-length l a n h = omega (arith, length-take (6 * n) (drop (6 * a) l), length-drop (6 * a) l)
+pub part-length : (l : List ℕ) (a n : ℕ) → a + n ≤ count l → length (part l a n) ≡ record-len * n
+part-length l a n h = omega (arith, length-take (record-len * n) (drop (record-len * a) l), length-drop (record-len * a) l)
 
 -- the file from record a on
 abbrev pub tail : List ℕ → ℕ → List ℕ
-tail l a = take (length l - 6 * a) (drop (6 * a) l)
+tail l a = take (length l - record-len * a) (drop (record-len * a) l)
 
-pub tail-length : (l : List ℕ) (a : ℕ) → length (tail l a) ≡ length l - 6 * a
-tail-length l a = omega (arith, length-take (length l - 6 * a) (drop (6 * a) l), length-drop (6 * a) l)
+pub tail-length : (l : List ℕ) (a : ℕ) → length (tail l a) ≡ length l - record-len * a
+tail-length l a = omega (arith, length-take (length l - record-len * a) (drop (record-len * a) l), length-drop (record-len * a) l)
 
-tail-byte : (l : List ℕ) (a j p : ℕ) → j < length l - 6 * a → 6 * a + j ≡ p → getD (tail l a) j 0 ≡ getD l p 0
-tail-byte l a j p h e = getD-take (length l - 6 * a) (drop (6 * a) l) j 0 h ∙ getD-drop (6 * a) l j 0 ∙ ap (λ (q : ℕ). getD l q 0) e
+tail-byte : (l : List ℕ) (a j p : ℕ) → j < length l - record-len * a → record-len * a + j ≡ p → getD (tail l a) j 0 ≡ getD l p 0
+tail-byte l a j p h e = getD-take (length l - record-len * a) (drop (record-len * a) l) j 0 h ∙ getD-drop (record-len * a) l j 0 ∙ ap (λ (q : ℕ). getD l q 0) e
 
 pub tail-record : (l : List ℕ) (a n : ℕ) → a + n < count l → record-at (tail l a) n ≡ record-at l (a + n)
 tail-record l a n h = λ t. record { kind = start t; first = byte 1 (omega arith) t; second = byte 2 (omega arith) t; third = byte 3 (omega arith) t; fourth = byte 4 (omega arith) t; fifth = byte 5 (omega arith) t }
   where
-    start : getD (tail l a) (6 * n) 0 ≡ getD l (6 * (a + n)) 0
-    start = tail-byte l a (6 * n) (6 * (a + n)) (omega arith) (omega arith)
+    start : getD (tail l a) (record-len * n) 0 ≡ getD l (record-len * (a + n)) 0
+    start = tail-byte l a (record-len * n) (record-len * (a + n)) (omega arith) (omega arith)
 
-    byte : (c : ℕ) → c < 6 → getD (tail l a) (6 * n + c) 0 ≡ getD l (6 * (a + n) + c) 0
-    byte c b = tail-byte l a (6 * n + c) (6 * (a + n) + c) (omega arith) (omega arith)
+    byte : (c : ℕ) → c < 6 → getD (tail l a) (record-len * n + c) 0 ≡ getD l (record-len * (a + n) + c) 0
+    byte c b = tail-byte l a (record-len * n + c) (record-len * (a + n) + c) (omega arith) (omega arith)
 
 -- ---- the record parsed
 

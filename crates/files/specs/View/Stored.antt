@@ -12,6 +12,7 @@ use Rattle.files.specs.Decode.{Filed, decode-graph, graph-bytes}
 use Rattle.files.specs.Decode.Accepted.{accepted-bytes}
 use Rattle.files.specs.Decode.Written.{decode-bytes, graph-length, nodes-bytes, count-bytes}
 use Rattle.files.specs.Graph.{Graph, size}
+use Rattle.files.specs.Places.{record-len}
 use Rattle.files.specs.Record.{count}
 use Rattle.files.specs.Refusal.{graph, nodes-of, refusal}
 use Rattle.files.specs.View.{Views}
@@ -19,14 +20,14 @@ use Rattle.files.specs.declared.record.Limits.{Limits}
 
 module _ (G : Graph) {n e : ℕ} (nodes-are : n ≡ size G) (edges-are : e ≡ length (G .edges)) (work : List ℕ) {work′ : List ℕ} (stored : work′ ≡ put-at work 0 (graph-bytes G)) where
   abbrev stored-file : List ℕ
-  stored-file = take (6 * (n + e)) work′
+  stored-file = take (record-len * (n + e)) work′
 
   stored-cut : stored-file ≡ graph-bytes G
   stored-cut =
-      ap (take (6 * (n + e))) (stored ∙ put-front work (graph-bytes G))
-      ∙ take-at (graph-bytes G) (drop (length (graph-bytes G)) work) (6 * (n + e)) (omega (arith, graph-length G, nodes-are, edges-are))
+      ap (take (record-len * (n + e))) (stored ∙ put-front work (graph-bytes G))
+      ∙ take-at (graph-bytes G) (drop (length (graph-bytes G)) work) (record-len * (n + e)) (omega (arith, graph-length G, nodes-are, edges-are))
 
-  pub stored-length : length stored-file ≡ 6 * (n + e)
+  pub stored-length : length stored-file ≡ record-len * (n + e)
   stored-length = omega (arith, ap length stored-cut, graph-length G, nodes-are, edges-are)
 
   pub stored-graph : decode-graph stored-file ≡ G

@@ -9,8 +9,9 @@ use Rattle.files.specs.Decode.Examples.{entry-is, cycle-is, loop-is}
 use Rattle.files.specs.Limits.{desk}
 use Rattle.files.specs.Outcome.{Said, says}
 use Rattle.files.specs.Refusal.Examples.{entry-accepted, cycle-accepted, loop-accepted}
-use Rattle.judging.specs.Compare.{compare-room, compared}
+use Rattle.judging.specs.Compare.{compared}
 use Rattle.judging.specs.Compare.Laws.{compare-on, yes-said, no-said}
+use Rattle.judging.specs.Places.{compare-room}
 use Rattle.judging.specs.Simulation.Examples.{p8-yes, p8-back, p9-no, p9-entry, p8-bytes, p8-back-bytes, p9-bytes}
 
 abbrev said : ℕ → List ℕ → List ℕ → Said

@@ -14,10 +14,12 @@ use Rattle.files.specs.Graph.{Graph, Flow, node, size}
 use Rattle.files.specs.Outcome.{Said, refuses, says, refusal-at, NoneOf, FirstOf, Matches, answer, answered, out-check}
 use Rattle.files.specs.Outcome.Calls as calls
 use Rattle.files.specs.Outcome.Laws.{refused-by, accepted-by}
+use Rattle.files.specs.Places.{max-nodes}
 use Rattle.files.specs.Refusal.{graph, refusal}
 use Rattle.files.specs.declared.record.Limits.{Limits}
+use Rattle.judging.specs.Places.{compare-room}
 use Rattle.judging.specs.TwoFiles.{two-match, two-given, two-say}
-use Rattle.judging.specs.Compare.{compare-room, compare-said, compare-verdict, compare-checks, compare-lines, compared, Lowest, Compares, compared-answer, compare-first}
+use Rattle.judging.specs.Compare.{compare-said, compare-verdict, compare-checks, compare-lines, compared, Lowest, Compares, compared-answer, compare-first}
 use Rattle.judging.specs.Simulation.{Covered, Simulates, covered, simulates, uncovered, relation-bytes, related}
 use Rattle.judging.specs.Simulation.Laws.{verdict, largest, covered-e, covered-i, uncovered-is, uncovered-lowest, simulates-covers, related-simulation, relation-bit}
 use Rattle.files.specs.Outcome.{published}
@@ -79,7 +81,7 @@ compare-cases G H s fg fh e = go (simulates G H) refl (verdict G H fg fh) e
       λ f. simulates-covers G H .1 (λ g h x. let c = f g h x in covered-i G H fg fh g (c .0) (c .1) (c .2)),
     )
 
-    bits : s .written ≡ relation-bytes G H → (g h : ℕ) → g < size G → h < 256 → bit (getD (s .written) (32 * g + h / 8) 0) (h % 8) ≡ one (related G H g h)
+    bits : s .written ≡ relation-bytes G H → (g h : ℕ) → g < size G → h < max-nodes → bit (getD (s .written) (32 * g + h / 8) 0) (h % 8) ≡ one (related G H g h)
     bits w g h hg hh = ap (λ (l : List ℕ). bit (getD l (32 * g + h / 8) 0) (h % 8)) w ∙ relation-bit G H g h hg hh
 
     go : (b : Bool) → simulates G H ≡ b → T b ↔ Simulates G H

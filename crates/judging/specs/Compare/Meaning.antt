@@ -10,6 +10,7 @@ use Rattle.files.specs.Decode.{decode-graph}
 use Rattle.files.specs.Graph.{Graph, size}
 use Rattle.files.specs.Outcome.{Said, Outcome, Answer, Does, answer, says, refusal-at, NoneOf, Lines}
 use Rattle.files.specs.Outcome.Meaning.{Decided, Refuses, Clears, Wrote, Enum, Heard, itself, heard-itself, only-verdict, numbered-cond, outcome-case, case-cond, said-iff, refuses-by, clears-by, wrote-by}
+use Rattle.files.specs.Places.{line-bytes, max-nodes}
 use Rattle.files.specs.declared.record.Limits.{Limits}
 use Rattle.judging.specs.declared.answers.Compared.{Compared}
 use Rattle.judging.specs.declared.answers.Compared.the-variants.{Yes, No, Refused}
@@ -33,8 +34,8 @@ compared-enum = record { code = compared-answer; back = compared-of; back-code =
 
 -- what bytes of a relation hold: bit h of node g's line says whether some simulation relates the two, and so the bytes are the largest
 pub record WrittenRelation (G H : Graph) (bytes : List ℕ) : Type 1 where
-  pub length-is : length bytes ≡ 32 * size G
-  pub is-largest : (g h : ℕ) → g < size G → h < 256 → T (has bytes g h) ↔ ((R : ℕ → ℕ → Type 0) × Simulation G H R × R g h)
+  pub length-is : length bytes ≡ line-bytes * size G
+  pub is-largest : (g h : ℕ) → g < size G → h < max-nodes → T (has bytes g h) ↔ ((R : ℕ → ℕ → Type 0) × Simulation G H R × R g h)
 
 -- "one graph simulates another exactly when the largest simulation covers every entry": `Yes` is returned exactly where nothing is refused and the second graph
 -- simulates the first, `No n` exactly where it does not, with the lowest uncovered entry; under either verdict the largest simulation is written.

@@ -20,6 +20,7 @@ use Rattle.files.specs.Deliveries.Latest.{Latest}
 use Rattle.files.specs.Graph.{Graph}
 use Rattle.files.specs.Outcome.{Answer, Answers, answered, short}
 use Rattle.files.specs.Outcome.Counted.{over-limits, counted-small, verdict-told}
+use Rattle.files.specs.Places.{graph-room, record-len}
 use Rattle.files.specs.Record.{count}
 use Rattle.files.specs.Refusal.{property, refusal}
 use Rattle.files.specs.Settling.{Settles, told}
@@ -29,7 +30,8 @@ use Rattle.files.specs.declared.record.Limits.{Limits}
 use Rattle.files.specs.declared.settle.Settled.the-variants.{Passed}
 use Rattle.files.specs.declared.view.GraphView.{GraphView}
 use Rattle.judging.specs.Delivered.{deliveries-store, delivered-verdict, delivered-first, delivered-last, delivered}
-use Rattle.judging.specs.Judge.{judge-room, judge-said, Strides}
+use Rattle.judging.specs.Judge.{judge-said, Strides}
+use Rattle.judging.specs.Places.{judge-room}
 
 pub delivered-is : (L : Limits) (l p : List ℕ) (out store work : ℕ)
     → delivered L l p out store work ≡ answered (delivered-first L l p store work (delivered-last L l p out store work)) (delivered-verdict L l p out store work)
@@ -42,8 +44,8 @@ delivered-is L l p out store work = refl
 pub record Judgeable (L : Limits) (l p : List ℕ) (store work : ℕ) : Type 0 where
   pub taken : Taken L l
   pub property-within : refusal L property p ≡ none
-  pub store-long : 26112 ≤ store
-  pub work-long : 41664 ≤ work
+  pub store-long : graph-room ≤ store
+  pub work-long : judge-room ≤ work
 
 both-off : (a b : Bool) → (a || b) ≡ false → (a ≡ false) × (b ≡ false)
 both-off true b e = let z : _≡_ {A = ℕ} 0 1 = cc in absurd (omega arith)
@@ -75,7 +77,7 @@ module _ (L : Limits) (l p : List ℕ) (taken : Taken L l) {v : GraphView} (x : 
   -- the verdict on the bytes in the store is that on the standing graph
   module _ (store : List ℕ) {store′ : List ℕ} (stored : store′ ≡ put-at store 0 (graph-bytes (standing-graph l))) where
     pub delivered-told : (out : List ℕ) (n m : ℕ) {out′ : List ℕ} {a : Answer}
-        → Answers (told (judge-said (decode-graph (take (6 * (v .nodes + v .edges)) store′)) (decode-property p)) (length out)) out out′ a
+        → Answers (told (judge-said (decode-graph (take (record-len * (v .nodes + v .edges)) store′)) (decode-property p)) (length out)) out out′ a
         → Answers (answered (delivered-last L l p (length out) n m) (delivered-verdict L l p (length out) n m)) out out′ a
     delivered-told out n m {out′ = out′} {a = a} y =
         verdict-told L (standing-graph l) (x .nodes-are) (x .edges-are) (judge-said (standing-graph l) (decode-property p)) out within

@@ -12,11 +12,12 @@ use Rattle.files.specs.Limits.{desk}
 use Rattle.files.specs.Outcome.{Said, says}
 use Rattle.files.specs.Property.{Row}
 use Rattle.files.specs.Refusal.Examples.{empty-accepted, entry-accepted, call-accepted, false-accepted, return-accepted, box-zero-accepted, box-one-accepted}
-use Rattle.judging.specs.Judge.{judge-room, judge-said, judged}
+use Rattle.judging.specs.Judge.{judge-said, judged}
 use Rattle.judging.specs.Judge.Laws.{judge-on, holds-said, fails-said}
 use Rattle.judging.specs.Levels.Examples.{at-three, operators, p4-holds, p5-fails, p6-fails, p7-holds}
 use Rattle.judging.specs.Levels.Sheet.{sheet, sheet-bytes}
 use Rattle.judging.specs.Levels.Sheet.Examples.{p5-sheet, p6-sheet, sheet-sizes}
+use Rattle.judging.specs.Places.{judge-room}
 
 abbrev said : ℕ → List ℕ → List ℕ → Said
 said v xs ws = record { verdict = v; values = xs; written = ws }

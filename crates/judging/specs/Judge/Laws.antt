@@ -18,8 +18,9 @@ use Rattle.files.specs.Outcome.Laws.{refused-by, accepted-by}
 use Rattle.files.specs.Property.{Row, Property}
 use Rattle.files.specs.Refusal.{graph, property, refusal}
 use Rattle.files.specs.declared.record.Limits.{Limits}
+use Rattle.judging.specs.Places.{judge-room}
 use Rattle.judging.specs.TwoFiles.{two-match, two-given, two-say}
-use Rattle.judging.specs.Judge.{judge-room, judge-first, judge-said, judge-verdict, judge-checks, judge-lines, judged, Judges, judged-answer}
+use Rattle.judging.specs.Judge.{judge-first, judge-said, judge-verdict, judge-checks, judge-lines, judged, Judges, judged-answer}
 use Rattle.judging.specs.Levels.{Satisfies, satisfies}
 use Rattle.judging.specs.Levels.Laws.{satisfies-agrees}
 use Rattle.judging.specs.Levels.Greatest.{greatest-solution, holds-solves}

@@ -10,6 +10,7 @@ use Rattle.files.specs.Decode.{decode-graph, decode-property}
 use Rattle.files.specs.Graph.{Graph}
 use Rattle.files.specs.Outcome.{Said, Outcome, Answer, Answers, Does, answer, says, refusal-at, NoneOf, Lines}
 use Rattle.files.specs.Outcome.Meaning.{Decided, Refuses, Clears, Wrote, Enum, Heard, itself, heard-itself, only-verdict, numbered-cond, outcome-case, case-cond, said-iff, refuses-by, clears-by, wrote-by}
+use Rattle.files.specs.Places.{record-len}
 use Rattle.files.specs.Property.{Row}
 use Rattle.files.specs.declared.record.Limits.{Limits}
 use Rattle.judging.specs.declared.answers.Judged.{Judged}
@@ -47,8 +48,8 @@ pub record VerdictMeans {R : Type 0} (tell : Judged → R) (G : Graph) (P : List
   pub fails-iff : ((n : ℕ) × (r ≡ tell (Fails n))) ↔ (NoneOf ls × (Satisfies G P → ⊥))
   pub judges : NoneOf ls → Judges G P (judge-said G P)
   pub holds-leaves : r ≡ tell Holds → out′ ≡ out
-  pub fails-writes : (n : ℕ) → r ≡ tell (Fails n) → WrittenSheet G P n (take (6 * n) out′)
-  pub past-unchanged : (n : ℕ) → r ≡ tell (Fails n) → drop (6 * n) out′ ≡ drop (6 * n) out
+  pub fails-writes : (n : ℕ) → r ≡ tell (Fails n) → WrittenSheet G P n (take (record-len * n) out′)
+  pub past-unchanged : (n : ℕ) → r ≡ tell (Fails n) → drop (record-len * n) out′ ≡ drop (record-len * n) out
 
 -- "A property holds exactly when the greatest solution of its equations says so"
 pub record JudgeMeans {R : Type 0} (tell : Judged → R) (L : Limits) (g p out work out′ work′ : List ℕ) (r : R) : Type 1 where
@@ -95,14 +96,14 @@ module _ {R : Type 0} (tell : Judged → R) (heard : Heard tell) (G : Graph) (P 
   counts : (n : ℕ) → tell c ≡ tell (Fails n) → length (sheet G P) ≡ n
   counts n q = let a = is-fails n .0 q in ap (λ (xs : List ℕ). getD xs 0 0) (sym (means (a .0) .fails-writes (a .1) .0) ∙ a .2)
 
-  wrote : (n : ℕ) → tell c ≡ tell (Fails n) → Wrote (6 * n) (sheet-bytes G P) out out′
+  wrote : (n : ℕ) → tell c ≡ tell (Fails n) → Wrote (record-len * n) (sheet-bytes G P) out out′
   wrote n q =
       let a = is-fails n .0 q in
       let w = means (a .0) .fails-writes (a .1) .1 in
-      subst (λ (ws : List ℕ). Wrote (6 * n) ws out out′) w
-      (wrote-by o said ls d out out′ (answers .out-is) (a .0) (6 * n) (ap length w ∙ sheet-bytes-length G P ∙ ap (λ (m : ℕ). 6 * m) (counts n q)))
+      subst (λ (ws : List ℕ). Wrote (record-len * n) ws out out′) w
+      (wrote-by o said ls d out out′ (answers .out-is) (a .0) (record-len * n) (ap length w ∙ sheet-bytes-length G P ∙ ap (λ (m : ℕ). record-len * m) (counts n q)))
 
-  writes : (n : ℕ) → tell c ≡ tell (Fails n) → WrittenSheet G P n (take (6 * n) out′)
+  writes : (n : ℕ) → tell c ≡ tell (Fails n) → WrittenSheet G P n (take (record-len * n) out′)
   writes n q =
       let a = is-fails n .0 q in
       let e = ap read-sheet (wrote n q .result) ∙ sheet-read G P in

@@ -14,10 +14,12 @@ use Rattle.files.specs.Basics.Tests.{one, one-le, one-true, one-false, decide, 
 use Rattle.files.specs.Cells.{cell, put-cell}
 use Rattle.files.specs.Cells.Laws.{length-put-cell, cell-same, cell-apart, cell-other}
 use Rattle.files.specs.Graph.{Graph, size, Flow}
+use Rattle.files.specs.Places.{max-nodes, max-rows}
 use Rattle.files.specs.Property.{Row, Property}
 use Rattle.judging.specs.Chains.Laws.{index-kept}
 use Rattle.judging.specs.Levels.{level}
 use Rattle.judging.specs.Levels.Onward.{first-rank, rank-within}
+use Rattle.judging.specs.Places.{judge-room, max-pairs, node-heads-base, queue-base}
 use Rattle.judging.specs.Ranking.{pair, rank-at, queue-at, Given, given, tail-after, ranked, Queued, RankBy, Finding, Grew}
 
 -- ---- tallies
@@ -50,33 +52,33 @@ tally-room f i (suc n) l a = go (ℕ-discrete i n) (λ m. tally-room f i n m a)
 -- ---- a pair put at the queue's end with its rank
 
 abbrev pushed : List ℕ → ℕ → ℕ → ℕ → List ℕ
-pushed w tail p k = put-cell (put-cell w 0 2 p (suc k)) 16384 2 tail p
+pushed w tail p k = put-cell (put-cell w 0 2 p (suc k)) queue-base 2 tail p
 
-module _ (w : List ℕ) (tail p k : ℕ) (in-ranks : p < 8192) (in-queue : tail < 8192) (room : 41664 ≤ length w) (low : k ≤ 8192) where
+module _ (w : List ℕ) (tail p k : ℕ) (in-ranks : p < max-pairs) (in-queue : tail < max-pairs) (room : judge-room ≤ length w) (low : k ≤ max-pairs) where
   abbrev once : List ℕ
   once = put-cell w 0 2 p (suc k)
 
-  room-once : 41664 ≤ length once
+  room-once : judge-room ≤ length once
   room-once = omega (arith, room, length-put-cell w 0 2 p (suc k))
 
   pushed-length : length (pushed w tail p k) ≡ length w
-  pushed-length = length-put-cell once 16384 2 tail p ∙ length-put-cell w 0 2 p (suc k)
+  pushed-length = length-put-cell once queue-base 2 tail p ∙ length-put-cell w 0 2 p (suc k)
 
   rank-here : cell (pushed w tail p k) 0 2 p ≡ suc k
-  rank-here = cell-apart once 16384 2 tail p 0 2 p (inl (omega arith)) ∙ cell-same w 0 2 p (suc k) (omega arith) (omega arith)
+  rank-here = cell-apart once queue-base 2 tail p 0 2 p (inl (omega arith)) ∙ cell-same w 0 2 p (suc k) (omega arith) (omega arith)
 
-  rank-there : (j : ℕ) → j < 8192 → (p ≡ j → ⊥) → cell (pushed w tail p k) 0 2 j ≡ cell w 0 2 j
-  rank-there j h f = cell-apart once 16384 2 tail p 0 2 j (inl (omega arith)) ∙ cell-other w 0 2 p j (suc k) f
+  rank-there : (j : ℕ) → j < max-pairs → (p ≡ j → ⊥) → cell (pushed w tail p k) 0 2 j ≡ cell w 0 2 j
+  rank-there j h f = cell-apart once queue-base 2 tail p 0 2 j (inl (omega arith)) ∙ cell-other w 0 2 p j (suc k) f
 
-  queue-here : cell (pushed w tail p k) 16384 2 tail ≡ p
-  queue-here = cell-same once 16384 2 tail p (omega (arith, room-once)) (omega arith)
+  queue-here : cell (pushed w tail p k) queue-base 2 tail ≡ p
+  queue-here = cell-same once queue-base 2 tail p (omega (arith, room-once)) (omega arith)
 
-  queue-there : (i : ℕ) → i < tail → cell (pushed w tail p k) 16384 2 i ≡ cell w 16384 2 i
-  queue-there i h = cell-other once 16384 2 tail i p (λ e. omega arith) ∙ cell-apart w 0 2 p (suc k) 16384 2 i (inr (omega arith))
+  queue-there : (i : ℕ) → i < tail → cell (pushed w tail p k) queue-base 2 i ≡ cell w queue-base 2 i
+  queue-there i h = cell-other once queue-base 2 tail i p (λ e. omega arith) ∙ cell-apart w 0 2 p (suc k) queue-base 2 i (inr (omega arith))
 
   -- what stands past the queue is kept
-  past-kept : (base j : ℕ) → 32768 ≤ base → cell (pushed w tail p k) base 2 j ≡ cell w base 2 j
-  past-kept base j h = cell-apart once 16384 2 tail p base 2 j (inr (omega arith)) ∙ cell-apart w 0 2 p (suc k) base 2 j (inr (omega arith))
+  past-kept : (base j : ℕ) → node-heads-base ≤ base → cell (pushed w tail p k) base 2 j ≡ cell w base 2 j
+  past-kept base j h = cell-apart once queue-base 2 tail p base 2 j (inr (omega arith)) ∙ cell-apart w 0 2 p (suc k) base 2 j (inr (omega arith))
 
   -- where the pair had no rank, one more has
   ranked-more : (n : ℕ) → n ≤ 256 → p < 32 * n → cell w 0 2 p ≡ 0 → ranked (pushed w tail p k) n ≡ suc (ranked w n)
@@ -122,7 +124,7 @@ module _ (G : Graph) (P : List Row) where
   pub queued-same : (k i : ℕ) (w w′ : List ℕ) → queue-at w′ i ≡ queue-at w i → Queued G P k w i → Queued G P k w′ i
   queued-same k i w w′ e x = record { its-node = x .its-node; its-row = x .its-row; is-node = x .is-node; is-row = x .is-row; is-there = e ∙ x .is-there; is-false = x .is-false }
 
-module _ (G : Graph) (P : List Row) (flow : Flow G) (wf : Property P) (few-nodes : size G ≤ 256) (few-rows : length P ≤ 32) where
+module _ (G : Graph) (P : List Row) (flow : Flow G) (wf : Property P) (few-nodes : size G ≤ max-nodes) (few-rows : length P ≤ max-rows) where
   -- a pair that turns false at level k + 1 and has no rank yet was true at level k
   was-true : (k tail : ℕ) (w : List ℕ) → Finding G P k tail w → (g r : ℕ) → g < size G → r < length P → rank-at w g r ≡ 0 → T (level G P k g r)
   was-true k tail w f g r hg hr e = go (decide (level G P k g r)) (f .ranks g r hg hr)
@@ -134,10 +136,10 @@ module _ (G : Graph) (P : List Row) (flow : Flow G) (wf : Property P) (few-nodes
 
   module _ (k tail : ℕ) (w : List ℕ) (f : Finding G P k tail w) (g r : ℕ) (hg : g < size G) (hr : r < length P) (turns : T (not (level G P (suc k) g r))) where
     module _ (none : rank-at w g r ≡ 0) where
-      in-ranks : pair g r < 8192
+      in-ranks : pair g r < max-pairs
       in-ranks = omega arith
 
-      in-queue : tail < 8192
+      in-queue : tail < max-pairs
       in-queue = omega (arith, f .counted, ranked-room w (size G) (pair g r) (omega arith) none)
 
       after : List ℕ
@@ -223,5 +225,5 @@ module _ (G : Graph) (P : List Row) (flow : Flow G) (wf : Property P) (few-nodes
         go false e = (grew-none G P k tail w f, λ z. subst T e (eq-eqb _ _ z))
 
     -- there is room to give it
-    pub give-room : rank-at w g r ≡ 0 → tail < 8192
+    pub give-room : rank-at w g r ≡ 0 → tail < max-pairs
     give-room none = in-queue none

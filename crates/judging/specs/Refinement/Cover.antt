@@ -13,6 +13,7 @@ use Rattle.files.specs.Cells.Laws.{put-at-is, put-front}
 use Rattle.files.specs.Graph.{Graph, size}
 use Rattle.files.specs.Line.{relation-line}
 use Rattle.files.specs.Line.Laws.{line-size}
+use Rattle.files.specs.Places.{max-nodes}
 use Rattle.judging.specs.Refinement.{rel, Settled}
 use Rattle.judging.specs.Sheets.Queue.{table-same}
 use Rattle.judging.specs.Sheets.Walk.{put-next}
@@ -22,13 +23,13 @@ use Rattle.judging.specs.Simulation.Laws.{relation-lines}
 -- ---- rows of bits
 
 -- the line of a test asks below 256 only
-line-same : (u v : ℕ → Bool) → ((h : ℕ) → h < 256 → u h ≡ v h) → relation-line u ≡ relation-line v
+line-same : (u v : ℕ → Bool) → ((h : ℕ) → h < max-nodes → u h ≡ v h) → relation-line u ≡ relation-line v
 line-same u v e = table-same (λ k. value (table u (8 * k) 8)) (λ k. value (table v (8 * k) 8)) 0 32 (λ k a b. ap value (table-same u v (8 * k) 8 (λ i x y. e i (omega arith))))
 
 -- ---- lines, one after the other
 
 module _ (G H : Graph) where
-  pub settled-e : (w : List ℕ) → Settled G H w → (g h : ℕ) → g < size G → h < 256 → rel w g h ≡ related G H g h
+  pub settled-e : (w : List ℕ) → Settled G H w → (g h : ℕ) → g < size G → h < max-nodes → rel w g h ≡ related G H g h
   unfolding Settled
   settled-e w z = z
 

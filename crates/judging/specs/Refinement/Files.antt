@@ -7,6 +7,7 @@ use lib.ListN.{length}
 use Rattle.files.specs.Basics.Lists.{index-e}
 use Rattle.files.specs.Decode.{decode-graph}
 use Rattle.files.specs.Graph.{Graph, size, no-edge, Flow}
+use Rattle.files.specs.Places.{max-edges, max-nodes}
 use Rattle.files.specs.View.{view-size, view-edges, view-flow, view-filed}
 use Rattle.judging.specs.declared.sizes.Sizes.{Sizes}
 use Rattle.judging.specs.Refinement.{Both, edge}
@@ -36,13 +37,13 @@ module _ (s : Sizes) (f g : List ℕ) (x : Both s f g) where
   pub second-flow : Flow H
   second-flow = view-flow (x .second-held .views)
 
-  pub first-fits : size G ≤ 256
+  pub first-fits : size G ≤ max-nodes
   first-fits = omega (arith, first-size, x .first-held .few-nodes)
 
-  pub second-fits : size H ≤ 256
+  pub second-fits : size H ≤ max-nodes
   second-fits = omega (arith, second-size, x .second-held .few-nodes)
 
-  pub first-edges-fit : length (G .edges) ≤ 4096
+  pub first-edges-fit : length (G .edges) ≤ max-edges
   first-edges-fit = omega (arith, first-edges, x .first-held .few-edges)
 
   -- an edge of the first graph leads from node to node, and its label has a row of bits

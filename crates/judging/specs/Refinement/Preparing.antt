@@ -14,7 +14,9 @@ use Rattle.files.specs.Basics.Tests.{and-l, and-r, and-i, any-i, any-e, same-te
 use Rattle.files.specs.Cells.{has-bit, put-bit}
 use Rattle.files.specs.Cells.Laws.{bit-byte, bit-same, bit-other, bit-outside, length-put-bit}
 use Rattle.files.specs.Graph.{Graph, Node, Edge, node, no-edge}
+use Rattle.files.specs.Places.{line-bytes, max-nodes}
 use Rattle.judging.specs.Chains.{Outside}
+use Rattle.judging.specs.Places.{heads-base, kinds-base, neighbours-base, neighbours-end}
 use Rattle.judging.specs.Refinement.{kind, of-kind, edge, neighbour, follows, comes, leads-into, leads-to, Reaches, Leads, KindRows, Neighbours}
 use Rattle.judging.specs.Simulation.{alike}
 use Rattle.judging.specs.Simulation.Laws.{alike-e, alike-i}
@@ -22,7 +24,7 @@ use Rattle.judging.specs.Simulation.Laws.{alike-e, alike-i}
 -- ---- a bit put into a row
 
 -- another row keeps its bits
-pub put-apart : (w : List ℕ) (b h c k : ℕ) → h < 256 → k < 256 → (b + 32 ≤ c) ⊎ (c + 32 ≤ b) → has-bit (put-bit w b h) c k ≡ has-bit w c k
+pub put-apart : (w : List ℕ) (b h c k : ℕ) → h < max-nodes → k < max-nodes → (b + 32 ≤ c) ⊎ (c + 32 ≤ b) → has-bit (put-bit w b h) c k ≡ has-bit w c k
 put-apart w b h c k a d (inl l) = bit-byte (put-bit w b h) w c c k (bit-outside w b h (c + k / 8) (λ e. omega arith))
 put-apart w b h c k a d (inr l) = bit-byte (put-bit w b h) w c c k (bit-outside w b h (c + k / 8) (λ e. omega arith))
 
@@ -40,27 +42,27 @@ one-more n m f = go (decLt n m)
     go (yes h) = lt-ltb n (m + 1) (omega arith) ∙ sym (lt-ltb n m h)
     go (no h) = le-ltb n (m + 1) (omega arith) ∙ sym (le-ltb n m (omega arith))
 
-pub kinds-none : (H : Graph) (w : List ℕ) → ((k h : ℕ) → k < 18 → h < 256 → of-kind w k h ≡ false) → KindRows H 0 w
+pub kinds-none : (H : Graph) (w : List ℕ) → ((k h : ℕ) → k < 18 → h < max-nodes → of-kind w k h ≡ false) → KindRows H 0 w
 kinds-none H w z k h a b = z k h a b ∙ sym (ap (λ (t : Bool). t && eqb (kind (node H h)) k) (le-ltb h 0 (omega arith)))
 
-pub kinds-more : (H : Graph) (n : ℕ) (w w′ : List ℕ) (k : ℕ) → n < 256 → k ≡ kind (node H n) → k < 18 → 16960 ≤ length w → w′ ≡ put-bit w (16384 + 32 * k) n → KindRows H n w → KindRows H (n + 1) w′
+pub kinds-more : (H : Graph) (n : ℕ) (w w′ : List ℕ) (k : ℕ) → n < max-nodes → k ≡ kind (node H n) → k < 18 → heads-base ≤ length w → w′ ≡ put-bit w (kinds-base + line-bytes * k) n → KindRows H n w → KindRows H (n + 1) w′
 kinds-more H n w w′ k few is low room put x j h a b = ap (λ (v : List ℕ). of-kind v j h) put ∙ go (ℕ-discrete k j) (ℕ-discrete n h)
   where
-    go : Dec (k ≡ j) → Dec (n ≡ h) → of-kind (put-bit w (16384 + 32 * k) n) j h ≡ (ltb h (n + 1) && eqb (kind (node H h)) j)
+    go : Dec (k ≡ j) → Dec (n ≡ h) → of-kind (put-bit w (kinds-base + line-bytes * k) n) j h ≡ (ltb h (n + 1) && eqb (kind (node H h)) j)
     go (yes e) (yes d) =
-        subst (λ (y : ℕ). of-kind (put-bit w (16384 + 32 * k) n) y h ≡ (ltb h (n + 1) && eqb (kind (node H h)) y)) e
-        (subst (λ (y : ℕ). of-kind (put-bit w (16384 + 32 * k) n) k y ≡ (ltb y (n + 1) && eqb (kind (node H y)) k)) d
-        (bit-same w (16384 + 32 * k) n (omega arith) ∙ sym (ap₂ _&&_ (lt-ltb n (n + 1) (omega arith)) (eq-eqb (kind (node H n)) k (sym is)))))
+        subst (λ (y : ℕ). of-kind (put-bit w (kinds-base + line-bytes * k) n) y h ≡ (ltb h (n + 1) && eqb (kind (node H h)) y)) e
+        (subst (λ (y : ℕ). of-kind (put-bit w (kinds-base + line-bytes * k) n) k y ≡ (ltb y (n + 1) && eqb (kind (node H y)) k)) d
+        (bit-same w (kinds-base + line-bytes * k) n (omega arith) ∙ sym (ap₂ _&&_ (lt-ltb n (n + 1) (omega arith)) (eq-eqb (kind (node H n)) k (sym is)))))
     go (yes e) (no f) =
-        subst (λ (y : ℕ). of-kind (put-bit w (16384 + 32 * k) n) y h ≡ of-kind w y h) e (bit-other w (16384 + 32 * k) n h f) ∙ x j h a b ∙ ap (λ (t : Bool). t && eqb (kind (node H h)) j) (sym (one-more h n (λ d. f (sym d))))
-    go (no f) (no g) = put-apart w (16384 + 32 * k) n (16384 + 32 * j) h few b (side (decLt k j)) ∙ x j h a b ∙ ap (λ (t : Bool). t && eqb (kind (node H h)) j) (sym (one-more h n (λ d. g (sym d))))
+        subst (λ (y : ℕ). of-kind (put-bit w (kinds-base + line-bytes * k) n) y h ≡ of-kind w y h) e (bit-other w (kinds-base + line-bytes * k) n h f) ∙ x j h a b ∙ ap (λ (t : Bool). t && eqb (kind (node H h)) j) (sym (one-more h n (λ d. f (sym d))))
+    go (no f) (no g) = put-apart w (kinds-base + line-bytes * k) n (kinds-base + line-bytes * j) h few b (side (decLt k j)) ∙ x j h a b ∙ ap (λ (t : Bool). t && eqb (kind (node H h)) j) (sym (one-more h n (λ d. g (sym d))))
       where
-        side : Dec (k < j) → (16384 + 32 * k + 32 ≤ 16384 + 32 * j) ⊎ (16384 + 32 * j + 32 ≤ 16384 + 32 * k)
+        side : Dec (k < j) → (kinds-base + line-bytes * k + line-bytes ≤ kinds-base + line-bytes * j) ⊎ (kinds-base + line-bytes * j + line-bytes ≤ kinds-base + line-bytes * k)
         side (yes l) = inl (omega arith)
         side (no l) = inr (omega arith)
-    go (no f) (yes d) = put-apart w (16384 + 32 * k) n (16384 + 32 * j) h few b (side (decLt k j)) ∙ x j h a b ∙ both-none (ltb h n) (ltb h (n + 1)) (eqb (kind (node H h)) j) (ne-eqb (kind (node H h)) j (λ e. f (is ∙ ap (λ (y : ℕ). kind (node H y)) d ∙ e)))
+    go (no f) (yes d) = put-apart w (kinds-base + line-bytes * k) n (kinds-base + line-bytes * j) h few b (side (decLt k j)) ∙ x j h a b ∙ both-none (ltb h n) (ltb h (n + 1)) (eqb (kind (node H h)) j) (ne-eqb (kind (node H h)) j (λ e. f (is ∙ ap (λ (y : ℕ). kind (node H y)) d ∙ e)))
       where
-        side : Dec (k < j) → (16384 + 32 * k + 32 ≤ 16384 + 32 * j) ⊎ (16384 + 32 * j + 32 ≤ 16384 + 32 * k)
+        side : Dec (k < j) → (kinds-base + line-bytes * k + line-bytes ≤ kinds-base + line-bytes * j) ⊎ (kinds-base + line-bytes * j + line-bytes ≤ kinds-base + line-bytes * k)
         side (yes l) = inl (omega arith)
         side (no l) = inr (omega arith)
 
@@ -138,12 +140,12 @@ leads-to-e H h g t = go (any-e (λ (e : Edge). eqb (e .to) h && eqb (e .from) g)
 
 -- the edges below j are put, and nothing else, for the nodes below n
 pub record Putting (H : Graph) (n j : ℕ) (w : List ℕ) : Type 0 where
-  pub after-sound : (x l y : ℕ) → x < n → l < 9 → y < 256 → T (follows w x l y) → Reaches H (λ (t : ℕ). t ≡ y) x l
-  pub before-sound : (y x : ℕ) → y < n → x < 256 → T (comes w y x) → Leads H x y
+  pub after-sound : (x l y : ℕ) → x < n → l < 9 → y < max-nodes → T (follows w x l y) → Reaches H (λ (t : ℕ). t ≡ y) x l
+  pub before-sound : (y x : ℕ) → y < n → x < max-nodes → T (comes w y x) → Leads H x y
   pub after-full : (d : ℕ) → d < j → T (follows w ((edge H d) .from) ((edge H d) .label) ((edge H d) .to))
   pub before-full : (d : ℕ) → d < j → T (comes w ((edge H d) .to) ((edge H d) .from))
 
-pub putting-none : (H : Graph) (n : ℕ) (w : List ℕ) → ((m y : ℕ) → m < 10 * n → y < 256 → neighbour w m y ≡ false) → Putting H n 0 w
+pub putting-none : (H : Graph) (n : ℕ) (w : List ℕ) → ((m y : ℕ) → m < 10 * n → y < max-nodes → neighbour w m y ≡ false) → Putting H n 0 w
 putting-none H n w f = record {
   after-sound = λ x l y a b c t. absurd (subst T (f (10 * x + l) y (omega arith) c) t);
   before-sound = λ y x a c t. absurd (subst T (f (10 * y + 9) x (omega arith) c) t);
@@ -152,39 +154,39 @@ putting-none H n w f = record {
 }
 
 -- a bit of row m, put or there before
-module _ (w : List ℕ) (m h : ℕ) (fits : 30816 + 32 * m + h / 8 < length w) (small : h < 256) where
+module _ (w : List ℕ) (m h : ℕ) (fits : neighbours-base + line-bytes * m + h / 8 < length w) (small : h < max-nodes) where
   abbrev more : List ℕ
-  more = put-bit w (30816 + 32 * m) h
+  more = put-bit w (neighbours-base + line-bytes * m) h
 
-  side : (k : ℕ) → (m ≡ k → ⊥) → (30816 + 32 * m + 32 ≤ 30816 + 32 * k) ⊎ (30816 + 32 * k + 32 ≤ 30816 + 32 * m)
+  side : (k : ℕ) → (m ≡ k → ⊥) → (neighbours-base + line-bytes * m + line-bytes ≤ neighbours-base + line-bytes * k) ⊎ (neighbours-base + line-bytes * k + line-bytes ≤ neighbours-base + line-bytes * m)
   side k f = go (decLt m k)
     where
-      go : Dec (m < k) → (30816 + 32 * m + 32 ≤ 30816 + 32 * k) ⊎ (30816 + 32 * k + 32 ≤ 30816 + 32 * m)
+      go : Dec (m < k) → (neighbours-base + line-bytes * m + line-bytes ≤ neighbours-base + line-bytes * k) ⊎ (neighbours-base + line-bytes * k + line-bytes ≤ neighbours-base + line-bytes * m)
       go (yes l) = inl (omega arith)
       go (no l) = inr (omega arith)
 
-  put-e : (k g : ℕ) → g < 256 → T (neighbour more k g) → ((m ≡ k) × (h ≡ g)) ⊎ T (neighbour w k g)
+  put-e : (k g : ℕ) → g < max-nodes → T (neighbour more k g) → ((m ≡ k) × (h ≡ g)) ⊎ T (neighbour w k g)
   put-e k g b t = go (ℕ-discrete m k) (ℕ-discrete h g)
     where
       go : Dec (m ≡ k) → Dec (h ≡ g) → ((m ≡ k) × (h ≡ g)) ⊎ T (neighbour w k g)
       go (yes e) (yes d) = inl (e, d)
-      go (yes e) (no f) = inr (subst (λ (n : ℕ). T (neighbour w n g)) e (subst T (bit-other w (30816 + 32 * m) h g f) (subst (λ (n : ℕ). T (neighbour more n g)) (sym e) t)))
-      go (no f) d = inr (subst T (put-apart w (30816 + 32 * m) h (30816 + 32 * k) g small b (side k f)) t)
+      go (yes e) (no f) = inr (subst (λ (n : ℕ). T (neighbour w n g)) e (subst T (bit-other w (neighbours-base + line-bytes * m) h g f) (subst (λ (n : ℕ). T (neighbour more n g)) (sym e) t)))
+      go (no f) d = inr (subst T (put-apart w (neighbours-base + line-bytes * m) h (neighbours-base + line-bytes * k) g small b (side k f)) t)
 
   put-here : T (neighbour more m h)
-  put-here = subst T (sym (bit-same w (30816 + 32 * m) h fits)) tt
+  put-here = subst T (sym (bit-same w (neighbours-base + line-bytes * m) h fits)) tt
 
-  put-i : (k g : ℕ) → g < 256 → T (neighbour w k g) → T (neighbour more k g)
+  put-i : (k g : ℕ) → g < max-nodes → T (neighbour w k g) → T (neighbour more k g)
   put-i k g b t = go (ℕ-discrete m k) (ℕ-discrete h g)
     where
       go : Dec (m ≡ k) → Dec (h ≡ g) → T (neighbour more k g)
       go (yes e) (yes d) = subst (λ (n : ℕ). T (neighbour more n g)) e (subst (λ (n : ℕ). T (neighbour more m n)) d put-here)
-      go (yes e) (no f) = subst (λ (n : ℕ). T (neighbour more n g)) e (subst T (sym (bit-other w (30816 + 32 * m) h g f)) (subst (λ (n : ℕ). T (neighbour w n g)) (sym e) t))
-      go (no f) d = subst T (sym (put-apart w (30816 + 32 * m) h (30816 + 32 * k) g small b (side k f))) t
+      go (yes e) (no f) = subst (λ (n : ℕ). T (neighbour more n g)) e (subst T (sym (bit-other w (neighbours-base + line-bytes * m) h g f)) (subst (λ (n : ℕ). T (neighbour w n g)) (sym e) t))
+      go (no f) d = subst T (sym (put-apart w (neighbours-base + line-bytes * m) h (neighbours-base + line-bytes * k) g small b (side k f))) t
 
 -- edge j more
-module _ (H : Graph) (n j : ℕ) (w : List ℕ) (hj : j < length (H .edges)) (room : 112736 ≤ length w)
-    (inside : (d : ℕ) → d < length (H .edges) → ((edge H d) .from < 256) × ((edge H d) .to < 256) × ((edge H d) .label < 9)) (p : Putting H n j w) where
+module _ (H : Graph) (n j : ℕ) (w : List ℕ) (hj : j < length (H .edges)) (room : neighbours-end ≤ length w)
+    (inside : (d : ℕ) → d < length (H .edges) → ((edge H d) .from < max-nodes) × ((edge H d) .to < max-nodes) × ((edge H d) .label < 9)) (p : Putting H n j w) where
   abbrev fr : ℕ
   fr = (edge H j) .from
 
@@ -195,25 +197,25 @@ module _ (H : Graph) (n j : ℕ) (w : List ℕ) (hj : j < length (H .edges)) (ro
   to = (edge H j) .to
 
   abbrev once : List ℕ
-  once = put-bit w (30816 + 32 * (10 * fr + lab)) to
+  once = put-bit w (neighbours-base + line-bytes * (10 * fr + lab)) to
 
   abbrev twice : List ℕ
-  twice = put-bit once (30816 + 32 * (10 * to + 9)) fr
+  twice = put-bit once (neighbours-base + line-bytes * (10 * to + 9)) fr
 
   abbrev bounds : (fr < 256) × (to < 256) × (lab < 9)
   bounds = inside j hj
 
-  first-fits : 30816 + 32 * (10 * fr + lab) + to / 8 < length w
+  first-fits : neighbours-base + line-bytes * (10 * fr + lab) + to / 8 < length w
   first-fits = omega (arith, bounds .0, bounds .1, bounds .2)
 
-  second-fits : 30816 + 32 * (10 * to + 9) + fr / 8 < length once
-  second-fits = omega (arith, bounds .0, bounds .1, length-put-bit w (30816 + 32 * (10 * fr + lab)) to)
+  second-fits : neighbours-base + line-bytes * (10 * to + 9) + fr / 8 < length once
+  second-fits = omega (arith, bounds .0, bounds .1, length-put-bit w (neighbours-base + line-bytes * (10 * fr + lab)) to)
 
   -- what stands in a row of neighbours after both, and what was there
-  both-i : (m y : ℕ) → y < 256 → T (neighbour w m y) → T (neighbour twice m y)
+  both-i : (m y : ℕ) → y < max-nodes → T (neighbour w m y) → T (neighbour twice m y)
   both-i m y c t = put-i once (10 * to + 9) fr second-fits (bounds .0) m y c (put-i w (10 * fr + lab) to first-fits (bounds .1) m y c t)
 
-  both-e : (m y : ℕ) → y < 256 → T (neighbour twice m y) → ((10 * to + 9 ≡ m) × (fr ≡ y)) ⊎ (((10 * fr + lab ≡ m) × (to ≡ y)) ⊎ T (neighbour w m y))
+  both-e : (m y : ℕ) → y < max-nodes → T (neighbour twice m y) → ((10 * to + 9 ≡ m) × (fr ≡ y)) ⊎ (((10 * fr + lab ≡ m) × (to ≡ y)) ⊎ T (neighbour w m y))
   both-e m y c t = go (put-e once (10 * to + 9) fr second-fits (bounds .0) m y c t)
     where
       go : ((10 * to + 9 ≡ m) × (fr ≡ y)) ⊎ T (neighbour once m y) → ((10 * to + 9 ≡ m) × (fr ≡ y)) ⊎ (((10 * fr + lab ≡ m) × (to ≡ y)) ⊎ T (neighbour w m y))
@@ -228,12 +230,12 @@ module _ (H : Graph) (n j : ℕ) (w : List ℕ) (hj : j < length (H .edges)) (ro
     before-full = λ d h. before-all d h (ℕ-discrete d j);
   })
     where
-      after : (x l y : ℕ) → x < n → l < 9 → y < 256 → ((10 * to + 9 ≡ 10 * x + l) × (fr ≡ y)) ⊎ (((10 * fr + lab ≡ 10 * x + l) × (to ≡ y)) ⊎ T (follows w x l y)) → Reaches H (λ (t : ℕ). t ≡ y) x l
+      after : (x l y : ℕ) → x < n → l < 9 → y < max-nodes → ((10 * to + 9 ≡ 10 * x + l) × (fr ≡ y)) ⊎ (((10 * fr + lab ≡ 10 * x + l) × (to ≡ y)) ⊎ T (follows w x l y)) → Reaches H (λ (t : ℕ). t ≡ y) x l
       after x l y a b c (inl e) = absurd (omega (arith, e .0))
       after x l y a b c (inr (inl e)) = (j, hj, omega (arith, e .0, bounds .2), omega (arith, e .0, bounds .2), e .1)
       after x l y a b c (inr (inr t)) = p .after-sound x l y a b c t
 
-      before : (y x : ℕ) → y < n → x < 256 → ((10 * to + 9 ≡ 10 * y + 9) × (fr ≡ x)) ⊎ (((10 * fr + lab ≡ 10 * y + 9) × (to ≡ x)) ⊎ T (comes w y x)) → Leads H x y
+      before : (y x : ℕ) → y < n → x < max-nodes → ((10 * to + 9 ≡ 10 * y + 9) × (fr ≡ x)) ⊎ (((10 * fr + lab ≡ 10 * y + 9) × (to ≡ x)) ⊎ T (comes w y x)) → Leads H x y
       before y x a c (inl e) = (j, hj, e .1, omega (arith, e .0))
       before y x a c (inr (inl e)) = absurd (omega (arith, e .0, bounds .2))
       before y x a c (inr (inr t)) = p .before-sound y x a c t

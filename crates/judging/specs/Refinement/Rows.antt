@@ -14,6 +14,7 @@ use lib.Seq.{getD-set-same, getD-set-other}
 use Rattle.files.specs.Basics.Tests.{all, all-e, any, any-e, upto, upto-i, upto-e, same, same→eq, or-e, or-l, or-r}
 use Rattle.files.specs.Cells.{has-bit}
 use Rattle.files.specs.Cells.Laws.{digit, digit-or, digit-and, has-bit-is}
+use Rattle.files.specs.Places.{max-nodes}
 use Rattle.judging.specs.Chains.{Outside}
 
 -- ---- bytes, one after the other
@@ -74,7 +75,7 @@ pub lit-and : (x y j : ℕ) → lit (bitAnd x y) j ≡ (lit x j && lit y j)
 lit-and x y j = ap (λ (n : ℕ). eqb n 1) (digit-and x y j) ∙ by-digits bitAnd _&&_ refl refl refl refl x y j
 
 -- the digits that a byte lacks, computed
-pub lit-not : (y j : ℕ) → y < 256 → j < 8 → lit (255 - y) j ≡ not (lit y j)
+pub lit-not : (y j : ℕ) → y < max-nodes → j < 8 → lit (255 - y) j ≡ not (lit y j)
 lit-not y j h m = same→eq (lit (255 - y) j) (not (lit y j)) (all-e (right y) (upto 8) (all-e (λ (a : ℕ). all (right a) (upto 8)) (upto 256) tt y (upto-i 256 y h)) j (upto-i 8 j m))
   where
     right : ℕ → ℕ → Bool
@@ -84,7 +85,7 @@ pub lit-zero : (j : ℕ) → lit 0 j ≡ false
 lit-zero j = ap (λ (n : ℕ). eqb (n % 2) 1) (zero-div (2 ^ j))
 
 -- a byte that is not 0 has a digit, computed
-pub some-lit : (x : ℕ) → x < 256 → (x ≡ 0 → ⊥) → (j : ℕ) × (j < 8) × T (lit x j)
+pub some-lit : (x : ℕ) → x < max-nodes → (x ≡ 0 → ⊥) → (j : ℕ) × (j < 8) × T (lit x j)
 some-lit x h n = go (or-e (eqb x 0) (any (lit x) (upto 8)) (all-e right (upto 256) tt x (upto-i 256 x h)))
   where
     right : ℕ → Bool
@@ -131,5 +132,5 @@ byte-lit l at k j h =
     has-bit-is l at (8 * k + j) ∙ ap₂ (λ (m n : ℕ). lit (getD l (at + m) 0) n) a b
 
 -- a row whose 32 bytes are known
-pub row-bits : (f : ℕ → ℕ) (l : List ℕ) (at : ℕ) → ((j : ℕ) → j < 32 → getD l (at + j) 0 ≡ f j) → (h : ℕ) → h < 256 → has-bit l at h ≡ lit (f (h / 8)) (h % 8)
+pub row-bits : (f : ℕ → ℕ) (l : List ℕ) (at : ℕ) → ((j : ℕ) → j < 32 → getD l (at + j) 0 ≡ f j) → (h : ℕ) → h < max-nodes → has-bit l at h ≡ lit (f (h / 8)) (h % 8)
 row-bits f l at b h m = has-bit-is l at h ∙ ap (λ (n : ℕ). lit n (h % 8)) (b (h / 8) (omega arith))

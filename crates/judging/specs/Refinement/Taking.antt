@@ -15,26 +15,28 @@ use Rattle.files.specs.Basics.Tests.{decide, T-eq}
 use Rattle.files.specs.Cells.{has-bit}
 use Rattle.files.specs.Cells.Laws.{bit-byte}
 use Rattle.files.specs.Graph.{Graph, Edge, size, node, no-edge, Flow}
+use Rattle.files.specs.Places.{max-edges, max-nodes, line-bytes}
 use Rattle.judging.specs.Chains.{Outside}
+use Rattle.judging.specs.Places.{held-base}
 use Rattle.judging.specs.Refinement.{rel, held, load, edge, Refining, Shrank, LabelMatched, NodeMatched, Leading, Took, MatchedAt, Matching, Settled}
 use Rattle.judging.specs.Refinement.Handing.{looked-up-kept}
 use Rattle.files.specs.Graph.Ends.{from-in, to-in}
 use Rattle.judging.specs.Simulation.{Simulation, related}
 use Rattle.judging.specs.Simulation.Laws.{alike-e, related-e, largest}
 
-module _ (G H : Graph) (fl : Flow G) (fk : Flow H) (fg : size G ≤ 256) (fh : size H ≤ 256) (eg : length (G .edges) ≤ 4096) where
+module _ (G H : Graph) (fl : Flow G) (fk : Flow H) (fg : size G ≤ max-nodes) (fh : size H ≤ max-nodes) (eg : length (G .edges) ≤ max-edges) where
   -- ---- one row
 
   -- the row of v was r; it is handed on, then held
-  module _ (v : ℕ) (hv : v < size G) (w w₁ w₂ r : List ℕ) (was : (h : ℕ) → h < 256 → has-bit r 0 h ≡ rel w v h) (x : Shrank G H w w₁) (all : (l : ℕ) → l < 9 → LabelMatched G H w₁ v l r)
-      (labels : (e : ℕ) → e < length (G .edges) → (edge G e) .label < 9) (now : (h : ℕ) → h < 256 → held w₂ v h ≡ has-bit r 0 h) (o : Outside (8192 + 32 * v) (8192 + 32 * v + 32) w₁ w₂) (long : length w₂ ≡ length w₁) where
-    rel-same : (g h : ℕ) → g < size G → h < 256 → rel w₂ g h ≡ rel w₁ g h
+  module _ (v : ℕ) (hv : v < size G) (w w₁ w₂ r : List ℕ) (was : (h : ℕ) → h < max-nodes → has-bit r 0 h ≡ rel w v h) (x : Shrank G H w w₁) (all : (l : ℕ) → l < 9 → LabelMatched G H w₁ v l r)
+      (labels : (e : ℕ) → e < length (G .edges) → (edge G e) .label < 9) (now : (h : ℕ) → h < max-nodes → held w₂ v h ≡ has-bit r 0 h) (o : Outside (held-base + line-bytes * v) (held-base + line-bytes * v + line-bytes) w₁ w₂) (long : length w₂ ≡ length w₁) where
+    rel-same : (g h : ℕ) → g < size G → h < max-nodes → rel w₂ g h ≡ rel w₁ g h
     rel-same g h a b = bit-byte w₂ w₁ (32 * g) (32 * g) h (o (32 * g + h / 8) (inl (omega arith)))
 
-    other : (g h : ℕ) → g < size G → h < 256 → (g ≡ v → ⊥) → held w₂ g h ≡ held w₁ g h
-    other g h a b n = bit-byte w₂ w₁ (8192 + 32 * g) (8192 + 32 * g) h (o (8192 + 32 * g + h / 8) (side (decLt g v)))
+    other : (g h : ℕ) → g < size G → h < max-nodes → (g ≡ v → ⊥) → held w₂ g h ≡ held w₁ g h
+    other g h a b n = bit-byte w₂ w₁ (held-base + line-bytes * g) (held-base + line-bytes * g) h (o (held-base + line-bytes * g + h / 8) (side (decLt g v)))
       where
-        side : Dec (g < v) → (8192 + 32 * g + h / 8 < 8192 + 32 * v) ⊎ (8192 + 32 * v + 32 ≤ 8192 + 32 * g + h / 8)
+        side : Dec (g < v) → (held-base + line-bytes * g + h / 8 < held-base + line-bytes * v) ⊎ (held-base + line-bytes * v + line-bytes ≤ held-base + line-bytes * g + h / 8)
         side (yes l) = inl (omega arith)
         side (no l) = inr (omega arith)
 
@@ -56,7 +58,7 @@ module _ (G H : Graph) (fl : Flow G) (fk : Flow H) (fg : size G ≤ 256) (fh : s
       matched = matched;
     }
       where
-        in-both : (g h : ℕ) → T (related G H g h) → (g < size G) × (h < 256)
+        in-both : (g h : ℕ) → T (related G H g h) → (g < size G) × (h < max-nodes)
         in-both g h t = let b = related-e G H fl fk g h t in (b .0, omega (arith, b .1))
 
   -- ---- all rows
@@ -91,7 +93,7 @@ module _ (G H : Graph) (fl : Flow G) (fk : Flow H) (fg : size G ≤ 256) (fh : s
   -- ---- before any row is taken
 
   -- where every node holds the whole second graph, edges are matched by whatever has their labels
-  pub matching-first : (w : List ℕ) → Refining G H w → ((v h : ℕ) → v < size G → h < 256 → held w v h ≡ ltb h (size H)) → ((e : ℕ) → e < length (G .edges) → (edge G e) .label < 9) → ((l : ℕ) → l < 9 → Leading G H w l) → Matching G H (size G) w
+  pub matching-first : (w : List ℕ) → Refining G H w → ((v h : ℕ) → v < size G → h < max-nodes → held w v h ≡ ltb h (size H)) → ((e : ℕ) → e < length (G .edges) → (edge G e) .label < 9) → ((l : ℕ) → l < 9 → Leading G H w l) → Matching G H (size G) w
   unfolding NodeMatched Leading
   matching-first w r whole labels leading = record {
     refining = r;
@@ -104,7 +106,7 @@ module _ (G H : Graph) (fl : Flow G) (fk : Flow H) (fg : size G ≤ 256) (fh : s
   -- ---- the pairs held
 
   module _ (v : ℕ) (w w′ : List ℕ) (hv : v < size G) (x : Matching G H (size G) w) (y : Took G H v w w′) where
-    fewer : (p : ℕ) → p < 256 * size G → T (held w′ (p / 256) (p % 256)) → T (held w (p / 256) (p % 256))
+    fewer : (p : ℕ) → p < max-nodes * size G → T (held w′ (p / 256) (p % 256)) → T (held w (p / 256) (p % 256))
     fewer p l t = go (ℕ-discrete (p / 256) v)
       where
         go : Dec (p / 256 ≡ v) → T (held w (p / 256) (p % 256))
@@ -116,7 +118,7 @@ module _ (G H : Graph) (fl : Flow G) (fk : Flow H) (fg : size G ≤ 256) (fh : s
     pub load-le : load (size G) w′ ≤ load (size G) w
     load-le = tally-up (λ (p : ℕ). held w′ (p / 256) (p % 256)) (λ (p : ℕ). held w (p / 256) (p % 256)) (256 * size G) fewer
 
-    pub load-lt : (h : ℕ) → h < 256 → T (held w v h) → (T (rel w v h) → ⊥) → load (size G) w′ < load (size G) w
+    pub load-lt : (h : ℕ) → h < max-nodes → T (held w v h) → (T (rel w v h) → ⊥) → load (size G) w′ < load (size G) w
     load-lt h b t n =
         let a : (256 * v + h) / 256 ≡ v = omega arith in
         let c : (256 * v + h) % 256 ≡ h = omega arith in
@@ -131,12 +133,12 @@ module _ (G H : Graph) (fl : Flow G) (fk : Flow H) (fg : size G ≤ 256) (fh : s
   -- ---- the end
 
   -- where no row has lost anything, the relation is the largest simulation
-  pub all-settled : (w : List ℕ) → Matching G H (size G) w → ((v h : ℕ) → v < size G → h < 256 → T (held w v h) → T (rel w v h)) → Settled G H w
+  pub all-settled : (w : List ℕ) → Matching G H (size G) w → ((v h : ℕ) → v < size G → h < max-nodes → T (held w v h) → T (rel w v h)) → Settled G H w
   unfolding Settled NodeMatched
   all-settled w x none g h hg hh = go (decide (rel w g h)) (decide (related G H g h))
     where
       Near : ℕ → ℕ → Type 0
-      Near u v = (u < size G) × (v < 256) × T (rel w u v)
+      Near u v = (u < size G) × (v < max-nodes) × T (rel w u v)
 
       r : Refining G H w
       r = x .refining
@@ -157,7 +159,7 @@ module _ (G H : Graph) (fl : Flow G) (fk : Flow H) (fg : size G ≤ 256) (fh : s
               let t = to-in G fl (i .0) (i .1) in
               let d = x .node-matched ((edge G (i .0)) .to) t (i .0) v (i .1) refl (y .1) (subst (λ (n : ℕ). T (rel w n v)) (sym f) (y .2)) in
               let k = index-e no-edge (H .edges) (d .0) (d .1) in
-              let z : (edge H (d .0)) .to < 256 = omega (arith, fk .to-node (edge H (d .0)) k) in
+              let z : (edge H (d .0)) .to < max-nodes = omega (arith, fk .to-node (edge H (d .0)) k) in
               (edge H (d .0), k, d .2, d .3 ∙ ap (λ (z : Edge). z .label) (i .2), subst (λ (n : Edge). Near (n .to) ((edge H (d .0)) .to)) (i .2) (t, z, none ((edge G (i .0)) .to) ((edge H (d .0)) .to) t z (d .4)))
 
       go : T (rel w g h) ⊎ T (not (rel w g h)) → T (related G H g h) ⊎ T (not (related G H g h)) → rel w g h ≡ related G H g h

@@ -15,9 +15,11 @@ use Rattle.files.specs.Basics.Tests.{any, any-i, grid, grid-i, length-grid}
 use Rattle.files.specs.Cells.{cell, put-cell, has-bit, put-bit}
 use Rattle.files.specs.Cells.Laws.{length-put-cell, length-put-bit, byte-outside, bit-outside, cell-agree, cell-same, cell-other, bit-same, bit-other, has-bit-is}
 use Rattle.files.specs.Graph.{Graph, size}
+use Rattle.files.specs.Places.{max-nodes, max-rows}
 use Rattle.files.specs.Property.{Row}
 use Rattle.judging.specs.Levels.Sheet.{same-pair}
 use Rattle.judging.specs.Levels.Sheet.Laws.{same-pair-e, same-pair-refl}
+use Rattle.judging.specs.Places.{firsts-base, judge-room, marks-base, max-pairs, queue-base}
 use Rattle.judging.specs.Ranking.{pair, queue-at}
 use Rattle.judging.specs.Ranking.Laws.{ranked-kept}
 use Rattle.judging.specs.Sheets.{Settled, Listed, listed, pair-of}
@@ -68,60 +70,60 @@ pair-of-pair g r h = let a : (32 * g + r) / 32 ≡ g = omega arith in let b : (3
 -- ---- one pair more
 
 abbrev marked : List ℕ → ℕ → ℕ → List ℕ
-marked w tail p = put-cell (put-bit w 32768 p) 16384 2 tail p
+marked w tail p = put-cell (put-bit w marks-base p) queue-base 2 tail p
 
-module _ (w : List ℕ) (tail p : ℕ) (in-marks : p < 8192) (in-queue : tail < 8192) (long : 41664 ≤ length w) where
+module _ (w : List ℕ) (tail p : ℕ) (in-marks : p < max-pairs) (in-queue : tail < max-pairs) (long : judge-room ≤ length w) where
   abbrev bitten : List ℕ
-  bitten = put-bit w 32768 p
+  bitten = put-bit w marks-base p
 
-  long-bitten : 41664 ≤ length bitten
-  long-bitten = omega (arith, length-put-bit w 32768 p)
+  long-bitten : judge-room ≤ length bitten
+  long-bitten = omega (arith, length-put-bit w marks-base p)
 
   pub marked-length : length (marked w tail p) ≡ length w
-  marked-length = length-put-cell bitten 16384 2 tail p ∙ length-put-bit w 32768 p
+  marked-length = length-put-cell bitten queue-base 2 tail p ∙ length-put-bit w marks-base p
 
   -- a byte that is neither in the queue nor among the marks
-  kept : (q : ℕ) → (q < 16384) ⊎ (33792 ≤ q) → getD (marked w tail p) q 0 ≡ getD w q 0
-  kept q (inl h) = byte-outside bitten 16384 2 tail p q (inl (omega arith)) ∙ bit-outside w 32768 p q (λ e. omega arith)
-  kept q (inr h) = byte-outside bitten 16384 2 tail p q (inr (omega arith)) ∙ bit-outside w 32768 p q (λ e. omega arith)
+  kept : (q : ℕ) → (q < queue-base) ⊎ (firsts-base ≤ q) → getD (marked w tail p) q 0 ≡ getD w q 0
+  kept q (inl h) = byte-outside bitten queue-base 2 tail p q (inl (omega arith)) ∙ bit-outside w marks-base p q (λ e. omega arith)
+  kept q (inr h) = byte-outside bitten queue-base 2 tail p q (inr (omega arith)) ∙ bit-outside w marks-base p q (λ e. omega arith)
 
-  rank-kept : (j : ℕ) → j < 8192 → cell (marked w tail p) 0 2 j ≡ cell w 0 2 j
+  rank-kept : (j : ℕ) → j < max-pairs → cell (marked w tail p) 0 2 j ≡ cell w 0 2 j
   rank-kept j h = cell-agree (marked w tail p) w 0 2 j (λ q a b. kept q (inl (omega arith)))
 
-  first-kept : (j : ℕ) → cell (marked w tail p) 33792 2 j ≡ cell w 33792 2 j
-  first-kept j = cell-agree (marked w tail p) w 33792 2 j (λ q a b. kept q (inr (omega arith)))
+  first-kept : (j : ℕ) → cell (marked w tail p) firsts-base 2 j ≡ cell w firsts-base 2 j
+  first-kept j = cell-agree (marked w tail p) w firsts-base 2 j (λ q a b. kept q (inr (omega arith)))
 
   queue-here : queue-at (marked w tail p) tail ≡ p
-  queue-here = cell-same bitten 16384 2 tail p (omega (arith, long-bitten)) (omega arith)
+  queue-here = cell-same bitten queue-base 2 tail p (omega (arith, long-bitten)) (omega arith)
 
   queue-there : (i : ℕ) → i < tail → queue-at (marked w tail p) i ≡ queue-at w i
-  queue-there i h = cell-other bitten 16384 2 tail i p (λ e. omega arith) ∙ cell-agree bitten w 16384 2 i (λ q a b. bit-outside w 32768 p q (λ e. omega arith))
+  queue-there i h = cell-other bitten queue-base 2 tail i p (λ e. omega arith) ∙ cell-agree bitten w queue-base 2 i (λ q a b. bit-outside w marks-base p q (λ e. omega arith))
 
   -- the queue's bytes do not touch the marks
-  mark-is : (h : ℕ) → has-bit (marked w tail p) 32768 h ≡ has-bit bitten 32768 h
+  mark-is : (h : ℕ) → has-bit (marked w tail p) marks-base h ≡ has-bit bitten marks-base h
   mark-is h =
-      has-bit-is (marked w tail p) 32768 h
-      ∙ ap (λ (x : ℕ). eqb (x / 2 ^ (h % 8) % 2) 1) (byte-outside bitten 16384 2 tail p (32768 + h / 8) (inr (omega arith)))
-      ∙ sym (has-bit-is bitten 32768 h)
+      has-bit-is (marked w tail p) marks-base h
+      ∙ ap (λ (x : ℕ). eqb (x / 2 ^ (h % 8) % 2) 1) (byte-outside bitten queue-base 2 tail p (marks-base + h / 8) (inr (omega arith)))
+      ∙ sym (has-bit-is bitten marks-base h)
 
-  mark-here : has-bit (marked w tail p) 32768 p ≡ true
-  mark-here = mark-is p ∙ bit-same w 32768 p (omega arith)
+  mark-here : has-bit (marked w tail p) marks-base p ≡ true
+  mark-here = mark-is p ∙ bit-same w marks-base p (omega arith)
 
-  mark-there : (h : ℕ) → (p ≡ h → ⊥) → has-bit (marked w tail p) 32768 h ≡ has-bit w 32768 h
-  mark-there h f = mark-is h ∙ bit-other w 32768 p h f
+  mark-there : (h : ℕ) → (p ≡ h → ⊥) → has-bit (marked w tail p) marks-base h ≡ has-bit w marks-base h
+  mark-there h f = mark-is h ∙ bit-other w marks-base p h f
 
 module _ (G : Graph) (P : List Row) where
   -- what is settled stays so where ranks and first edges read the same
-  pub settled-kept : (w w′ : List ℕ) → 41664 ≤ length w′ → size G ≤ 256 → length P ≤ 32 → ((j : ℕ) → j < 8192 → cell w′ 0 2 j ≡ cell w 0 2 j)
-      → ((j : ℕ) → j ≤ 256 → cell w′ 33792 2 j ≡ cell w 33792 2 j) → Settled G P w → Settled G P w′
+  pub settled-kept : (w w′ : List ℕ) → judge-room ≤ length w′ → size G ≤ max-nodes → length P ≤ max-rows → ((j : ℕ) → j < max-pairs → cell w′ 0 2 j ≡ cell w 0 2 j)
+      → ((j : ℕ) → j ≤ 256 → cell w′ firsts-base 2 j ≡ cell w firsts-base 2 j) → Settled G P w → Settled G P w′
   settled-kept w w′ long fn fr a b s = record {
     room = long;
     ranks = ranked-kept G P w w′ fn fr a (s .ranks);
     firsts = λ g h. b g (omega arith) ∙ s .firsts g h;
   }
 
-  module _ (fn : size G ≤ 256) (fr : length P ≤ 32) (tail : ℕ) (w : List ℕ) (x : Listed G P tail w) (g r : ℕ) (hg : g < size G) (hr : r < length P)
-      (new : has-bit w 32768 (pair g r) ≡ false) where
+  module _ (fn : size G ≤ max-nodes) (fr : length P ≤ max-rows) (tail : ℕ) (w : List ℕ) (x : Listed G P tail w) (g r : ℕ) (hg : g < size G) (hr : r < length P)
+      (new : has-bit w marks-base (pair g r) ≡ false) where
     unseen : any (same-pair (g, r)) (listed w tail) ≡ false
     unseen = sym (x .marks g r hg hr) ∙ new
 
@@ -143,7 +145,7 @@ module _ (G : Graph) (P : List Row) where
         let a = room (listed w tail ++ (g, r) ∷ []) (grid (size G) (length P)) once-more (λ y m. let b = inside-more y m in grid-i (size G) (length P) (y .0) (y .1) (b .0) (b .1)) in
         omega (arith, a, length-grid (size G) (length P), length-append (listed w tail) ((g, r) ∷ []), length-listed w tail)
 
-    pub in-queue : tail < 8192
+    pub in-queue : tail < max-pairs
     in-queue = omega (arith, few, mul-le-mul-left (size G) fr, fn)
 
     after : List ℕ
@@ -157,7 +159,7 @@ module _ (G : Graph) (P : List Row) where
         (listed-same w (marked w tail (pair g r)) tail (queue-there w tail (pair g r) (omega arith) in-queue (x .settled .room)))
         (ap pair-of (queue-here w tail (pair g r) (omega arith) in-queue (x .settled .room)) ∙ pair-of-pair g r (omega arith))
 
-    marks-after : (u q : ℕ) → u < size G → q < length P → has-bit (marked w tail (pair g r)) 32768 (pair u q) ≡ any (same-pair (u, q)) (listed w tail ++ (g, r) ∷ [])
+    marks-after : (u q : ℕ) → u < size G → q < length P → has-bit (marked w tail (pair g r)) marks-base (pair u q) ≡ any (same-pair (u, q)) (listed w tail ++ (g, r) ∷ [])
     marks-after u q hu hq = go (ℕ-discrete (pair g r) (pair u q)) ∙ sym (any-append (same-pair (u, q)) (listed w tail) ((g, r) ∷ []))
       where
         hit : T (same-pair (u, q) (g, r)) → true ≡ any (same-pair (u, q)) (listed w tail) || (same-pair (u, q) (g, r) || false)
@@ -176,11 +178,11 @@ module _ (G : Graph) (P : List Row) where
             go true false f = refl
             go false false f = refl
 
-        go : Dec (pair g r ≡ pair u q) → has-bit (marked w tail (pair g r)) 32768 (pair u q) ≡ any (same-pair (u, q)) (listed w tail) || (same-pair (u, q) (g, r) || false)
+        go : Dec (pair g r ≡ pair u q) → has-bit (marked w tail (pair g r)) marks-base (pair u q) ≡ any (same-pair (u, q)) (listed w tail) || (same-pair (u, q) (g, r) || false)
         go (yes e) =
             let a : u ≡ g = omega arith in
             let b : q ≡ r = omega arith in
-            ap (has-bit (marked w tail (pair g r)) 32768) (sym e) ∙ mark-here w tail (pair g r) (omega arith) in-queue (x .settled .room)
+            ap (has-bit (marked w tail (pair g r)) marks-base) (sym e) ∙ mark-here w tail (pair g r) (omega arith) in-queue (x .settled .room)
             ∙ hit (subst (λ (z : ℕ × ℕ). T (same-pair (u, q) z)) (ap₂ (λ (i j : ℕ). (i, j)) a b) (same-pair-refl (u, q)))
         go (no f) =
             mark-there w tail (pair g r) (omega arith) in-queue (x .settled .room) (pair u q) f ∙ x .marks u q hu hq

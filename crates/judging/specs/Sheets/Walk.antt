@@ -14,11 +14,13 @@ use Rattle.files.specs.Basics.Tests.{any, grid, grid-i, length-grid}
 use Rattle.files.specs.Cells.{put-at, has-bit}
 use Rattle.files.specs.Cells.Laws.{put-at-is, put-front, put-after}
 use Rattle.files.specs.Graph.{Graph, size, Flow}
+use Rattle.files.specs.Places.{record-len, max-nodes, max-rows}
 use Rattle.files.specs.Property.{Row, Property}
 use Rattle.judging.specs.Levels.{satisfies}
 use Rattle.judging.specs.Levels.Sheet.{same-pair, no-cause, causes, failing, pairs, fault, fault-bytes, sheet-bytes}
 use Rattle.judging.specs.Levels.Sheet.Causes.{Few, no-one, one-only, two-only, IsPair}
 use Rattle.judging.specs.Levels.Sheet.Laws.{pairs-some, sheet-bytes-are}
+use Rattle.judging.specs.Places.{marks-base, max-pairs}
 use Rattle.judging.specs.Ranking.{queue-at, pair}
 use Rattle.judging.specs.Sheets.{Settled, Listed, listed, pair-of}
 use Rattle.judging.specs.Sheets.Queue.{listed-none, listed-more, length-listed, listed-at, fresh-two, append-nothing}
@@ -66,7 +68,7 @@ module _ (G : Graph) (P : List Row) where
       omega (arith, a, length-grid (size G) (length P), length-listed w n)
 
   -- before the walk nothing is listed
-  pub listed-start : (w : List ℕ) → Settled G P w → size G ≤ 256 → length P ≤ 32 → ((p : ℕ) → p < 8192 → has-bit w 32768 p ≡ false) → Listed G P 0 w
+  pub listed-start : (w : List ℕ) → Settled G P w → size G ≤ max-nodes → length P ≤ max-rows → ((p : ℕ) → p < max-pairs → has-bit w marks-base p ≡ false) → Listed G P 0 w
   listed-start w s fn fr z = record {
     settled = s;
     marks = λ g r hg hr. z (pair g r) (omega arith) ∙ ap (any (same-pair (g, r))) (sym (listed-none w));
@@ -116,15 +118,15 @@ module _ (G : Graph) (P : List Row) (w : List ℕ) where
   abbrev pub bytes-of : ℕ → List ℕ
   bytes-of n = each (λ (x : ℕ × ℕ). fault-bytes (fault G P x)) (listed w n)
 
-  pub bytes-length : (n : ℕ) → length (bytes-of n) ≡ 6 * n
-  bytes-length n = go (listed w n) ∙ ap (λ (k : ℕ). 6 * k) (length-listed w n)
+  pub bytes-length : (n : ℕ) → length (bytes-of n) ≡ record-len * n
+  bytes-length n = go (listed w n) ∙ ap (λ (k : ℕ). record-len * k) (length-listed w n)
     where
-      go : (xs : List (ℕ × ℕ)) → length (each (λ (x : ℕ × ℕ). fault-bytes (fault G P x)) xs) ≡ 6 * length xs
+      go : (xs : List (ℕ × ℕ)) → length (each (λ (x : ℕ × ℕ). fault-bytes (fault G P x)) xs) ≡ record-len * length xs
       go [] = refl
       go (x ∷ xs) = omega (arith, length-append (fault-bytes (fault G P x)) (each (λ (y : ℕ × ℕ). fault-bytes (fault G P y)) xs), go xs)
 
   -- one record more
-  pub bytes-more : (out : List ℕ) (n : ℕ) → put-at (put-at out 0 (bytes-of n)) (6 * n) (fault-bytes (fault G P (pair-of (queue-at w n)))) ≡ put-at out 0 (bytes-of (suc n))
+  pub bytes-more : (out : List ℕ) (n : ℕ) → put-at (put-at out 0 (bytes-of n)) (record-len * n) (fault-bytes (fault G P (pair-of (queue-at w n)))) ≡ put-at out 0 (bytes-of (suc n))
   bytes-more out n =
       let b : List ℕ = fault-bytes (fault G P (pair-of (queue-at w n))) in
       let e : bytes-of n ++ b ≡ bytes-of (suc n) =

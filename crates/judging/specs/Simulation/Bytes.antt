@@ -9,6 +9,7 @@ use lib.ListN.{getD}
 use Rattle.files.specs.Basics.Binary.{bit}
 use Rattle.files.specs.Basics.Tests.{imp, imp-i, imp-e, and-l, and-r, and-i, all, all-i, all-e, any, any-i, any-e, upto, upto-i, upto-e, one}
 use Rattle.files.specs.Graph.{Graph, Edge, size, node, Flow}
+use Rattle.files.specs.Places.{max-nodes}
 use Rattle.judging.specs.Simulation.{Simulation, keeps, related, simulates, relation-bytes}
 use Rattle.judging.specs.Simulation.Laws.{Keeps, keeps-e, keeps-i, related-simulation, covered-e, simulates-covers, relation-bit}
 
@@ -18,7 +19,7 @@ has l g h = eqb (bit (getD l (32 * g + h / 8) 0) (h % 8)) 1
 
 -- the relation that the bytes hold
 abbrev pub Says : Graph → List ℕ → ℕ → ℕ → Type 0
-Says G l g h = (g < size G) × (h < 256) × T (has l g h)
+Says G l g h = (g < size G) × (h < max-nodes) × T (has l g h)
 
 -- the bytes hold a simulation, and it gives every entry of the first graph a related entry of the second
 pub record Covering (G H : Graph) (l : List ℕ) : Type 0 where
@@ -54,10 +55,10 @@ module _ (G H : Graph) (l : List ℕ) (fg : Flow G) (fh : Flow H) (few : size H 
         (a .0, k, and-l ((node H (a .0)) .entry) (has l g (a .0)) (a .2), (hg, near (a .0) k, and-r ((node H (a .0)) .entry) (has l g (a .0)) (a .2)));
   }
     where
-      near : (h : ℕ) → h < size H → h < 256
+      near : (h : ℕ) → h < size H → h < max-nodes
       near h k = omega arith
 
-      below : (d : Edge) → List·Memᴰ d (H .edges) → d .to < 256
+      below : (d : Edge) → List·Memᴰ d (H .edges) → d .to < max-nodes
       below d m = near (d .to) (fh .to-node d m)
 
       kept : (g h : ℕ) → Says G l g h → T (ltb h (size H) && keeps G H (has l) g h)
@@ -86,7 +87,7 @@ module _ (G H : Graph) (l : List ℕ) (fg : Flow G) (fh : Flow H) (few : size H 
           }))
 
 -- what compare writes has bit h of node g's line where the largest simulation relates the two
-pub bit-says : (G H : Graph) (g h : ℕ) → g < size G → h < 256 → has (relation-bytes G H) g h ≡ related G H g h
+pub bit-says : (G H : Graph) (g h : ℕ) → g < size G → h < max-nodes → has (relation-bytes G H) g h ≡ related G H g h
 bit-says G H g h hg hh = ap (λ (n : ℕ). eqb n 1) (relation-bit G H g h hg hh) ∙ flag (related G H g h)
   where
     flag : (b : Bool) → eqb (one b) 1 ≡ b
@@ -119,4 +120,4 @@ module _ (G H : Graph) (fg : Flow G) (fh : Flow H) (few : size H < 257) where
       down g h x = subst T (bit-says G H g h (x .0) (x .1)) (x .2)
 
       up : (g h : ℕ) → g < size G → h < size H → T (related G H g h) → Says G (relation-bytes G H) g h
-      up g h hg hh r = let k : h < 256 = omega arith in (hg, k, subst T (sym (bit-says G H g h hg k)) r)
+      up g h hg hh r = let k : h < max-nodes = omega arith in (hg, k, subst T (sym (bit-says G H g h hg k)) r)

@@ -18,6 +18,7 @@ use Rattle.files.specs.Basics.Tests.{imp, imp-i, imp-e, and-l, and-r, and-i, sa
 use Rattle.files.specs.Graph.{Node, Edge, Graph, size, node, Flow}
 use Rattle.files.specs.Line.{relation-line}
 use Rattle.files.specs.Line.Laws.{line-size}
+use Rattle.files.specs.Places.{max-nodes}
 use Rattle.judging.specs.Sheets.Laws.{least-at, least-none}
 use Rattle.judging.specs.Simulation.{Simulation, Covered, Simulates, alike, matching, keeps, refined, related, covered, simulates, uncovered, relation-bytes}
 
@@ -273,7 +274,7 @@ module _ (G H : Graph) where
 -- ---- the bytes of the relation
 
 -- bit h of a line
-line-bit : (v : ℕ → Bool) (h : ℕ) → h < 256 → bit (getD (relation-line v) (h / 8) 0) (h % 8) ≡ one (v h)
+line-bit : (v : ℕ → Bool) (h : ℕ) → h < max-nodes → bit (getD (relation-line v) (h / 8) 0) (h % 8) ≡ one (v h)
 line-bit v h k =
     let a : h / 8 < 32 = omega arith in
     let b : h % 8 < 8 = omega arith in
@@ -289,7 +290,7 @@ module _ (G H : Graph) where
   relation-length = length-each 32 (λ (g : ℕ). relation-line (related G H g)) (λ g. line-size (related G H g)) (span 0 (size G)) ∙ ap (λ (n : ℕ). 32 * n) (length-span 0 (size G))
 
   -- bit h of node g's bytes says whether the two are related
-  pub relation-bit : (g h : ℕ) → g < size G → h < 256 → bit (getD (relation-bytes G H) (32 * g + h / 8) 0) (h % 8) ≡ one (related G H g h)
+  pub relation-bit : (g h : ℕ) → g < size G → h < max-nodes → bit (getD (relation-bytes G H) (32 * g + h / 8) 0) (h % 8) ≡ one (related G H g h)
   unfolding relation-bytes
   relation-bit g h hg hh =
       let a : h / 8 < 32 = omega arith in

@@ -19,6 +19,7 @@ use Rattle.maximal.specs.Masks.{rows, asked-of}
 use Rattle.maximal.specs.Masks.Laws.{value-lt}
 use Rattle.maximal.specs.Model.{State, Entry, Next, is-entry, is-next}
 use Rattle.maximal.specs.Charting.Entering.{still-there, method-kept, asked-kept, followed-kept, entry-bits-kept}
+use Rattle.maximal.specs.Places.{entries-slot, slots, max-states}
 
 module _ (I : Interface) (P : List Row) where
   abbrev n : ℕ
@@ -32,7 +33,7 @@ module _ (I : Interface) (P : List Row) where
     chart : Charting I P c q w
     chart = asking .charting
 
-    in-rows : q < 2304
+    in-rows : q < slots
     in-rows = omega (arith, chart .holds .few)
 
     here : q / 9 < c
@@ -91,7 +92,7 @@ module _ (I : Interface) (P : List Row) where
     abbrev in-list : ℕ → ℕ → ℕ → Bool
     in-list m e kind = eqb m kind && any (λ u. eqb e u) (sets kind)
 
-    row-bits : (t : ℕ) → t < 256 → target w′ q t ≡ (ltb t b && is-next I P s₀ l (stored n w′ t))
+    row-bits : (t : ℕ) → t < max-states → target w′ q t ≡ (ltb t b && is-next I P s₀ l (stored n w′ t))
     row-bits t m = y .marked t m ∙ ap (λ (z : Bool). z || (ltb t b && in-list (kind-at w′ t) (set-at w′ t) (2 * method + 1))) (x .marked t m ∙ ap (λ (z : Bool). z || (ltb t a && in-list (kind-at v t) (set-at v t) (2 * method))) (asking .blank t m))
         ∙ same-test ((ltb t a && in-list (kind-at v t) (set-at v t) (2 * method)) || (ltb t b && in-list (kind-at w′ t) (set-at w′ t) (2 * method + 1))) (ltb t b && is-next I P s₀ l (stored n w′ t))
         (λ z. forth (or-e (ltb t a && in-list (kind-at v t) (set-at v t) (2 * method)) (ltb t b && in-list (kind-at w′ t) (set-at w′ t) (2 * method + 1)) z))
@@ -152,7 +153,7 @@ module _ (I : Interface) (P : List Row) where
       followed = λ p h. each p h (ℕ-discrete p q);
     }
       where
-        entry-bits-first : (t : ℕ) → t < 256 → target v 2304 t ≡ (ltb t a && is-entry I P (stored n v t))
+        entry-bits-first : (t : ℕ) → t < max-states → target v entries-slot t ≡ (ltb t a && is-entry I P (stored n v t))
         entry-bits-first = entry-bits-kept I P wf c a (2 * method) (sets (2 * method)) q w v x (λ e. omega (arith, in-rows)) (chart .entry-bits) (chart .entries-there)
 
         entries-first : (s : State) → Entry I P s → (t : ℕ) × (t < a) × (stored n v t ≡ s)

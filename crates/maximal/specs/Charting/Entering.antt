@@ -19,6 +19,7 @@ use Rattle.maximal.specs.Masks.{member, rows, asked-of}
 use Rattle.maximal.specs.Model.{State, Entry, Next, is-entry, is-next}
 use Rattle.maximal.specs.Model.Computed.{entry-e, next-e}
 use Rattle.maximal.specs.Model.Supports.{length-tab}
+use Rattle.maximal.specs.Places.{asked-base, entries-slot, methods-base, slots, max-states}
 
 module _ (I : Interface) (P : List Row) where
   abbrev n : ℕ
@@ -34,8 +35,8 @@ module _ (I : Interface) (P : List Row) where
   -- ---- entering one list after another
 
   -- nothing is marked where the rows of bits stay
-  pub admitted-unmarked : (c c′ kind q : ℕ) (w w′ : List ℕ) → Holds I P c′ w′ → c ≤ c′ → ((i : ℕ) → i < c → kind-at w′ i ≡ kind-at w i) → ((i : ℕ) → i < c → set-at w′ i ≡ set-at w i) → q ≤ 2304
-      → ((p t : ℕ) → p ≤ 2304 → t < 256 → target w′ p t ≡ target w p t) → Elsewhere w w′ → Admitted I P c c′ kind [] q w w′
+  pub admitted-unmarked : (c c′ kind q : ℕ) (w w′ : List ℕ) → Holds I P c′ w′ → c ≤ c′ → ((i : ℕ) → i < c → kind-at w′ i ≡ kind-at w i) → ((i : ℕ) → i < c → set-at w′ i ≡ set-at w i) → q ≤ entries-slot
+      → ((p t : ℕ) → p ≤ entries-slot → t < max-states → target w′ p t ≡ target w p t) → Elsewhere w w′ → Admitted I P c c′ kind [] q w w′
   admitted-unmarked c c′ kind q w w′ h more kinds sets hq bits rest = record {
     holds = h;
     more = more;
@@ -53,7 +54,7 @@ module _ (I : Interface) (P : List Row) where
       or-none false true false = refl
       or-none false false c = refl
 
-  pub admitted-none : (c kind q : ℕ) (w : List ℕ) → Holds I P c w → q ≤ 2304 → Admitted I P c c kind [] q w w
+  pub admitted-none : (c kind q : ℕ) (w : List ℕ) → Holds I P c w → q ≤ entries-slot → Admitted I P c c kind [] q w w
   admitted-none c kind q w h hq = admitted-unmarked c c kind q w w h (omega arith) (λ i l. refl) (λ i l. refl) hq (λ p t a b. refl) (λ b d. refl)
 
   module _ (c a b kind : ℕ) (A B : List ℕ) (q : ℕ) (u v w : List ℕ) (x : Admitted I P c a kind A q u v) (y : Admitted I P a b kind B q v w) where
@@ -71,7 +72,7 @@ module _ (I : Interface) (P : List Row) where
         back (inr z) = let s = any-e (λ e. eqb t e) B z in any-i (λ e. eqb t e) (A ++ B) (s .0) (Memᴰ·append-right A (s .1)) (s .2)
 
     -- a state that was there before is marked by either list; one that was not can only be of the second
-    either-marked : (t : ℕ) → t < 256 → target w q t ≡ (target u q t || (ltb t b && (eqb (kind-at w t) kind && any (λ e. eqb (set-at w t) e) (A ++ B))))
+    either-marked : (t : ℕ) → t < max-states → target w q t ≡ (target u q t || (ltb t b && (eqb (kind-at w t) kind && any (λ e. eqb (set-at w t) e) (A ++ B))))
     either-marked t l =
         y .marked t l ∙ ap (λ (z : Bool). z || (ltb t b && (eqb (kind-at w t) kind && any (λ e. eqb (set-at w t) e) B))) (x .marked t l)
         ∙ go (decLt t a)
@@ -131,11 +132,11 @@ module _ (I : Interface) (P : List Row) where
     pub stored-kept : (i : ℕ) → i < c → stored n w′ i ≡ stored n w i
     stored-kept = stored-same I P c w w′ (x .kinds-kept) (x .sets-kept)
 
-    pub method-kept : (p : ℕ) → p < 2304 → method-at w′ p ≡ method-at w p
-    method-kept p l = cell-agree w′ w 1792 1 p (λ b h k. x .elsewhere b (inr (omega arith, omega arith)))
+    pub method-kept : (p : ℕ) → p < slots → method-at w′ p ≡ method-at w p
+    method-kept p l = cell-agree w′ w methods-base 1 p (λ b h k. x .elsewhere b (inr (omega arith, omega arith)))
 
-    pub asked-kept : (p : ℕ) → p < 2304 → asked-at w′ p ≡ asked-at w p
-    asked-kept p l = cell-agree w′ w 4096 4 p (λ b h k. x .elsewhere b (inr (omega arith, omega arith)))
+    pub asked-kept : (p : ℕ) → p < slots → asked-at w′ p ≡ asked-at w p
+    asked-kept p l = cell-agree w′ w asked-base 4 p (λ b h k. x .elsewhere b (inr (omega arith, omega arith)))
 
     -- a state that is there was there, if it was
     pub same-place : (t : ℕ) (s : State) → t < c′ → stored n w′ t ≡ s → (i : ℕ) × (i < c) × (stored n w i ≡ s) → t < c
@@ -157,7 +158,7 @@ module _ (I : Interface) (P : List Row) where
     rows-of : (t : ℕ) → length ((stored n w′ t) .rows) ≡ n
     rows-of t = length-tab (member (set-at w′ t)) n
 
-    pub followed-kept : (p : ℕ) → p < 2304 → (p ≡ q → ⊥) → p / 9 < c → Followed I P c w p → Followed I P c′ w′ p
+    pub followed-kept : (p : ℕ) → p < slots → (p ≡ q → ⊥) → p / 9 < c → Followed I P c w p → Followed I P c′ w′ p
     followed-kept p l d h f = record {
       bits = λ t m.
           x .others-kept p t (omega arith) m d ∙ f .bits t m
@@ -170,8 +171,8 @@ module _ (I : Interface) (P : List Row) where
       asked-is = λ t. asked-kept p l ∙ f .asked-is t ∙ ap (λ (k : ℕ). asked-of P k (p % 9)) (sym (x .sets-kept (p / 9) h));
     }
 
-    pub entry-bits-kept : (q ≡ 2304 → ⊥) → ((t : ℕ) → t < 256 → target w 2304 t ≡ (ltb t c && is-entry I P (stored n w t)))
-        → ((s : State) → Entry I P s → (t : ℕ) × (t < c) × (stored n w t ≡ s)) → (t : ℕ) → t < 256 → target w′ 2304 t ≡ (ltb t c′ && is-entry I P (stored n w′ t))
+    pub entry-bits-kept : (q ≡ entries-slot → ⊥) → ((t : ℕ) → t < max-states → target w entries-slot t ≡ (ltb t c && is-entry I P (stored n w t)))
+        → ((s : State) → Entry I P s → (t : ℕ) × (t < c) × (stored n w t ≡ s)) → (t : ℕ) → t < max-states → target w′ entries-slot t ≡ (ltb t c′ && is-entry I P (stored n w′ t))
     entry-bits-kept d f g t m =
-        x .others-kept 2304 t (omega arith) m (λ e. d (sym e)) ∙ f t m
+        x .others-kept entries-slot t (omega arith) m (λ e. d (sym e)) ∙ f t m
         ∙ tested (is-entry I P) (λ i k z. same-place i (stored n w′ i) k refl (g (stored n w′ i) (entry-e I P wf (stored n w′ i) (rows-of i) z))) t

@@ -21,6 +21,7 @@ use Rattle.maximal.specs.Masks.Laws.{value-lt}
 use Rattle.maximal.specs.Model.{State, Entry, is-entry}
 use Rattle.maximal.specs.Model.Computed.{entry-e, entry-i}
 use Rattle.maximal.specs.Model.Supports.{length-tab}
+use Rattle.maximal.specs.Places.{entries-slot, max-states}
 
 module _ (I : Interface) (P : List Row) where
   abbrev n : ℕ
@@ -33,12 +34,12 @@ module _ (I : Interface) (P : List Row) where
   -- those are there, and marked
   pub record EntriesBelow (k c : ℕ) (w : List ℕ) : Type 0 where
     pub holds : Holds I P c w
-    pub bits : (t : ℕ) → t < 256 → target w 2304 t ≡ (ltb t c && early k (stored n w t))
+    pub bits : (t : ℕ) → t < max-states → target w entries-slot t ≡ (ltb t c && early k (stored n w t))
     pub there : (s : State) → Entry I P s → kind-of s < k → (t : ℕ) × (t < c) × (stored n w t ≡ s)
 
   -- ---- before all kinds
 
-  pub entries-none : (w : List ℕ) → ((t : ℕ) → t < 256 → target w 2304 t ≡ false) → EntriesBelow 2 0 w
+  pub entries-none : (w : List ℕ) → ((t : ℕ) → t < max-states → target w entries-slot t ≡ false) → EntriesBelow 2 0 w
   entries-none w blank = record {
     holds = record { few = omega arith; known = λ i l. absurd (omega arith); once = λ i j l m. absurd (omega arith) };
     bits = λ t l. blank t l ∙ sym (off (ltb t 0 && early 2 (stored n w t)) (λ z. absurd (below-none t (ltb→lt t 0 (and-l (ltb t 0) (early 2 (stored n w t)) z)))));
@@ -51,7 +52,7 @@ module _ (I : Interface) (P : List Row) where
   -- ---- one kind more
 
   -- A has the sets of the entries of kind k
-  module _ (wf : Property P) (k c c′ : ℕ) (A : List ℕ) (w w′ : List ℕ) (e : EntriesBelow k c w) (x : Admitted I P c c′ k A 2304 w w′)
+  module _ (wf : Property P) (k c c′ : ℕ) (A : List ℕ) (w w′ : List ℕ) (e : EntriesBelow k c w) (x : Admitted I P c c′ k A entries-slot w w′)
       (entries : (u : ℕ) → u < 2 ^ n → is-entry I P (state-of n k u) ≡ any (λ (y : ℕ). eqb u y) A) where
     abbrev at : ℕ → State
     at t = stored n w′ t
@@ -104,11 +105,11 @@ module _ (I : Interface) (P : List Row) where
     -- an early state was there before
     was-there : (t : ℕ) → t < c′ → T (early k (at t)) → t < c
     was-there t l z =
-        same-place I P wf c c′ k A 2304 w w′ x t (at t) l refl
+        same-place I P wf c c′ k A entries-slot w w′ x t (at t) l refl
         (e .there (at t) (is-entry-e t (and-l (is-entry I P (at t)) (ltb (kind-of (at t)) k) z)) (ltb→lt (kind-of (at t)) k (and-r (is-entry I P (at t)) (ltb (kind-of (at t)) k) z)))
 
     found : (s : State) → Entry I P s → kind-of s < k + 1 → Dec (kind-of s < k) → (t : ℕ) × (t < c′) × (stored n w′ t ≡ s)
-    found s y l (yes m) = still-there I P wf c c′ k A 2304 w w′ x s (e .there s y m)
+    found s y l (yes m) = still-there I P wf c c′ k A entries-slot w w′ x s (e .there s y m)
     found s y l (no m) =
         let d : kind-of s ≡ k = omega arith in
         let r : length (s .rows) ≡ n = y .minimal .support .of-rows in
@@ -123,7 +124,7 @@ module _ (I : Interface) (P : List Row) where
       holds = x .holds;
       bits = λ t l.
           x .marked t l
-          ∙ ap (λ (z : Bool). z || (ltb t c′ && in-list t)) (e .bits t l ∙ tested I P wf c c′ k A 2304 w w′ x (early k) was-there t)
+          ∙ ap (λ (z : Bool). z || (ltb t c′ && in-list t)) (e .bits t l ∙ tested I P wf c c′ k A entries-slot w w′ x (early k) was-there t)
           ∙ one-more t;
       there = λ s y l. found s y l (decLt (kind-of s) k);
     }

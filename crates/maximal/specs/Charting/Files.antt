@@ -7,6 +7,7 @@ use lib.ListN.{length}
 use Rattle.files.specs.Access.{PropertyFile}
 use Rattle.files.specs.Decode.{decode-property}
 use Rattle.files.specs.Decode.Properties.{decoded-rows, decoded-property}
+use Rattle.files.specs.Places.{max-rows}
 use Rattle.files.specs.Property.{Property}
 use Rattle.files.specs.Record.{count}
 use Rattle.maximal.specs.declared.places.Scope.{Scope}
@@ -22,7 +23,7 @@ module _ (s : Scope) (p : List ℕ) (x : Scoped s p) where
   pub rows-is : length (decode-property p) ≡ s .rows
   rows-is = file-rows p (x .file) ∙ sym (x .rows-are)
 
-  pub rows-fit : length (decode-property p) ≤ 32
+  pub rows-fit : length (decode-property p) ≤ max-rows
   rows-fit = omega (arith, rows-is, x .few-rows)
 
   pub rows-named : Property (decode-property p)

@@ -12,6 +12,7 @@ use lib.ListN.{length, getD}
 use Rattle.files.specs.Basics.Binary.{value}
 use Rattle.files.specs.Basics.Tests.{decide, T-eq, and-l, and-r, any}
 use Rattle.files.specs.Interface.{Interface, provides}
+use Rattle.files.specs.Places.{line-bytes}
 use Rattle.files.specs.Property.{Row, Property}
 use Rattle.maximal.specs.Collected.{or-count, supports-of}
 use Rattle.maximal.specs.Charting.{flag-of, kind-at, set-at, state-of, stored, method-at, asked-at, target, Followed, Charting, Asking, Charted}
@@ -22,6 +23,7 @@ use Rattle.maximal.specs.Masks.Laws.{value-lt}
 use Rattle.maximal.specs.Model.{State, Next, Reached, at-entry, at-next, is-entry, is-label, is-next}
 use Rattle.maximal.specs.Model.Computed.{next-e, next-i, label-i}
 use Rattle.maximal.specs.Model.Supports.{length-tab}
+use Rattle.maximal.specs.Places.{entries-slot, slots, targets-base, max-states}
 
 module _ (I : Interface) (P : List Row) where
   abbrev n : ℕ
@@ -29,7 +31,7 @@ module _ (I : Interface) (P : List Row) where
 
   -- ---- a slot without a label, and one that asks as an earlier one did
 
-  pub followed-none : (wf : Property P) (c q : ℕ) (w : List ℕ) → ((t : ℕ) → t < 256 → target w q t ≡ false) → method-at w q ≡ 0 → (T (is-label I P (q % 9)) → ⊥) → Charting I P c q w → Charting I P c (q + 1) w
+  pub followed-none : (wf : Property P) (c q : ℕ) (w : List ℕ) → ((t : ℕ) → t < max-states → target w q t ≡ false) → method-at w q ≡ 0 → (T (is-label I P (q % 9)) → ⊥) → Charting I P c q w → Charting I P c (q + 1) w
   followed-none wf c q w blank none no-label x = record {
     holds = x .holds;
     entry-bits = x .entry-bits;
@@ -70,11 +72,11 @@ module _ (I : Interface) (P : List Row) where
 
   -- row q made as that of an earlier slot p with the same method that asks for the same set
   pub followed-again : (wf : Property P) (k : ℕ) (enough : or-count P ≤ k) (c q method set p : ℕ) (w w′ : List ℕ) → q < 9 * c → p < q → 0 < method → method-at w p ≡ method → asked-at w p ≡ set
-      → Asking I P c q method set w → ((t : ℕ) → t < 256 → target w′ q t ≡ target w p t) → ((b : ℕ) → (b < 13312 + 32 * q) ⊎ (13312 + 32 * q + 32 ≤ b) → getD w′ b 0 ≡ getD w b 0)
+      → Asking I P c q method set w → ((t : ℕ) → t < max-states → target w′ q t ≡ target w p t) → ((b : ℕ) → (b < targets-base + line-bytes * q) ⊎ (targets-base + line-bytes * q + line-bytes ≤ b) → getD w′ b 0 ≡ getD w b 0)
       → Charting I P c (q + 1) w′
   followed-again wf k enough c q method set p w w′ in-slots pq pos at-p asked-p asking row rest = record {
     holds = holds-same I P c w w′ kind-same set-same (x .holds);
-    entry-bits = λ t m. other 2304 t (omega arith) m (λ e. omega arith) ∙ x .entry-bits t m ∙ test (is-entry I P) t;
+    entry-bits = λ t m. other entries-slot t (omega arith) m (λ e. omega arith) ∙ x .entry-bits t m ∙ test (is-entry I P) t;
     entries-there = λ s e. moved s (x .entries-there s e);
     followed = λ i h. each i h (ℕ-discrete i q);
   }
@@ -82,7 +84,7 @@ module _ (I : Interface) (P : List Row) where
       x : Charting I P c q w
       x = asking .charting
 
-      in-rows : q < 2304
+      in-rows : q < slots
       in-rows = omega (arith, x .holds .few)
 
       kind-same : (i : ℕ) → i < c → kind-at w′ i ≡ kind-at w i
@@ -91,13 +93,13 @@ module _ (I : Interface) (P : List Row) where
       set-same : (i : ℕ) → i < c → set-at w′ i ≡ set-at w i
       set-same i h = row-sets q w w′ rest i (omega (arith, x .holds .few))
 
-      method-same : (i : ℕ) → i < 2304 → method-at w′ i ≡ method-at w i
+      method-same : (i : ℕ) → i < slots → method-at w′ i ≡ method-at w i
       method-same = row-methods q w w′ rest
 
-      asked-same : (i : ℕ) → i < 2304 → asked-at w′ i ≡ asked-at w i
+      asked-same : (i : ℕ) → i < slots → asked-at w′ i ≡ asked-at w i
       asked-same = row-asked q w w′ rest
 
-      other : (i t : ℕ) → i ≤ 2304 → t < 256 → (i ≡ q → ⊥) → target w′ i t ≡ target w i t
+      other : (i t : ℕ) → i ≤ entries-slot → t < max-states → (i ≡ q → ⊥) → target w′ i t ≡ target w i t
       other = row-others q w w′ rest
 
       test : (f : State → Bool) (t : ℕ) → (ltb t c && f (stored n w t)) ≡ (ltb t c && f (stored n w′ t))

@@ -15,6 +15,7 @@ use Rattle.files.specs.Decode.{graph-bytes, node-rec, edge-rec}
 use Rattle.files.specs.Decode.Written.{graph-bytes-is}
 use Rattle.files.specs.Graph.{Edge, Node, size}
 use Rattle.files.specs.Interface.{Interface}
+use Rattle.files.specs.Places.{record-len}
 use Rattle.files.specs.Property.{Row, Property}
 use Rattle.files.specs.Record.{six, write}
 use Rattle.maximal.specs.Charting.{kind-at, order-at, Arranged, in-order}
@@ -24,6 +25,7 @@ use Rattle.maximal.specs.Listing.{leads, tally-under, tally-from, tally-
 use Rattle.maximal.specs.Model.{State, no-state, is-next, states, model}
 use Rattle.maximal.specs.Model.Computed.{model-size}
 use Rattle.maximal.specs.Model.Listed.{made-node, made-edge, model-nodes, model-edges}
+use Rattle.maximal.specs.Places.{max-states}
 
 -- ---- lists over a span
 
@@ -71,7 +73,7 @@ module _ (w : List ℕ) where
   pub nodes-more : (n : ℕ) → nodes-bytes (suc n) ≡ nodes-bytes n ++ node-bytes w n
   nodes-more n = each-more (node-bytes w) n
 
-  pub nodes-length : (n : ℕ) → length (nodes-bytes n) ≡ 6 * n
+  pub nodes-length : (n : ℕ) → length (nodes-bytes n) ≡ record-len * n
   nodes-length n = omega (arith, length-each 6 (node-bytes w) (λ i. refl) (span 0 n), length-span 0 n)
 
 module _ (w : List ℕ) (c : ℕ) where
@@ -87,7 +89,7 @@ module _ (w : List ℕ) (c : ℕ) where
   tally-from-none i = refl
 
   -- at most 256 states follow under a label
-  pub tally-from-le : (i n : ℕ) → c ≤ 256 → tally-from w c i n ≤ 256 * n
+  pub tally-from-le : (i n : ℕ) → c ≤ max-states → tally-from w c i n ≤ max-states * n
   tally-from-le i zero h = omega (arith, tally-from-none i)
   tally-from-le i (suc n) h = omega (arith, tally-from-more i n, tally-le (leads w i n) c, tally-from-le i n h)
 
@@ -98,10 +100,10 @@ module _ (w : List ℕ) (c : ℕ) where
   pub edges-more : (n : ℕ) → edges-bytes (suc n) ≡ edges-bytes n ++ from-bytes w c n 9
   edges-more n = each-more (λ (i : ℕ). from-bytes w c i 9) n
 
-  pub under-length : (i l : ℕ) → length (under-bytes w c i l) ≡ 6 * tally-under w c i l
-  under-length i l = length-each 6 (λ (j : ℕ). 2 ∷ i ∷ l ∷ j ∷ 0 ∷ 0 ∷ []) (λ j. refl) (keep (leads w i l) (span 0 c)) ∙ ap (λ (n : ℕ). 6 * n) (keep-tally (leads w i l) c)
+  pub under-length : (i l : ℕ) → length (under-bytes w c i l) ≡ record-len * tally-under w c i l
+  under-length i l = length-each 6 (λ (j : ℕ). 2 ∷ i ∷ l ∷ j ∷ 0 ∷ 0 ∷ []) (λ j. refl) (keep (leads w i l) (span 0 c)) ∙ ap (λ (n : ℕ). record-len * n) (keep-tally (leads w i l) c)
 
-  pub from-length : (i n : ℕ) → length (from-bytes w c i n) ≡ 6 * tally-from w c i n
+  pub from-length : (i n : ℕ) → length (from-bytes w c i n) ≡ record-len * tally-from w c i n
   from-length i zero = omega (arith, tally-from-none i)
   from-length i (suc n) = ap length (from-more i n) ∙ length-append (from-bytes w c i n) (under-bytes w c i n) ∙ omega (arith, from-length i n, under-length i n, tally-from-more i n)
 
@@ -109,7 +111,7 @@ module _ (w : List ℕ) (c : ℕ) where
   total zero = 0
   total (suc n) = total n + tally-from w c n 9
 
-  pub edges-length : (n : ℕ) → length (edges-bytes n) ≡ 6 * total n
+  pub edges-length : (n : ℕ) → length (edges-bytes n) ≡ record-len * total n
   edges-length zero = refl
   edges-length (suc n) = ap length (edges-more n) ∙ length-append (edges-bytes n) (from-bytes w c n 9) ∙ omega (arith, edges-length n, from-length n 9)
 
@@ -194,10 +196,10 @@ module _ (I : Interface) (P : List Row) (wf : Property P) (c : ℕ) (w : List �
   model-edges-many =
       let a = length-each 6 six (λ r. refl) (map edge-rec ((model I P) .edges)) in
       let b = length-map ((model I P) .edges) edge-rec in
-      let d : length (write (map edge-rec ((model I P) .edges))) ≡ 6 * total w c c = ap length edge-bytes-are ∙ edges-length w c c in
+      let d : length (write (map edge-rec ((model I P) .edges))) ≡ record-len * total w c c = ap length edge-bytes-are ∙ edges-length w c c in
       omega (arith, a, b, d)
 
-  pub model-length : length (graph-bytes (model I P)) ≡ 6 * (c + length ((model I P) .edges))
+  pub model-length : length (graph-bytes (model I P)) ≡ record-len * (c + length ((model I P) .edges))
   model-length =
       ap length model-bytes ∙ length-append (each (node-bytes w) (span 0 c)) (edges-bytes w c c)
       ∙ omega (arith, nodes-length w c, edges-length w c c, model-edges-many)

@@ -11,8 +11,9 @@ use Rattle.files.specs.Limits.{desk}
 use Rattle.files.specs.Outcome.{TooLarge, says}
 use Rattle.files.specs.Refusal.Examples.{one-one-accepted, one-none-accepted, p1-accepted, or-accepted, false-accepted}
 use Rattle.maximal.specs.Model.Examples.{p1-model, p2-model, p3-model}
-use Rattle.maximal.specs.Modelling.{model-room, modelled}
+use Rattle.maximal.specs.Modelling.{modelled}
 use Rattle.maximal.specs.Modelling.Laws.{model-on}
+use Rattle.maximal.specs.Places.{model-room}
 
 small-p1 : TooLarge desk p1-graph → ⊥
 small-p1 (inl h) = omega arith

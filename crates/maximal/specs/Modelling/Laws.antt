@@ -28,10 +28,11 @@ use Rattle.maximal.specs.Model.Ordered.{Earlier, earlier-not, state-orde
 use Rattle.maximal.specs.Model.Computed.{is-model}
 use Rattle.maximal.specs.Model.Filed.{model-is-of, model-filed}
 use Rattle.maximal.specs.Model.Maximal.{maximal}
-use Rattle.maximal.specs.Modelling.{model-room, model-first, model-graph, model-last, model-checks, model-lines, modelled, Models, modelled-answer}
+use Rattle.maximal.specs.Modelling.{model-first, model-graph, model-last, model-checks, model-lines, modelled, Models, modelled-answer}
 use Rattle.files.specs.Outcome.{published}
 use mathlib.Core.Bool.{true}
 use Rattle.files.specs.declared.refusal.Refusal.{Refusal}
+use Rattle.maximal.specs.Places.{model-room}
 use Rattle.maximal.specs.declared.answers.Modelled.the-variants.{Written, Refused}
 
 module _ (L : Limits) (i p : List ℕ) (out work : ℕ) where

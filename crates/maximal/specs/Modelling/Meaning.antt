@@ -13,6 +13,7 @@ use Rattle.files.specs.Graph.{Graph, size, Flow}
 use Rattle.files.specs.Interface.{Interface, Of}
 use Rattle.files.specs.Outcome.{Said, Outcome, Answer, Does, answer, refusal-at, NoneOf, Lines, graph-said}
 use Rattle.files.specs.Outcome.Meaning.{Decided, Refuses, Clears, Wrote, Enum, Heard, itself, heard-itself, only-verdict, outcome-case, said-iff, refuses-by, clears-by, wrote-by}
+use Rattle.files.specs.Places.{record-len}
 use Rattle.files.specs.Property.{Row}
 use Rattle.files.specs.Refusal.{graph, refusal}
 use Rattle.files.specs.declared.record.Limits.{Limits}
@@ -55,8 +56,8 @@ pub record ModelMeans {R : Type 0} (tell : Modelled → R) (L : Limits) (i p out
   pub refuses : Refuses (λ x. tell (Refused x)) (model-lines L i p (length out) (length work)) out out′ r
   pub clears : Clears (λ x. tell (Refused x)) work work′ r
   pub written-iff : ((n : ℕ) × (e : ℕ) × (r ≡ tell (Written n e))) ↔ NoneOf (model-lines L i p (length out) (length work))
-  pub writes : (n e : ℕ) → r ≡ tell (Written n e) → WrittenModel L (decode-interface i) (decode-property p) n e (take (6 * (n + e)) out′)
-  pub past-unchanged : (n e : ℕ) → r ≡ tell (Written n e) → drop (6 * (n + e)) out′ ≡ drop (6 * (n + e)) out
+  pub writes : (n e : ℕ) → r ≡ tell (Written n e) → WrittenModel L (decode-interface i) (decode-property p) n e (take (record-len * (n + e)) out′)
+  pub past-unchanged : (n e : ℕ) → r ≡ tell (Written n e) → drop (record-len * (n + e)) out′ ≡ drop (record-len * (n + e)) out
 
 -- ---- the outcome
 
@@ -104,12 +105,12 @@ module _ {R : Type 0} (tell : Modelled → R) (heard : Heard tell) (L : Limits) 
   edges-counted : (n e : ℕ) → tell c ≡ tell (Written n e) → length (G .edges) ≡ e
   edges-counted n e q = ap (λ (xs : List ℕ). getD xs 1 0) (is-written n e .0 q .2)
 
-  wrote : (n e : ℕ) → tell c ≡ tell (Written n e) → Wrote (6 * (n + e)) (graph-bytes G) out out′
+  wrote : (n e : ℕ) → tell c ≡ tell (Written n e) → Wrote (record-len * (n + e)) (graph-bytes G) out out′
   wrote n e q =
-      wrote-by o said ls d out out′ (does .answers .out-is) (is-written n e .0 q .0) (6 * (n + e))
-      (graph-length G ∙ ap₂ (λ (a b : ℕ). 6 * (a + b)) (nodes-counted n e q) (edges-counted n e q))
+      wrote-by o said ls d out out′ (does .answers .out-is) (is-written n e .0 q .0) (record-len * (n + e))
+      (graph-length G ∙ ap₂ (λ (a b : ℕ). record-len * (a + b)) (nodes-counted n e q) (edges-counted n e q))
 
-  writes : (n e : ℕ) → tell c ≡ tell (Written n e) → WrittenModel L (decode-interface i) (decode-property p) n e (take (6 * (n + e)) out′)
+  writes : (n e : ℕ) → tell c ≡ tell (Written n e) → WrittenModel L (decode-interface i) (decode-property p) n e (take (record-len * (n + e)) out′)
   writes n e q =
       let m = model-says L i p (length out) (length work) said (d .accepted .1 (is-written n e .0 q .0)) in
       let z = ap (λ (H : Graph). size H) (m .is-the-model) ∙ nodes-counted n e q in

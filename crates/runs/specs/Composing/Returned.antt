@@ -12,6 +12,7 @@ use Rattle.files.specs.Graph.{Graph}
 use Rattle.files.specs.Join.{join}
 use Rattle.files.specs.Outcome.{Said, Outcome, Answers, answer, says, Lines, NoneOf}
 use Rattle.files.specs.Outcome.Meaning.{Decided, Refuses, Heard, numbered-cond, case-cond, said-iff, refuses-by, wrote-by}
+use Rattle.files.specs.Places.{record-len}
 use Rattle.files.specs.Rules.{Monitor}
 use Rattle.runs.specs.Answer.{watched-answer, verdict-enum}
 use Rattle.runs.specs.Composing.{Side, gives, Admits, impossible, LoadsOn, SomeLoads, NoneLoads, AllClean, SomeBad, sides-said}
@@ -35,8 +36,8 @@ pub record SidesMeans {R : Type 0} (tell : Verdict → R) (ls : Lines) (A B : Si
   pub given : (n : ℕ) → v ≡ tell (Bad n) → LoadsOn A (gives A) × LoadsOn B (gives B)
   pub impossible-leaves : v ≡ tell Impossible → out′ ≡ out
   pub clean-leaves : v ≡ tell Clean → out′ ≡ out
-  pub bad-writes : (n : ℕ) → v ≡ tell (Bad n) → WrittenTrail (join (gives A) (gives B)) mon m n (take (6 * n) out′)
-  pub past-unchanged : (n : ℕ) → v ≡ tell (Bad n) → drop (6 * n) out′ ≡ drop (6 * n) out
+  pub bad-writes : (n : ℕ) → v ≡ tell (Bad n) → WrittenTrail (join (gives A) (gives B)) mon m n (take (record-len * n) out′)
+  pub past-unchanged : (n : ℕ) → v ≡ tell (Bad n) → drop (record-len * n) out′ ≡ drop (record-len * n) out
 
 module _ (A B : Side) (mon : Monitor) (m : ℕ) where
   pub sides-numbered : 0 < (sides-said A B mon m) .verdict

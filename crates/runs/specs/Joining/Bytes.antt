@@ -12,6 +12,7 @@ use Rattle.files.specs.Decode.Canonical.{nodes-written, edges-written}
 use Rattle.files.specs.Decode.Graphs.{few}
 use Rattle.files.specs.Decode.Written.{graph-bytes-is, length-write}
 use Rattle.files.specs.Graph.{Graph, Edge, size}
+use Rattle.files.specs.Places.{record-len}
 use Rattle.files.specs.Record.{part, six, write}
 use Rattle.judging.specs.Refinement.{Both}
 use Rattle.judging.specs.Refinement.Files.{first-size, second-size, first-edges}
@@ -52,23 +53,23 @@ module _ (s : Sizes) (f g : List ℕ) (both : Both s f g) where
   G = decode-graph g
 
   -- the parts stand in their files
-  pub first-room : 6 * (s .first .nodes + s .first .edges) ≤ length f
+  pub first-room : record-len * (s .first .nodes + s .first .edges) ≤ length f
   first-room = omega (arith, both .first-held .views .nodes-are, both .first-held .views .edges-are, few (both .first-held .views .graph-file .limits) f (both .first-held .views .graph-file .accepted))
 
-  pub first-cut : length (take (6 * s .first .nodes) f) ≡ 6 * s .first .nodes
-  first-cut = length-take-le (6 * s .first .nodes) f (omega (arith, first-room))
+  pub first-cut : length (take (record-len * s .first .nodes) f) ≡ record-len * s .first .nodes
+  first-cut = length-take-le (record-len * s .first .nodes) f (omega (arith, first-room))
 
-  pub second-cut : length (take (6 * s .second .nodes) g) ≡ 6 * s .second .nodes
-  second-cut = length-take-le (6 * s .second .nodes) g (omega (arith, both .second-held .views .nodes-are, few (both .second-held .views .graph-file .limits) g (both .second-held .views .graph-file .accepted)))
+  pub second-cut : length (take (record-len * s .second .nodes) g) ≡ record-len * s .second .nodes
+  second-cut = length-take-le (record-len * s .second .nodes) g (omega (arith, both .second-held .views .nodes-are, few (both .second-held .views .graph-file .limits) g (both .second-held .views .graph-file .accepted)))
 
   abbrev all-moved : List ℕ
   all-moved = write (map edge-rec (map (moved (s .first .nodes)) (G .edges)))
 
-  nodes-first : take (6 * s .first .nodes) f ≡ write (map node-rec (K .nodes))
-  nodes-first = ap (λ (n : ℕ). take (6 * n) f) (both .first-held .views .nodes-are) ∙ nodes-written (both .first-held .views .graph-file .limits) f (both .first-held .views .graph-file .accepted)
+  nodes-first : take (record-len * s .first .nodes) f ≡ write (map node-rec (K .nodes))
+  nodes-first = ap (λ (n : ℕ). take (record-len * n) f) (both .first-held .views .nodes-are) ∙ nodes-written (both .first-held .views .graph-file .limits) f (both .first-held .views .graph-file .accepted)
 
-  nodes-second : take (6 * s .second .nodes) g ≡ write (map node-rec (G .nodes))
-  nodes-second = ap (λ (n : ℕ). take (6 * n) g) (both .second-held .views .nodes-are) ∙ nodes-written (both .second-held .views .graph-file .limits) g (both .second-held .views .graph-file .accepted)
+  nodes-second : take (record-len * s .second .nodes) g ≡ write (map node-rec (G .nodes))
+  nodes-second = ap (λ (n : ℕ). take (record-len * n) g) (both .second-held .views .nodes-are) ∙ nodes-written (both .second-held .views .graph-file .limits) g (both .second-held .views .graph-file .accepted)
 
   edges-first : part f (s .first .nodes) (s .first .edges) ≡ write (map edge-rec (K .edges))
   edges-first = ap₂ (part f) (both .first-held .views .nodes-are) (both .first-held .views .edges-are) ∙ edges-written (both .first-held .views .graph-file .limits) f (both .first-held .views .graph-file .accepted)
@@ -82,21 +83,21 @@ module _ (s : Sizes) (f g : List ℕ) (both : Both s f g) where
   abbrev edge-run : List Edge → List ℕ
   edge-run es = write (map edge-rec es)
 
-  node-run-length : (H : Graph) → length (node-run H) ≡ 6 * size H
+  node-run-length : (H : Graph) → length (node-run H) ≡ record-len * size H
   node-run-length H = omega (arith, length-write (map node-rec (H .nodes)), length-map (H .nodes) node-rec)
 
-  edge-run-length : (es : List Edge) → length (edge-run es) ≡ 6 * length es
+  edge-run-length : (es : List Edge) → length (edge-run es) ≡ record-len * length es
   edge-run-length es = omega (arith, length-write (map edge-rec es), length-map es edge-rec)
 
   -- the four parts, stored one after another, are the joined graph
-  pub join-stored : (out o₁ o₂ o₃ o₄ c : List ℕ) → o₁ ≡ put-at out 0 (take (6 * s .first .nodes) f) → o₂ ≡ put-at o₁ (6 * s .first .nodes) (take (6 * s .second .nodes) g)
-      → o₃ ≡ put-at o₂ (6 * s .first .nodes + 6 * s .second .nodes) c → c ≡ part f (s .first .nodes) (s .first .edges) → o₄ ≡ put-at o₃ (6 * (s .first .nodes + s .second .nodes + s .first .edges)) all-moved
+  pub join-stored : (out o₁ o₂ o₃ o₄ c : List ℕ) → o₁ ≡ put-at out 0 (take (record-len * s .first .nodes) f) → o₂ ≡ put-at o₁ (record-len * s .first .nodes) (take (record-len * s .second .nodes) g)
+      → o₃ ≡ put-at o₂ (record-len * s .first .nodes + record-len * s .second .nodes) c → c ≡ part f (s .first .nodes) (s .first .edges) → o₄ ≡ put-at o₃ (record-len * (s .first .nodes + s .second .nodes + s .first .edges)) all-moved
       → o₄ ≡ put-at out 0 (graph-bytes (join K G))
   join-stored out o₁ o₂ o₃ o₄ c e₁ e₂ e₃ e e₄ =
       let d : List ℕ = edge-run (map (moved (size K)) (G .edges)) in
-      let p : ℕ = 6 * s .first .nodes in
-      let q : ℕ = 6 * s .first .nodes + 6 * s .second .nodes in
-      let r : ℕ = 6 * (s .first .nodes + s .second .nodes + s .first .edges) in
+      let p : ℕ = record-len * s .first .nodes in
+      let q : ℕ = record-len * s .first .nodes + record-len * s .second .nodes in
+      let r : ℕ = record-len * (s .first .nodes + s .second .nodes + s .first .edges) in
       let one : o₁ ≡ put-at out 0 (node-run K) = e₁ ∙ ap (put-at out 0) nodes-first in
       let two : o₂ ≡ put-at (put-at out 0 (node-run K)) p (node-run G) = e₂ ∙ ap₂ (λ (l m : List ℕ). put-at l p m) one nodes-second in
       let three : o₃ ≡ put-at (put-at (put-at out 0 (node-run K)) p (node-run G)) q (edge-run (K .edges)) = e₃ ∙ ap₂ (λ (l m : List ℕ). put-at l q m) two (e ∙ edges-first) in

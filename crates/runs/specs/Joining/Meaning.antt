@@ -13,6 +13,7 @@ use Rattle.files.specs.Graph.{Graph, size}
 use Rattle.files.specs.Interface.{Interface, Of, united}
 use Rattle.files.specs.Outcome.{Said, Outcome, Answer, Answers, answer, refusal-at, NoneOf, Lines}
 use Rattle.files.specs.Outcome.Meaning.{Decided, Refuses, Wrote, Enum, Heard, itself, heard-itself, only-verdict, outcome-case, said-iff, refuses-by, wrote-by}
+use Rattle.files.specs.Places.{record-len}
 use Rattle.files.specs.Refusal.{graph, refusal}
 use Rattle.files.specs.declared.record.Limits.{Limits}
 use Rattle.files.specs.Join.{join}
@@ -50,8 +51,8 @@ pub record JoinMeans {R : Type 0} (tell : Joined → R) (L : Limits) (i1 g1 i2 g
   pub refuses : Refuses (λ x. tell (Refused x)) (join-lines L i1 g1 i2 g2 (length out)) out out′ r
   pub written-iff : ((n : ℕ) × (e : ℕ) × (p : ℕ) × (q : ℕ) × (r ≡ tell (Written n e p q))) ↔ NoneOf (join-lines L i1 g1 i2 g2 (length out))
   pub writes : (n e p q : ℕ) → r ≡ tell (Written n e p q)
-      → WrittenJoin L (decode-interface i1) (decode-interface i2) (decode-graph g1) (decode-graph g2) n e p q (take (6 * (n + e)) out′)
-  pub past-unchanged : (n e p q : ℕ) → r ≡ tell (Written n e p q) → drop (6 * (n + e)) out′ ≡ drop (6 * (n + e)) out
+      → WrittenJoin L (decode-interface i1) (decode-interface i2) (decode-graph g1) (decode-graph g2) n e p q (take (record-len * (n + e)) out′)
+  pub past-unchanged : (n e p q : ℕ) → r ≡ tell (Written n e p q) → drop (record-len * (n + e)) out′ ≡ drop (record-len * (n + e)) out
   pub own-first : Of (decode-interface i1) (decode-graph g1) → (k : ℕ) → r ≡ tell (Refused (refusal-at 9 2 k)) → ⊥
   pub own-second : Of (decode-interface i2) (decode-graph g2) → (k : ℕ) → r ≡ tell (Refused (refusal-at 9 4 k)) → ⊥
 
@@ -102,13 +103,13 @@ module _ {R : Type 0} (tell : Joined → R) (heard : Heard tell) (L : Limits) (i
   value : (n e p q : ℕ) → tell c ≡ tell (Written n e p q) → (k : ℕ) → getD (said .values) k 0 ≡ getD (n ∷ e ∷ p ∷ q ∷ []) k 0
   value n e p q x k = ap (λ (xs : List ℕ). getD xs k 0) (is-written n e p q .0 x .2)
 
-  wrote : (n e p q : ℕ) → tell c ≡ tell (Written n e p q) → Wrote (6 * (n + e)) (graph-bytes G) out out′
+  wrote : (n e p q : ℕ) → tell c ≡ tell (Written n e p q) → Wrote (record-len * (n + e)) (graph-bytes G) out out′
   wrote n e p q x =
-      wrote-by o said ls d out out′ (answers .out-is) (is-written n e p q .0 x .0) (6 * (n + e))
-      (graph-length G ∙ ap₂ (λ (a b : ℕ). 6 * (a + b)) (value n e p q x 0) (value n e p q x 1))
+      wrote-by o said ls d out out′ (answers .out-is) (is-written n e p q .0 x .0) (record-len * (n + e))
+      (graph-length G ∙ ap₂ (λ (a b : ℕ). record-len * (a + b)) (value n e p q x 0) (value n e p q x 1))
 
   writes : (n e p q : ℕ) → tell c ≡ tell (Written n e p q)
-      → WrittenJoin L (decode-interface i1) (decode-interface i2) (decode-graph g1) (decode-graph g2) n e p q (take (6 * (n + e)) out′)
+      → WrittenJoin L (decode-interface i1) (decode-interface i2) (decode-graph g1) (decode-graph g2) n e p q (take (record-len * (n + e)) out′)
   writes n e p q x =
       let m = join-says L i1 g1 i2 g2 (length out) said (d .accepted .1 (is-written n e p q .0 x .0)) in
       subst (WrittenJoin L (decode-interface i1) (decode-interface i2) (decode-graph g1) (decode-graph g2) n e p q) (sym (wrote n e p q x .result)) (record {

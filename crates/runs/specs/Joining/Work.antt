@@ -12,6 +12,7 @@ use Rattle.files.specs.Graph.{Graph}
 use Rattle.files.specs.Interface.{Interface}
 use Rattle.files.specs.Outcome.{Said, Answers, refused-answer, verdict-answer, Check, whole-check, scan-check, file-checks, answered, refusal-at}
 use Rattle.files.specs.Outcome.Counted as counted
+use Rattle.files.specs.Places.{record-len}
 use Rattle.files.specs.Refusal.{graph, interface}
 use Rattle.files.specs.Settling.{Row, Settles}
 use Rattle.files.specs.Settling.Laws.{file-known}
@@ -88,10 +89,10 @@ module _ (L : Limits) (i1 g1 i2 g2 out : List ℕ) where
     large-refused = counted.large-refused L whole (nodes-joined s g1 g2 both) (edges-joined s g1 g2 both) both-bytes out
 
     module _ (within : passes-limits L s ≡ false) where
-      pub short-refused : length out < 6 * (s .first .nodes + s .second .nodes + (s .first .edges + s .second .edges)) → (r : Refusal) → r ≡ refusal-at 12 0 0 → Answers (answered on-size said) out out (refused-answer r)
+      pub short-refused : length out < record-len * (s .first .nodes + s .second .nodes + (s .first .edges + s .second .edges)) → (r : Refusal) → r ≡ refusal-at 12 0 0 → Answers (answered on-size said) out out (refused-answer r)
       short-refused = counted.short-refused L whole (nodes-joined s g1 g2 both) (edges-joined s g1 g2 both) both-bytes out within
 
-      pub join-written : 6 * (s .first .nodes + s .second .nodes + (s .first .edges + s .second .edges)) ≤ length out → (out′ : List ℕ) → out′ ≡ put-at out 0 (graph-bytes whole) → (p p₂ q q₂ : ℕ)
+      pub join-written : record-len * (s .first .nodes + s .second .nodes + (s .first .edges + s .second .edges)) ≤ length out → (out′ : List ℕ) → out′ ≡ put-at out 0 (graph-bytes whole) → (p p₂ q q₂ : ℕ)
           → p ≡ I .provided → p₂ ≡ J .provided → q ≡ I .required → q₂ ≡ J .required
           → Answers (answered on-size said) out out′ (verdict-answer 1 ((s .first .nodes + s .second .nodes) ∷ (s .first .edges + s .second .edges) ∷ bitOr p p₂ ∷ bitOr q q₂ ∷ []))
       join-written h out′ e p p₂ q q₂ a b c d =

@@ -22,6 +22,7 @@ use Rattle.files.specs.Graph.{Graph, Edge, size, node, Flow}
 use Rattle.files.specs.Rules.{Monitor, Event}
 use Rattle.runs.specs.Forward.{Met, Back, at-start, onward, UpTo, turned, fewer-due, next-item, all-met, best-found, turned-path, path-turned}
 use Rattle.runs.specs.Prepared.{Tables}
+use Rattle.runs.specs.Regions.{entered-base, points, seen-base, watch-room}
 use Rattle.runs.specs.Runs.{Bad}
 use Rattle.runs.specs.Summary.{Place, clean}
 use Rattle.runs.specs.Summary.Places.{not-clean-bad, clean-no-bad}
@@ -67,8 +68,8 @@ module _ (G : Graph) (mon : Monitor) (m : ℕ) where
 
   -- ---- the start
 
-  module _ (w : List ℕ) (room : 46949 ≤ length w) (tables : Tables G mon w) (zeros : (q : ℕ) → 46684 ≤ q → getD w q 0 ≡ 0) where
-    no-bit : (base h : ℕ) → 46684 ≤ base → T (has-bit w base h) → ⊥
+  module _ (w : List ℕ) (room : watch-room ≤ length w) (tables : Tables G mon w) (zeros : (q : ℕ) → seen-base ≤ q → getD w q 0 ≡ 0) where
+    no-bit : (base h : ℕ) → seen-base ≤ base → T (has-bit w base h) → ⊥
     no-bit base h b t = subst T (zero-bit w base h (zeros (base + h / 8) (omega arith))) t
 
     only-start : (x : Where) (rs : List Rec) → Back (leaving G mon m) end trail-rec-bytes before x rs → UpTo (leaving G mon m) end trail-rec-bytes [] rs
@@ -93,9 +94,9 @@ module _ (G : Graph) (mon : Monitor) (m : ℕ) where
       };
       linked = λ i z l. absurd (omega (arith, z, l));
       in-range = λ i z l. absurd (omega (arith, z, l));
-      seen-met = λ g q hg hq t. absurd (no-bit 46684 (8 * g + q) (omega arith) t);
+      seen-met = λ g q hg hq t. absurd (no-bit seen-base (8 * g + q) (omega arith) t);
       met-seen = λ g q hg hq k. absurd (not-here (k .0) (k .1) (record { at = g; now = q }) (k .2));
-      entered-seen = λ l q n hl hq t e. absurd (no-bit 46940 (8 * l + q) (omega arith) t);
+      entered-seen = λ l q n hl hq t e. absurd (no-bit entered-base (8 * l + q) (omega arith) t);
       few = one-le-suc (places-seen w);
     }
       where
@@ -222,7 +223,7 @@ module _ (G : Graph) (mon : Monitor) (m : ℕ) where
         go (inl c) = absurd (clean-no-bad G mon flow labels-small mon-small m c bad)
         go (inr c) = c
 
-        few-items : head < tail → tail ≤ suc (places-seen w) → head ≤ 2048
+        few-items : head < tail → tail ≤ suc (places-seen w) → head ≤ points
         few-items a b = few-by head tail (places-seen w) a b (places-most w)
 
     -- none is left

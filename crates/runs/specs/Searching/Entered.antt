@@ -15,11 +15,13 @@ use Rattle.files.specs.Basics.Tests.{any-i, any-e, same-test, eq-eqb}
 use Rattle.files.specs.Cells.{has-bit, put-bit}
 use Rattle.files.specs.Cells.Laws.{length-put-bit, bit-other, bit-outside, bit-byte, cell-agree}
 use Rattle.files.specs.Graph.{Graph, Edge, size, Flow, EntryOf}
+use Rattle.files.specs.Places.{max-edges, max-nodes}
 use Rattle.files.specs.Rules.{Monitor, Event, calls, returns-to}
 use Rattle.maximal.specs.Masks.{member}
 use Rattle.maximal.specs.Masks.Laws.{member-one}
 use Rattle.runs.specs.Forward.{Met, searched-same}
 use Rattle.runs.specs.Prepared.Files.{tables-kept}
+use Rattle.runs.specs.Regions.{entered-base, parents-base, points, seen-base}
 use Rattle.runs.specs.Runs.{meth}
 use Rattle.runs.specs.Summary.{Inside, callee, spots}
 use Rattle.runs.specs.Summary.Moves.{callee-i, callee-e, out}
@@ -41,7 +43,7 @@ sooner-in (x ∷ rs) more r t a k n = go (List·Memᴰ·cases-cons k) (λ j. soo
     go (inl e) f = subst (λ (u : Rec). Sooner u t) (sym e) (a .0 t (Memᴰ·append-right rs n))
     go (inr j) f = f j
 
-module _ (G : Graph) (mon : Monitor) (m : ℕ) (few-nodes : size G ≤ 256) (few-edges : length (G .edges) ≤ 4096) where
+module _ (G : Graph) (mon : Monitor) (m : ℕ) (few-nodes : size G ≤ max-nodes) (few-edges : length (G .edges) ≤ max-edges) where
   -- records to places that are met
   pub looked-seen : (head tail : ℕ) (rs : List Rec) (w : List ℕ) → head < tail → ((r : Rec) → List·Memᴰ r rs → Leaving G mon m head w r × T (seen w (r .to) (r .now)))
       → Looked G mon m head rs tail tail w w
@@ -76,34 +78,34 @@ module _ (G : Graph) (mon : Monitor) (m : ℕ) (few-nodes : size G ≤ 256) (few
 
   module _ (w : List ℕ) (l p : ℕ) (hl : l < 9) (hp : p < 8) where
     abbrev marked : List ℕ
-    marked = put-bit w 46940 (8 * l + p)
+    marked = put-bit w entered-base (8 * l + p)
 
-    kept : (q : ℕ) → q < 46940 → getD marked q 0 ≡ getD w q 0
-    kept q h = bit-outside w 46940 (8 * l + p) q (λ e. omega (arith, e))
+    kept : (q : ℕ) → q < entered-base → getD marked q 0 ≡ getD w q 0
+    kept q h = bit-outside w entered-base (8 * l + p) q (λ e. omega (arith, e))
 
-    item-kept : (i : ℕ) → i ≤ 2048 → item marked i ≡ item w i
+    item-kept : (i : ℕ) → i ≤ points → item marked i ≡ item w i
     item-kept i h = item-same w marked i (λ q a b. kept q (omega arith))
 
-    end-kept : (i : ℕ) → i ≤ 2048 → item-end marked i ≡ item-end w i
+    end-kept : (i : ℕ) → i ≤ points → item-end marked i ≡ item-end w i
     end-kept i h = ap (λ (r : Rec). cond (eqb i 0) before (end r)) (item-kept i h)
 
-    parent-kept : (i : ℕ) → i ≤ 2048 → parent marked i ≡ parent w i
-    parent-kept i h = cell-agree marked w 12294 2 i (λ q a b. kept q (omega arith))
+    parent-kept : (i : ℕ) → i ≤ points → parent marked i ≡ parent w i
+    parent-kept i h = cell-agree marked w parents-base 2 i (λ q a b. kept q (omega arith))
 
-    seen-kept : (h : ℕ) → h < 2048 → has-bit marked 46684 h ≡ has-bit w 46684 h
-    seen-kept h b = bit-byte marked w 46684 46684 h (kept (46684 + h / 8) (omega arith))
+    seen-kept : (h : ℕ) → h < points → has-bit marked seen-base h ≡ has-bit w seen-base h
+    seen-kept h b = bit-byte marked w seen-base seen-base h (kept (seen-base + h / 8) (omega arith))
 
-    place-in : (g q : ℕ) → g < size G → q < 8 → 8 * g + q < 2048
+    place-in : (g q : ℕ) → g < size G → q < 8 → 8 * g + q < points
     place-in g q hg hq = omega (arith, few-nodes)
 
     places-kept : places-seen marked ≡ places-seen w
     unfolding places-seen
-    places-kept = tally-same (λ (h : ℕ). has-bit marked 46684 h) (λ (h : ℕ). has-bit w 46684 h) 2048 seen-kept
+    places-kept = tally-same (λ (h : ℕ). has-bit marked seen-base h) (λ (h : ℕ). has-bit w seen-base h) points seen-kept
 
     module _ (head tail : ℕ) (below : head < tail) (all-seen : (n : ℕ) → EntryOf G l n → T (seen w n p)) where
       mark : (rs : List Rec) → Searching G mon m head tail rs w → Searching G mon m head tail rs marked
       mark rs s = record {
-        room = omega (arith, length-put-bit w 46940 (8 * l + p), s .room);
+        room = omega (arith, length-put-bit w entered-base (8 * l + p), s .room);
         tables = tables-kept G mon w marked few-nodes few-edges (λ q a b. kept q (omega arith)) (s .tables);
         way = s .way;
         searched = searched-same (leaving G mon m) end trail-rec-bytes same-size one-record before head tail (item-end w) (s .way) (λ r. List·Memᴰ r rs) (s .searched) (omega arith) (item-end marked)
@@ -122,7 +124,7 @@ module _ (G : Graph) (mon : Monitor) (m : ℕ) (few-nodes : size G ≤ 256) (few
         few = subst (λ (k : ℕ). tail ≤ suc k) (sym places-kept) (s .few);
       }
         where
-          in-items : (i : ℕ) → i < tail → i ≤ 2048
+          in-items : (i : ℕ) → i < tail → i ≤ points
           in-items i k = few-by i tail (places-seen w) k (s .few) (places-most w)
 
           was : (l′ q n : ℕ) → l′ < 9 → q < 8 → T (entered marked l′ q) → EntryOf G l′ n → Dec (8 * l + p ≡ 8 * l′ + q) → T (seen w n q)
@@ -130,11 +132,11 @@ module _ (G : Graph) (mon : Monitor) (m : ℕ) (few-nodes : size G ≤ 256) (few
               let a : l ≡ l′ = omega arith in
               let b : p ≡ q = omega arith in
               subst (λ (k : ℕ). T (seen w n k)) b (all-seen n (subst (λ (k : ℕ). EntryOf G k n) (sym a) e))
-          was l′ q n hl′ hq t e (no d) = s .entered-seen l′ q n hl′ hq (subst T (bit-other w 46940 (8 * l + p) (8 * l′ + q) d) t) e
+          was l′ q n hl′ hq t e (no d) = s .entered-seen l′ q n hl′ hq (subst T (bit-other w entered-base (8 * l + p) (8 * l′ + q) d) t) e
 
   -- marking leaves all that was looked at
   pub looked-marked : (head tail tail′ : ℕ) (rs : List Rec) (w w′ : List ℕ) (l p : ℕ) → l < 9 → p < 8 → head < tail → May G mon m head rs tail w → Looked G mon m head rs tail tail′ w w′
-      → ((n : ℕ) → EntryOf G l n → T (seen w′ n p)) → Looked G mon m head rs tail tail′ w (put-bit w′ 46940 (8 * l + p))
+      → ((n : ℕ) → EntryOf G l n → T (seen w′ n p)) → Looked G mon m head rs tail tail′ w (put-bit w′ entered-base (8 * l + p))
   looked-marked head tail tail′ rs w w′ l p hl hp h may x f = record {
     ascends-on = x .ascends-on;
     searching-on = λ more a s. mark w′ l p hl hp head tail′ (omega (arith, x .longer)) f more (x .searching-on more a s);

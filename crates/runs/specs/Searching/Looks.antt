@@ -8,7 +8,9 @@ use lib.Dec.{T}
 use lib.ListN.{length}
 use Rattle.files.specs.Basics.Order.{Ascends}
 use Rattle.files.specs.Graph.{Graph, Edge, size, Flow}
+use Rattle.files.specs.Places.{max-edges, max-nodes}
 use Rattle.files.specs.Rules.{Monitor, Event}
+use Rattle.runs.specs.Regions.{points}
 use Rattle.runs.specs.Summary.{Place}
 use Rattle.runs.specs.Summary.Trails.{Rec, Where, leaving}
 use Rattle.runs.specs.Summary.Trails.Laws.{Leaves, steps-on, goes-in, goes-by, leaves-i}
@@ -63,10 +65,10 @@ module _ (G : Graph) (mon : Monitor) (m : ℕ) where
   }
 
   -- one record
-  module _ (few-nodes : size G ≤ 256) (few-edges : length (G .edges) ≤ 4096) (head tail : ℕ) (r : Rec) (w : List ℕ) (below : head < tail) (may : May G mon m head (r ∷ []) tail w)
+  module _ (few-nodes : size G ≤ max-nodes) (few-edges : length (G .edges) ≤ max-edges) (head tail : ℕ) (r : Rec) (w : List ℕ) (below : head < tail) (may : May G mon m head (r ∷ []) tail w)
       (lv : Leaving G mon m head w r) where
     -- there is room for an item
-    pub room-for : T (not (seen w (r .to) (r .now))) → tail ≤ 2048
+    pub room-for : T (not (seen w (r .to) (r .now))) → tail ≤ points
     room-for = tail-fits G mon m few-nodes few-edges head tail r (may .more) w (may .searching) below lv (may .ascends .0)
 
     pub look-one : LookedTo G mon m head (r ∷ []) [] tail (pushed-tail w tail head r) w (pushed w tail head r)

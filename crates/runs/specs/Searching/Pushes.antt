@@ -17,10 +17,12 @@ use Rattle.files.specs.Basics.Tests.{eq-eqb, T-eq}
 use Rattle.files.specs.Cells.{cell, put-cell, has-bit, put-bit, put-at}
 use Rattle.files.specs.Cells.Laws.{length-put-cell, byte-outside, cell-same, cell-other, cell-agree, length-put-bit, bit-same, bit-other, bit-outside, bit-byte, length-put-at, at-inside, at-outside}
 use Rattle.files.specs.Graph.{Graph, size}
+use Rattle.files.specs.Places.{max-edges, record-len, max-nodes}
 use Rattle.files.specs.Rules.{Monitor}
 use Rattle.judging.specs.Ranking.Stores.{tally-one, tally-room}
 use Rattle.runs.specs.Forward.{Searched, Met, fewer-due, found-more}
 use Rattle.runs.specs.Prepared.Files.{tables-kept}
+use Rattle.runs.specs.Regions.{entered-base, parents-base, parents-end, points, seen-base, watch-room}
 use Rattle.runs.specs.Summary.{Place}
 use Rattle.runs.specs.Summary.Trails.{Rec, trail-rec-bytes, Where, before, here, end, leaving}
 use Rattle.runs.specs.Searching.{item, parent, item-end, seen, places-seen, with-item, pushed, pushed-tail, Sooner, Searching, Leaving}
@@ -36,27 +38,27 @@ one-record r s e = λ i. record {
   now = ap (λ (l : List ℕ). getD l 5 0) e i;
 }
 
-pub item-same : (w w′ : List ℕ) (i : ℕ) → ((q : ℕ) → 6 * i ≤ q → q < 6 * i + 6 → getD w′ q 0 ≡ getD w q 0) → item w′ i ≡ item w i
+pub item-same : (w w′ : List ℕ) (i : ℕ) → ((q : ℕ) → record-len * i ≤ q → q < record-len * i + record-len → getD w′ q 0 ≡ getD w q 0) → item w′ i ≡ item w i
 item-same w w′ i f = λ t. record {
-  at = f (6 * i) (omega arith) (omega arith) t;
-  state = f (6 * i + 1) (omega arith) (omega arith) t;
-  step = f (6 * i + 2) (omega arith) (omega arith) t;
-  label = f (6 * i + 3) (omega arith) (omega arith) t;
-  to = f (6 * i + 4) (omega arith) (omega arith) t;
-  now = f (6 * i + 5) (omega arith) (omega arith) t;
+  at = f (record-len * i) (omega arith) (omega arith) t;
+  state = f (record-len * i + 1) (omega arith) (omega arith) t;
+  step = f (record-len * i + 2) (omega arith) (omega arith) t;
+  label = f (record-len * i + 3) (omega arith) (omega arith) t;
+  to = f (record-len * i + 4) (omega arith) (omega arith) t;
+  now = f (record-len * i + 5) (omega arith) (omega arith) t;
 }
 
 -- ---- one item more
 
-module _ (w : List ℕ) (tail head : ℕ) (r : Rec) (room : 46949 ≤ length w) (few : tail ≤ 2048) (below : head < tail) (to-small : r .to < 256) (now-small : r .now < 8) where
+module _ (w : List ℕ) (tail head : ℕ) (r : Rec) (room : watch-room ≤ length w) (few : tail ≤ points) (below : head < tail) (to-small : r .to < 256) (now-small : r .now < 8) where
   abbrev bytes : List ℕ
   bytes = trail-rec-bytes r
 
   abbrev first : List ℕ
-  first = put-at w (6 * tail) bytes
+  first = put-at w (record-len * tail) bytes
 
   abbrev second : List ℕ
-  second = put-cell first 12294 2 tail head
+  second = put-cell first parents-base 2 tail head
 
   abbrev place-bit : ℕ
   place-bit = 8 * r .to + r .now
@@ -64,38 +66,38 @@ module _ (w : List ℕ) (tail head : ℕ) (r : Rec) (room : 46949 ≤ length w) 
   abbrev third : List ℕ
   third = with-item w tail head r
 
-  fits : 6 * tail + 6 ≤ length w
+  fits : record-len * tail + record-len ≤ length w
   fits = omega arith
 
   long-first : length first ≡ length w
-  long-first = length-put-at w (6 * tail) bytes fits
+  long-first = length-put-at w (record-len * tail) bytes fits
 
   long-second : length second ≡ length w
-  long-second = length-put-cell first 12294 2 tail head ∙ long-first
+  long-second = length-put-cell first parents-base 2 tail head ∙ long-first
 
   long-third : length third ≡ length w
-  long-third = length-put-bit second 46684 place-bit ∙ long-second
+  long-third = length-put-bit second seen-base place-bit ∙ long-second
 
   -- a byte that is none of the item's
-  kept : (q : ℕ) → ((q < 6 * tail) ⊎ (6 * tail + 6 ≤ q)) → ((q < 12294 + 2 * tail) ⊎ (12294 + 2 * tail + 2 ≤ q)) → (q ≡ 46684 + place-bit / 8 → ⊥) → getD third q 0 ≡ getD w q 0
-  kept q a b c = bit-outside second 46684 place-bit q c ∙ byte-outside first 12294 2 tail head q b ∙ at-outside w (6 * tail) bytes q a fits
+  kept : (q : ℕ) → ((q < record-len * tail) ⊎ (record-len * tail + record-len ≤ q)) → ((q < parents-base + 2 * tail) ⊎ (parents-base + 2 * tail + 2 ≤ q)) → (q ≡ seen-base + place-bit / 8 → ⊥) → getD third q 0 ≡ getD w q 0
+  kept q a b c = bit-outside second seen-base place-bit q c ∙ byte-outside first parents-base 2 tail head q b ∙ at-outside w (record-len * tail) bytes q a fits
 
-  kept-low : (i : ℕ) → i < tail → (q : ℕ) → 6 * i ≤ q → q < 6 * i + 6 → getD third q 0 ≡ getD w q 0
+  kept-low : (i : ℕ) → i < tail → (q : ℕ) → record-len * i ≤ q → q < record-len * i + record-len → getD third q 0 ≡ getD w q 0
   kept-low i l q a b = kept q (inl (omega arith)) (inl (omega arith)) (λ e. omega (arith, e))
 
-  kept-mid : (q : ℕ) → 16392 ≤ q → q < 46684 → getD third q 0 ≡ getD w q 0
+  kept-mid : (q : ℕ) → parents-end ≤ q → q < seen-base → getD third q 0 ≡ getD w q 0
   kept-mid q a b = kept q (inr (omega arith)) (inr (omega arith)) (λ e. omega (arith, e))
 
   old-item : (i : ℕ) → i < tail → item third i ≡ item w i
   old-item i l = item-same w third i (kept-low i l)
 
-  at-byte : (k : ℕ) → k < 6 → getD third (6 * tail + k) 0 ≡ getD bytes k 0
+  at-byte : (k : ℕ) → k < 6 → getD third (record-len * tail + k) 0 ≡ getD bytes k 0
   at-byte k h =
-      bit-outside second 46684 place-bit (6 * tail + k) (λ e. omega (arith, e)) ∙ byte-outside first 12294 2 tail head (6 * tail + k) (inl (omega arith)) ∙ at-inside w (6 * tail) bytes k h fits
+      bit-outside second seen-base place-bit (record-len * tail + k) (λ e. omega (arith, e)) ∙ byte-outside first parents-base 2 tail head (record-len * tail + k) (inl (omega arith)) ∙ at-inside w (record-len * tail) bytes k h fits
 
   new-item : item third tail ≡ r
   new-item = λ t. record {
-    at = (ap (λ (q : ℕ). getD third q 0) (sym (add-zero (6 * tail))) ∙ at-byte 0 (omega arith)) t;
+    at = (ap (λ (q : ℕ). getD third q 0) (sym (add-zero (record-len * tail))) ∙ at-byte 0 (omega arith)) t;
     state = at-byte 1 (omega arith) t;
     step = at-byte 2 (omega arith) t;
     label = at-byte 3 (omega arith) t;
@@ -103,50 +105,50 @@ module _ (w : List ℕ) (tail head : ℕ) (r : Rec) (room : 46949 ≤ length w) 
     now = at-byte 5 (omega arith) t;
   }
 
-  parent-bytes : (i : ℕ) → i < suc tail → cell third 12294 2 i ≡ cell second 12294 2 i
-  parent-bytes i l = cell-agree third second 12294 2 i (λ q a b. bit-outside second 46684 place-bit q (λ e. omega (arith, e)))
+  parent-bytes : (i : ℕ) → i < suc tail → cell third parents-base 2 i ≡ cell second parents-base 2 i
+  parent-bytes i l = cell-agree third second parents-base 2 i (λ q a b. bit-outside second seen-base place-bit q (λ e. omega (arith, e)))
 
   new-parent : parent third tail ≡ head
-  new-parent = parent-bytes tail (omega arith) ∙ cell-same first 12294 2 tail head (omega (arith, long-first)) (omega arith)
+  new-parent = parent-bytes tail (omega arith) ∙ cell-same first parents-base 2 tail head (omega (arith, long-first)) (omega arith)
 
   old-parent : (i : ℕ) → i < tail → parent third i ≡ parent w i
   old-parent i l =
-      parent-bytes i (omega arith) ∙ cell-other first 12294 2 tail i head (λ e. omega arith)
-      ∙ cell-agree first w 12294 2 i (λ q a b. at-outside w (6 * tail) bytes q (inr (omega arith)) fits)
+      parent-bytes i (omega arith) ∙ cell-other first parents-base 2 tail i head (λ e. omega arith)
+      ∙ cell-agree first w parents-base 2 i (λ q a b. at-outside w (record-len * tail) bytes q (inr (omega arith)) fits)
 
   -- bits past the items are the old ones, but for the place's
-  bit-in : (base h : ℕ) → 46684 ≤ base → has-bit second base h ≡ has-bit w base h
+  bit-in : (base h : ℕ) → seen-base ≤ base → has-bit second base h ≡ has-bit w base h
   bit-in base h b =
       bit-byte second w base base h
-      (byte-outside first 12294 2 tail head (base + h / 8) (inr (omega arith)) ∙ at-outside w (6 * tail) bytes (base + h / 8) (inr (omega arith)) fits)
+      (byte-outside first parents-base 2 tail head (base + h / 8) (inr (omega arith)) ∙ at-outside w (record-len * tail) bytes (base + h / 8) (inr (omega arith)) fits)
 
-  new-seen : has-bit third 46684 place-bit ≡ true
-  new-seen = bit-same second 46684 place-bit (omega (arith, long-second))
+  new-seen : has-bit third seen-base place-bit ≡ true
+  new-seen = bit-same second seen-base place-bit (omega (arith, long-second))
 
-  old-seen : (h : ℕ) → (place-bit ≡ h → ⊥) → has-bit third 46684 h ≡ has-bit w 46684 h
-  old-seen h n = bit-other second 46684 place-bit h n ∙ bit-in 46684 h (omega arith)
+  old-seen : (h : ℕ) → (place-bit ≡ h → ⊥) → has-bit third seen-base h ≡ has-bit w seen-base h
+  old-seen h n = bit-other second seen-base place-bit h n ∙ bit-in seen-base h (omega arith)
 
-  old-entered : (h : ℕ) → has-bit third 46940 h ≡ has-bit w 46940 h
-  old-entered h = bit-byte third second 46940 46940 h (bit-outside second 46684 place-bit (46940 + h / 8) (λ e. omega (arith, e))) ∙ bit-in 46940 h (omega arith)
+  old-entered : (h : ℕ) → has-bit third entered-base h ≡ has-bit w entered-base h
+  old-entered h = bit-byte third second entered-base entered-base h (bit-outside second seen-base place-bit (entered-base + h / 8) (λ e. omega (arith, e))) ∙ bit-in entered-base h (omega arith)
 
-  one-more : T (not (has-bit w 46684 place-bit)) → places-seen third ≡ suc (places-seen w)
+  one-more : T (not (has-bit w seen-base place-bit)) → places-seen third ≡ suc (places-seen w)
   unfolding places-seen
   one-more f =
-      tally-one (λ (h : ℕ). has-bit w 46684 h) (λ (h : ℕ). has-bit third 46684 h) place-bit 2048 (omega arith) f (subst T (sym new-seen) tt) (λ j l n. old-seen j n)
+      tally-one (λ (h : ℕ). has-bit w seen-base h) (λ (h : ℕ). has-bit third seen-base h) place-bit points (omega arith) f (subst T (sym new-seen) tt) (λ j l n. old-seen j n)
 
-pub seen-room : (w : List ℕ) (h : ℕ) → h < 2048 → T (not (has-bit w 46684 h)) → places-seen w < 2048
+pub seen-room : (w : List ℕ) (h : ℕ) → h < points → T (not (has-bit w seen-base h)) → places-seen w < points
 unfolding places-seen
-seen-room w h l f = tally-room (λ (h : ℕ). has-bit w 46684 h) h 2048 l f
+seen-room w h l f = tally-room (λ (h : ℕ). has-bit w seen-base h) h points l f
 
-pub places-most : (w : List ℕ) → places-seen w ≤ 2048
+pub places-most : (w : List ℕ) → places-seen w ≤ points
 unfolding places-seen
-places-most w = tally-le (λ (h : ℕ). has-bit w 46684 h) 2048
+places-most w = tally-le (λ (h : ℕ). has-bit w seen-base h) points
 
 -- (over plain numbers, since the tally is long)
-pub few-by : (i t n : ℕ) → i < t → t ≤ suc n → n ≤ 2048 → i ≤ 2048
+pub few-by : (i t n : ℕ) → i < t → t ≤ suc n → n ≤ points → i ≤ points
 few-by i t n a b c = omega arith
 
-room-by : (t n : ℕ) → t ≤ suc n → n < 2048 → t ≤ 2048
+room-by : (t n : ℕ) → t ≤ suc n → n < points → t ≤ points
 room-by t n a b = omega arith
 
 suc-by : (t n k : ℕ) → t ≤ suc n → k ≡ suc n → suc t ≤ suc k
@@ -168,7 +170,7 @@ here-at x y e = (ap place-at e, ap place-now e)
     place-now before = 0
     place-now (here x) = x .now
 
-module _ (G : Graph) (mon : Monitor) (m : ℕ) (few-nodes : size G ≤ 256) (few-edges : length (G .edges) ≤ 4096) (head tail : ℕ) (r : Rec) (rs : List Rec) (w : List ℕ)
+module _ (G : Graph) (mon : Monitor) (m : ℕ) (few-nodes : size G ≤ max-nodes) (few-edges : length (G .edges) ≤ max-edges) (head tail : ℕ) (r : Rec) (rs : List Rec) (w : List ℕ)
     (s : Searching G mon m head tail (r ∷ rs) w) (below : head < tail) (lv : Leaving G mon m head w r) (asc : (t : Rec) → List·Memᴰ t rs → Sooner r t) where
   low : (t : Rec) → List·Memᴰ t (r ∷ rs) → Before (trail-rec-bytes t) (trail-rec-bytes r) → ⊥
   low t k b = go (List·Memᴰ·cases-cons k)
@@ -210,7 +212,7 @@ module _ (G : Graph) (mon : Monitor) (m : ℕ) (few-nodes : size G ≤ 256) (few
     to-small : r .to < 256
     to-small = omega (arith, lv .to-node)
 
-    pub tail-fits : tail ≤ 2048
+    pub tail-fits : tail ≤ points
     tail-fits = room-by tail (places-seen w) (s .few) (seen-room w (8 * r .to + r .now) (omega (arith, to-small, lv .now-small)) new)
 
     abbrev way′ : ℕ → List Rec
@@ -246,7 +248,7 @@ module _ (G : Graph) (mon : Monitor) (m : ℕ) (few-nodes : size G ≤ 256) (few
     seen-kept g q t = go (ℕ-discrete (8 * r .to + r .now) (8 * g + q))
       where
         go : Dec (8 * r .to + r .now ≡ 8 * g + q) → T (seen w′ g q)
-        go (yes e) = subst (λ (h : ℕ). T (has-bit w′ 46684 h)) e (subst T (sym (new-seen w tail head r (s .room) tail-fits below to-small (lv .now-small))) tt)
+        go (yes e) = subst (λ (h : ℕ). T (has-bit w′ seen-base h)) e (subst T (sym (new-seen w tail head r (s .room) tail-fits below to-small (lv .now-small))) tt)
         go (no n) = subst T (sym (old-seen w tail head r (s .room) tail-fits below to-small (lv .now-small) (8 * g + q) n)) t
 
     pub look-new : Searching G mon m head (suc tail) rs w′
@@ -289,7 +291,7 @@ module _ (G : Graph) (mon : Monitor) (m : ℕ) (few-nodes : size G ≤ 256) (few
         is-seen : (g q : ℕ) → g < size G → q < 8 → (k : ℕ) → item-end w′ k ≡ here (record { at = g; now = q }) → (k ≡ tail) ⊎ (k < tail) → T (seen w′ g q)
         is-seen g q hg hq k e (inl d) =
             let a = here-at (record { at = r .to; now = r .now }) (record { at = g; now = q }) (sym end-new ∙ ap (item-end w′) (sym d) ∙ e) in
-            subst (λ (h : ℕ). T (has-bit w′ 46684 h)) (ap₂ (λ (i j : ℕ). 8 * i + j) (a .0) (a .1))
+            subst (λ (h : ℕ). T (has-bit w′ seen-base h)) (ap₂ (λ (i j : ℕ). 8 * i + j) (a .0) (a .1))
             (subst T (sym (new-seen w tail head r (s .room) tail-fits below to-small (lv .now-small))) tt)
         is-seen g q hg hq k e (inr l) = seen-kept g q (s .met-seen g q hg hq (k, l, sym (end-old k l) ∙ e))
 
@@ -325,11 +327,11 @@ unfolding pushed pushed-tail
 push-seen w tail head r b e d =
     (sym (ap (λ (c : Bool). cond c tail (suc tail)) (sym e ∙ d)), sym (ap (λ (c : Bool). cond c w (with-item w tail head r)) (sym e ∙ d)))
 
-pub push-new : (w w₁ w₂ w₃ : List ℕ) (tail head : ℕ) (r : Rec) (b : Bool) → b ≡ seen w (r .to) (r .now) → b ≡ false → w₁ ≡ put-at w (6 * tail) (trail-rec-bytes r)
-    → w₂ ≡ put-cell w₁ 12294 2 tail head → w₃ ≡ put-bit w₂ 46684 (8 * r .to + r .now) → (tail + 1 ≡ pushed-tail w tail head r) × (w₃ ≡ pushed w tail head r)
+pub push-new : (w w₁ w₂ w₃ : List ℕ) (tail head : ℕ) (r : Rec) (b : Bool) → b ≡ seen w (r .to) (r .now) → b ≡ false → w₁ ≡ put-at w (record-len * tail) (trail-rec-bytes r)
+    → w₂ ≡ put-cell w₁ parents-base 2 tail head → w₃ ≡ put-bit w₂ seen-base (8 * r .to + r .now) → (tail + 1 ≡ pushed-tail w tail head r) × (w₃ ≡ pushed w tail head r)
 unfolding pushed pushed-tail
 push-new w w₁ w₂ w₃ tail head r b e d x y z = (
   add-one tail ∙ sym (ap (λ (c : Bool). cond c tail (suc tail)) (sym e ∙ d)),
-  z ∙ ap (λ (v : List ℕ). put-bit v 46684 (8 * r .to + r .now)) (y ∙ ap (λ (v : List ℕ). put-cell v 12294 2 tail head) x)
+  z ∙ ap (λ (v : List ℕ). put-bit v seen-base (8 * r .to + r .now)) (y ∙ ap (λ (v : List ℕ). put-cell v parents-base 2 tail head) x)
       ∙ sym (ap (λ (c : Bool). cond c w (with-item w tail head r)) (sym e ∙ d)),
 )

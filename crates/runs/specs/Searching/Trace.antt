@@ -14,8 +14,10 @@ use Rattle.files.specs.Basics.Lists.{each}
 use Rattle.files.specs.Cells.{put-at}
 use Rattle.files.specs.Cells.Laws.{put-at-is, put-front}
 use Rattle.files.specs.Graph.{Graph}
+use Rattle.files.specs.Places.{record-len}
 use Rattle.files.specs.Rules.{Monitor}
 use Rattle.runs.specs.Forward.{turned, turned-length}
+use Rattle.runs.specs.Regions.{points}
 use Rattle.runs.specs.Summary.Trails.{Rec, trail-rec-bytes, end, leaving, trail, trail-bytes}
 use Rattle.runs.specs.Summary.Trails.Laws.{trail-bytes-is}
 use Rattle.runs.specs.Summary.{clean}
@@ -56,37 +58,37 @@ module _ (G : Graph) (mon : Monitor) (m i : ℕ) (w : List ℕ) (t : Traced G mo
   pub record Written (out₀ out : List ℕ) (k : ℕ) : Type 0 where
     pub written : List Rec
     pub rest-is : back-from (way k) written ≡ trail G mon m
-    pub stands : out ≡ put-at out₀ (6 * length (way k)) (each trail-rec-bytes written)
+    pub stands : out ≡ put-at out₀ (record-len * length (way k)) (each trail-rec-bytes written)
 
-  pub written-none : (out : List ℕ) → 6 * length (way i) ≤ length out → Written out out i
-  written-none out h = record { written = []; rest-is = t .is-trail; stands = sym (put-at-is out (6 * length (way i)) [] ∙ both) }
+  pub written-none : (out : List ℕ) → record-len * length (way i) ≤ length out → Written out out i
+  written-none out h = record { written = []; rest-is = t .is-trail; stands = sym (put-at-is out (record-len * length (way i)) [] ∙ both) }
     where
-      both : take (6 * length (way i)) out ++ [] ++ drop (6 * length (way i) + 0) out ≡ out
+      both : take (record-len * length (way i)) out ++ [] ++ drop (record-len * length (way i) + 0) out ≡ out
       both =
-          ap₂ (λ (a b : List ℕ). a ++ b) (append-nil (take (6 * length (way i)) out)) (ap (λ (k : ℕ). drop k out) (add-zero (6 * length (way i))))
-          ∙ take-append-drop (6 * length (way i)) out
+          ap₂ (λ (a b : List ℕ). a ++ b) (append-nil (take (record-len * length (way i)) out)) (ap (λ (k : ℕ). drop k out) (add-zero (record-len * length (way i))))
+          ∙ take-append-drop (record-len * length (way i)) out
 
   -- one record more, at the place before
-  pub written-more : (out₀ out out′ : List ℕ) (k j : ℕ) → 0 < k → k ≤ i → suc j ≡ length (way k) → 6 * length (way k) ≤ length out₀ → Written out₀ out k
-      → out′ ≡ put-at out (6 * j) (trail-rec-bytes (item w k)) → Written out₀ out′ (parent w k)
+  pub written-more : (out₀ out out′ : List ℕ) (k j : ℕ) → 0 < k → k ≤ i → suc j ≡ length (way k) → record-len * length (way k) ≤ length out₀ → Written out₀ out k
+      → out′ ≡ put-at out (record-len * j) (trail-rec-bytes (item w k)) → Written out₀ out′ (parent w k)
   written-more out₀ out out′ k j z h e fits x d =
       let a = t .linked k z h in
       let n : length (way k) ≡ suc (length (way (parent w k))) = ap length (a .1) in
       let j-is : j ≡ length (way (parent w k)) = omega (arith, e, n) in
-      let at : 6 * length (way k) ≡ 6 * j + length (trail-rec-bytes (item w k)) = omega (arith, e) in
+      let at : record-len * length (way k) ≡ record-len * j + length (trail-rec-bytes (item w k)) = omega (arith, e) in
       record {
         written = item w k ∷ x .written;
         rest-is = sym (ap (λ (rs : List Rec). back-from rs (x .written)) (a .1)) ∙ x .rest-is;
-        stands = d ∙ ap (λ (o : List ℕ). put-at o (6 * j) (trail-rec-bytes (item w k))) (x .stands ∙ ap (λ (p : ℕ). put-at out₀ p (each trail-rec-bytes (x .written))) at)
-            ∙ put-before out₀ (6 * j) (trail-rec-bytes (item w k)) (each trail-rec-bytes (x .written)) (omega (arith, at, fits))
-            ∙ ap (λ (p : ℕ). put-at out₀ (6 * p) (each trail-rec-bytes (item w k ∷ x .written))) j-is;
+        stands = d ∙ ap (λ (o : List ℕ). put-at o (record-len * j) (trail-rec-bytes (item w k))) (x .stands ∙ ap (λ (p : ℕ). put-at out₀ p (each trail-rec-bytes (x .written))) at)
+            ∙ put-before out₀ (record-len * j) (trail-rec-bytes (item w k)) (each trail-rec-bytes (x .written)) (omega (arith, at, fits))
+            ∙ ap (λ (p : ℕ). put-at out₀ (record-len * p) (each trail-rec-bytes (item w k ∷ x .written))) j-is;
       }
 
   -- all of it
   pub written-all : (out₀ out : List ℕ) → Written out₀ out 0 → out ≡ trail-bytes G mon m ++ drop (length (trail-bytes G mon m)) out₀
   written-all out₀ out x =
       let all : x .written ≡ trail G mon m = sym (ap (λ (rs : List Rec). back-from rs (x .written)) (t .first-way)) ∙ x .rest-is in
-      let start : 6 * length (way 0) ≡ 0 = omega (arith, none-back) in
+      let start : record-len * length (way 0) ≡ 0 = omega (arith, none-back) in
       x .stands ∙ ap₂ (λ (p : ℕ) (rs : List Rec). put-at out₀ p (each trail-rec-bytes rs)) start all ∙ put-front out₀ (each trail-rec-bytes (trail G mon m))
       ∙ ap (λ (bs : List ℕ). bs ++ drop (length bs) out₀) (sym (trail-bytes-is G mon m))
 
@@ -117,11 +119,11 @@ pub record Writing (G : Graph) (mon : Monitor) (m i : ℕ) (w out₀ out : List 
   pub traced : Traced G mon m i w
   pub below : at ≤ i
   pub place : k ≡ length (traced .way at)
-  pub fits : 6 * k ≤ length out₀
+  pub fits : record-len * k ≤ length out₀
   pub same-length : length out ≡ length out₀
   pub done : Written G mon m i w traced out₀ out at
 
-pub writing-first : (G : Graph) (mon : Monitor) (m i : ℕ) (w out : List ℕ) (n : ℕ) → Traced G mon m i w → n ≡ length (trail G mon m) → 6 * n ≤ length out → Writing G mon m i w out out i n
+pub writing-first : (G : Graph) (mon : Monitor) (m i : ℕ) (w out : List ℕ) (n : ℕ) → Traced G mon m i w → n ≡ length (trail G mon m) → record-len * n ≤ length out → Writing G mon m i w out out i n
 writing-first G mon m i w out n t e h =
     let d = trail-length G mon m i w t in
     record { traced = t; below = omega arith; place = e ∙ sym d; fits = h; same-length = refl; done = written-none G mon m i w t out (omega (arith, e, d, h)) }
@@ -131,7 +133,7 @@ pub writing-more : (G : Graph) (mon : Monitor) (m i : ℕ) (w out₀ out : List 
 writing-more G mon m i w out₀ out at k x z = let a = one-back G mon m i w (x .traced) at z (x .below) in omega (arith, x .place, a .1)
 
 pub writing-next : (G : Graph) (mon : Monitor) (m i : ℕ) (w out₀ out out′ : List ℕ) (at k at′ j : ℕ) → Writing G mon m i w out₀ out at k → 0 < at → at′ ≡ parent w at → suc j ≡ k
-    → out′ ≡ put-at out (6 * j) (trail-rec-bytes (item w at)) → length out′ ≡ length out → Writing G mon m i w out₀ out′ at′ j
+    → out′ ≡ put-at out (record-len * j) (trail-rec-bytes (item w at)) → length out′ ≡ length out → Writing G mon m i w out₀ out′ at′ j
 writing-next G mon m i w out₀ out out′ at k at′ j x z e f d l =
     let a = one-back G mon m i w (x .traced) at z (x .below) in
     let same : length (x .traced .way at′) ≡ length (x .traced .way (parent w at)) = ap (λ (q : ℕ). length (x .traced .way q)) e in
@@ -151,18 +153,18 @@ writing-done G mon m i w out₀ out at k x e =
     written-all G mon m i w (x .traced) out₀ out (subst (λ (q : ℕ). Written G mon m i w (x .traced) out₀ out q) e (x .done))
 
 -- six bytes of an item, as a part of the buffer
-pub item-part : (w : List ℕ) (at : ℕ) → 6 * at + 6 ≤ length w → take (6 * at + 6 - 6 * at) (drop (6 * at) w) ≡ trail-rec-bytes (item w at)
-item-part w at h = let six-is : 6 * at + 6 - 6 * at ≡ 6 = omega arith in ap (λ (n : ℕ). take n (drop (6 * at) w)) six-is ∙ ap (take 6) all
+pub item-part : (w : List ℕ) (at : ℕ) → record-len * at + record-len ≤ length w → take (record-len * at + record-len - record-len * at) (drop (record-len * at) w) ≡ trail-rec-bytes (item w at)
+item-part w at h = let six-is : record-len * at + record-len - record-len * at ≡ 6 = omega arith in ap (λ (n : ℕ). take n (drop (record-len * at) w)) six-is ∙ ap (take 6) all
   where
-    next : (k : ℕ) → k < 6 → drop (6 * at + k) w ≡ getD w (6 * at + k) 0 ∷ drop (6 * at + (k + 1)) w
+    next : (k : ℕ) → k < 6 → drop (record-len * at + k) w ≡ getD w (record-len * at + k) 0 ∷ drop (record-len * at + (k + 1)) w
     next k b =
-        let e : suc (6 * at + k) ≡ 6 * at + (k + 1) = omega arith in
-        drop-cons w (6 * at + k) 0 (omega arith) ∙ ap (λ (n : ℕ). getD w (6 * at + k) 0 ∷ drop n w) e
+        let e : suc (record-len * at + k) ≡ record-len * at + (k + 1) = omega arith in
+        drop-cons w (record-len * at + k) 0 (omega arith) ∙ ap (λ (n : ℕ). getD w (record-len * at + k) 0 ∷ drop n w) e
 
-    first : drop (6 * at) w ≡ getD w (6 * at) 0 ∷ drop (6 * at + 1) w
-    first = let e : suc (6 * at) ≡ 6 * at + 1 = omega arith in drop-cons w (6 * at) 0 (omega arith) ∙ ap (λ (n : ℕ). getD w (6 * at) 0 ∷ drop n w) e
+    first : drop (record-len * at) w ≡ getD w (record-len * at) 0 ∷ drop (record-len * at + 1) w
+    first = let e : suc (record-len * at) ≡ record-len * at + 1 = omega arith in drop-cons w (record-len * at) 0 (omega arith) ∙ ap (λ (n : ℕ). getD w (record-len * at) 0 ∷ drop n w) e
 
-    all : drop (6 * at) w ≡ getD w (6 * at) 0 ∷ getD w (6 * at + 1) 0 ∷ getD w (6 * at + 2) 0 ∷ getD w (6 * at + 3) 0 ∷ getD w (6 * at + 4) 0 ∷ getD w (6 * at + 5) 0 ∷ drop (6 * at + 6) w
+    all : drop (record-len * at) w ≡ getD w (record-len * at) 0 ∷ getD w (record-len * at + 1) 0 ∷ getD w (record-len * at + 2) 0 ∷ getD w (record-len * at + 3) 0 ∷ getD w (record-len * at + 4) 0 ∷ getD w (record-len * at + 5) 0 ∷ drop (record-len * at + record-len) w
     all = rw (first, next 1 (omega arith), next 2 (omega arith), next 3 (omega arith), next 4 (omega arith), next 5 (omega arith))
 
 pub counting-back : (G : Graph) (mon : Monitor) (m i : ℕ) (w : List ℕ) (at n : ℕ) → Counting G mon m i w at n → 0 < at → parent w at < at
@@ -184,11 +186,11 @@ way-short G mon m i w t (suc f) k h l = go (decLt 0 k) (λ p a b. way-short G mo
         zero-is : (0 < k → ⊥) → k ≡ 0
         zero-is n = omega arith
 
-pub writing-small : (G : Graph) (mon : Monitor) (m i : ℕ) (w out₀ out : List ℕ) (at k : ℕ) → Writing G mon m i w out₀ out at k → k ≤ 2048
+pub writing-small : (G : Graph) (mon : Monitor) (m i : ℕ) (w out₀ out : List ℕ) (at k : ℕ) → Writing G mon m i w out₀ out at k → k ≤ points
 writing-small G mon m i w out₀ out at k x =
     let a = way-short G mon m i w (x .traced) at at (omega arith) (x .below) in omega (arith, a, x .place, x .below, x .traced .few)
 
-pub trail-small : (G : Graph) (mon : Monitor) (m i : ℕ) (w : List ℕ) → Traced G mon m i w → length (trail G mon m) ≤ 2048
+pub trail-small : (G : Graph) (mon : Monitor) (m i : ℕ) (w : List ℕ) → Traced G mon m i w → length (trail G mon m) ≤ points
 trail-small G mon m i w t =
     let a = way-short G mon m i w t i i (omega arith) (omega arith) in omega (arith, a, trail-length G mon m i w t, t .few)
 

@@ -13,6 +13,7 @@ use Rattle.files.specs.Decode.{decode-graph}
 use Rattle.files.specs.Graph.{size}
 use Rattle.files.specs.Outcome.{Said, says, refusal-at, file-checks, answered, answer, written-of}
 use Rattle.files.specs.Outcome.Ends.{whole-refuses, whole-passes}
+use Rattle.files.specs.Places.{record-len}
 use Rattle.files.specs.Record.{count, part}
 use Rattle.files.specs.Refusal.{graph, nodes-of, refusal}
 use Rattle.files.specs.Settling.{or-else, Settles}
@@ -29,7 +30,7 @@ use Rattle.runs.specs.declared.showing.Place.{Place}
 use Rattle.runs.specs.declared.showing.Place.the-variants as place
 
 -- a record before the last stands in its file
-record-in : (l : List ℕ) (i : ℕ) → i < count l → 6 * i + 6 ≤ length l
+record-in : (l : List ℕ) (i : ℕ) → i < count l → record-len * i + record-len ≤ length l
 record-in l i h = omega arith
 
 module _ (L : Limits) (g1 g2 : List ℕ) (number : ℕ) {x : Settled} (settles : Settles (show-first L g1 g2) x) where
@@ -125,10 +126,10 @@ module _ (L : Limits) (g1 g2 : List ℕ) (number : ℕ) (p : Place) (found : p �
       same (place.Second i) = refl
       same (place.Refused r) = refl
 
-  pub found-first : (i : ℕ) → p ≡ place.First i → (6 * i + 6 ≤ length g1) × (part g1 i 1 ≡ written-of (shown L g1 g2 number))
+  pub found-first : (i : ℕ) → p ≡ place.First i → (record-len * i + record-len ≤ length g1) × (part g1 i 1 ≡ written-of (shown L g1 g2 number))
   found-first i e = let s = subst (Stands (shown L g1 g2 number) g1 g2) e stands in (s .1, sym (ap written-of (s .0)))
 
-  pub found-second : (i : ℕ) → p ≡ place.Second i → (6 * i + 6 ≤ length g2) × (part g2 i 1 ≡ written-of (shown L g1 g2 number))
+  pub found-second : (i : ℕ) → p ≡ place.Second i → (record-len * i + record-len ≤ length g2) × (part g2 i 1 ≡ written-of (shown L g1 g2 number))
   found-second i e = let s = subst (Stands (shown L g1 g2 number) g1 g2) e stands in (s .1, sym (ap written-of (s .0)))
 
   pub found-nowhere : (r : Refusal) → p ≡ place.Refused r → [] ≡ written-of (shown L g1 g2 number)

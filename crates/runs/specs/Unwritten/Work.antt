@@ -25,6 +25,7 @@ use Rattle.files.specs.declared.refusal.Refusal.{Refusal}
 use Rattle.files.specs.declared.settle.Settled.the-variants.{Passed}
 use Rattle.judging.specs.Judge.{Strides}
 use Rattle.maximal.specs.Modelling.{Bounded}
+use Rattle.maximal.specs.Places.{model-room}
 use Rattle.runs.specs.Composing.{gives, joined-verdict, compose-said, compose-last, OtherSide}
 use Rattle.runs.specs.Composing.Work.{both-long}
 use Rattle.runs.specs.Unwritten.{both-store, both-work, first-side, second-side, both-graph, both-sides, both-said, both-first, both-last}
@@ -33,8 +34,8 @@ use Rattle.runs.specs.Unwritten.{both-store, both-work, first-side, seco
 pub record PairRoom (L : Limits) (store work : List ℕ) : Type 0 where
   pub strides : Strides L
   pub bounded : Bounded L
-  pub store-long : 52224 ≤ length store
-  pub work-long : 103456 ≤ length work
+  pub store-long : both-store ≤ length store
+  pub work-long : model-room ≤ length work
 
 -- ---- the checks before the models
 

@@ -24,7 +24,7 @@ use Rattle.files.specs.Sides.{ForeignAt, Unprovided, first-foreign, unprovided}
 use Rattle.files.specs.Sides.Laws.{foreign-finds, says-unprovided}
 use Rattle.files.specs.Sides.OfInterface.{of-foreign}
 use Rattle.files.specs.declared.record.Limits.{Limits}
-use Rattle.runs.specs.Prepared.{watch-room}
+use Rattle.runs.specs.Regions.{watch-room}
 use Rattle.runs.specs.Runs.{Bad, Clean}
 use Rattle.runs.specs.Summary.{clean}
 use Rattle.runs.specs.Summary.Places.{not-clean-bad, clean-no-bad}

@@ -11,6 +11,7 @@ use Rattle.files.specs.Graph.{Graph}
 use Rattle.files.specs.Interface.{Of}
 use Rattle.files.specs.Outcome.{Said, Outcome, Answers, Does, answer, says, work-after, refusal-at, NoneOf, Lines}
 use Rattle.files.specs.Outcome.Meaning.{Decided, Refuses, Clears, Wrote, Heard, itself, heard-itself, only-verdict, numbered-cond, outcome-case, case-cond, said-iff, refuses-by, clears-by, wrote-by}
+use Rattle.files.specs.Places.{record-len}
 use Rattle.files.specs.Rules.{Monitor, watch}
 use Rattle.files.specs.declared.record.Limits.{Limits}
 use Rattle.runs.specs.Answer.{watched-answer, verdict-enum}
@@ -38,8 +39,8 @@ pub record VerdictMeans {R : Type 0} (tell : Verdict → R) (ls : Lines) (J : Gr
   pub clean-iff : (r ≡ tell Clean) ↔ (NoneOf ls × CleanRuns J mon m)
   pub bad-iff : ((n : ℕ) × (r ≡ tell (Bad n))) ↔ (NoneOf ls × BadRun J mon m)
   pub clean-leaves : r ≡ tell Clean → out′ ≡ out
-  pub bad-writes : (n : ℕ) → r ≡ tell (Bad n) → WrittenTrail J mon m n (take (6 * n) out′)
-  pub past-unchanged : (n : ℕ) → r ≡ tell (Bad n) → drop (6 * n) out′ ≡ drop (6 * n) out
+  pub bad-writes : (n : ℕ) → r ≡ tell (Bad n) → WrittenTrail J mon m n (take (record-len * n) out′)
+  pub past-unchanged : (n : ℕ) → r ≡ tell (Bad n) → drop (record-len * n) out′ ≡ drop (record-len * n) out
 
 pub watch-numbered : (J : Graph) (mon : Monitor) (m : ℕ) → 0 < (watch-said J mon m) .verdict
 unfolding watch-said
@@ -61,14 +62,14 @@ module _ {R : Type 0} (tell : Verdict → R) (heard : Heard tell) (o : Outcome) 
   counts : (n : ℕ) → tell c ≡ tell (Bad n) → length (trail J mon m) ≡ n
   counts n q = let a = is-bad n .0 q in ap (λ (xs : List ℕ). getD xs 0 0) (sym (means (a .0) (λ z. omega (arith, a .1)) .bad-writes (a .1) .0) ∙ a .2)
 
-  pub wrote : (n : ℕ) → tell c ≡ tell (Bad n) → Wrote (6 * n) (trail-bytes J mon m) out out′
+  pub wrote : (n : ℕ) → tell c ≡ tell (Bad n) → Wrote (record-len * n) (trail-bytes J mon m) out out′
   wrote n q =
       let a = is-bad n .0 q in
       let w = means (a .0) (λ z. omega (arith, a .1)) .bad-writes (a .1) .1 in
-      subst (λ (ws : List ℕ). Wrote (6 * n) ws out out′) w
-      (wrote-by o said ls d out out′ (answers .out-is) (a .0) (6 * n) (ap length w ∙ trail-bytes-length J mon m ∙ ap (λ (k : ℕ). 6 * k) (counts n q)))
+      subst (λ (ws : List ℕ). Wrote (record-len * n) ws out out′) w
+      (wrote-by o said ls d out out′ (answers .out-is) (a .0) (record-len * n) (ap length w ∙ trail-bytes-length J mon m ∙ ap (λ (k : ℕ). record-len * k) (counts n q)))
 
-  pub writes : (n : ℕ) → tell c ≡ tell (Bad n) → WrittenTrail J mon m n (take (6 * n) out′)
+  pub writes : (n : ℕ) → tell c ≡ tell (Bad n) → WrittenTrail J mon m n (take (record-len * n) out′)
   writes n q =
       let a = is-bad n .0 q in
       let e = ap read-trail (wrote n q .result) ∙ trail-read J mon m in

@@ -17,11 +17,13 @@ use Rattle.files.specs.Basics.Tests.{any, any-i, any-e, and-i, and-e, or-l, or-
 use Rattle.files.specs.Cells.{cell, put-cell}
 use Rattle.files.specs.Cells.Laws.{length-put-cell, byte-outside, cell-same, cell-apart, cell-other}
 use Rattle.files.specs.Graph.{Graph, size}
+use Rattle.files.specs.Places.{max-edges, max-nodes}
 use Rattle.files.specs.Rules.{Monitor}
 use Rattle.judging.specs.Ranking.Stores.{tally-room}
 use Rattle.maximal.specs.Masks.{member}
 use Rattle.maximal.specs.Masks.Laws.{member-or, members-eq}
 use Rattle.runs.specs.Prepared.Files.{tables-kept}
+use Rattle.runs.specs.Regions.{monitor-base, points, queue-cells, reached-base, spare-base, waiting-base, watch-room}
 use Rattle.runs.specs.Runs.{meth}
 use Rattle.runs.specs.Summary.{Inside}
 use Rattle.runs.specs.Worklist.{point, reach, waits, queue, reached, grown, queued, added, added-tail, Queued, Holding, Grew}
@@ -70,67 +72,67 @@ le-le a b c h l = omega arith
 -- w′ is w with the states v at a point, which waits, and with the point at the queue's end unless it waited before
 pub record Stored (w w′ : List ℕ) (tail tail′ at v : ℕ) : Type 0 where
   pub same-length : length w′ ≡ length w
-  pub reach-here : cell w′ 42516 1 at ≡ v
-  pub reach-there : (i : ℕ) → i < 2048 → (at ≡ i → ⊥) → cell w′ 42516 1 i ≡ cell w 42516 1 i
-  pub waits-here : cell w′ 44564 1 at ≡ 1
-  pub waits-there : (i : ℕ) → i < 2048 → (at ≡ i → ⊥) → cell w′ 44564 1 i ≡ cell w 44564 1 i
+  pub reach-here : cell w′ reached-base 1 at ≡ v
+  pub reach-there : (i : ℕ) → i < points → (at ≡ i → ⊥) → cell w′ reached-base 1 i ≡ cell w reached-base 1 i
+  pub waits-here : cell w′ waiting-base 1 at ≡ 1
+  pub waits-there : (i : ℕ) → i < points → (at ≡ i → ⊥) → cell w′ waiting-base 1 i ≡ cell w waiting-base 1 i
   pub queue-before : (i : ℕ) → i < tail → queue w′ i ≡ queue w i
-  pub queue-end : ((cell w 44564 1 at ≡ 1) × (tail′ ≡ tail)) ⊎ ((tail′ ≡ suc tail) × (queue w′ tail ≡ at))
-  pub rest : (q : ℕ) → ((32768 ≤ q) × (q < 42516)) ⊎ (46612 ≤ q) → getD w′ q 0 ≡ getD w q 0
+  pub queue-end : ((cell w waiting-base 1 at ≡ 1) × (tail′ ≡ tail)) ⊎ ((tail′ ≡ suc tail) × (queue w′ tail ≡ at))
+  pub rest : (q : ℕ) → ((monitor-base ≤ q) × (q < reached-base)) ⊎ (spare-base ≤ q) → getD w′ q 0 ≡ getD w q 0
 
-module _ (w : List ℕ) (tail at v : ℕ) (inside : at < 2048) (small : v < 256) (room : 46949 ≤ length w) where
+module _ (w : List ℕ) (tail at v : ℕ) (inside : at < points) (small : v < 256) (room : watch-room ≤ length w) where
   abbrev once : List ℕ
-  once = put-cell w 42516 1 at v
+  once = put-cell w reached-base 1 at v
 
-  once-rest : (q : ℕ) → ((32768 ≤ q) × (q < 42516)) ⊎ (46612 ≤ q) → getD once q 0 ≡ getD w q 0
-  once-rest q (inl h) = byte-outside w 42516 1 at v q (inl (omega (arith, h .1)))
-  once-rest q (inr h) = byte-outside w 42516 1 at v q (inr (omega arith))
+  once-rest : (q : ℕ) → ((monitor-base ≤ q) × (q < reached-base)) ⊎ (spare-base ≤ q) → getD once q 0 ≡ getD w q 0
+  once-rest q (inl h) = byte-outside w reached-base 1 at v q (inl (omega (arith, h .1)))
+  once-rest q (inr h) = byte-outside w reached-base 1 at v q (inr (omega arith))
 
-  stored-waiting : tail ≤ 16384 → cell w 44564 1 at ≡ 1 → Stored w once tail tail at v
+  stored-waiting : tail ≤ queue-cells → cell w waiting-base 1 at ≡ 1 → Stored w once tail tail at v
   stored-waiting t e = record {
-    same-length = length-put-cell w 42516 1 at v;
-    reach-here = cell-same w 42516 1 at v (omega arith) small;
-    reach-there = λ i h n. cell-other w 42516 1 at i v n;
-    waits-here = cell-apart w 42516 1 at v 44564 1 at (inr (omega arith)) ∙ e;
-    waits-there = λ i h n. cell-apart w 42516 1 at v 44564 1 i (inr (omega arith));
-    queue-before = λ i h. cell-apart w 42516 1 at v 0 2 i (inl (omega (arith, h)));
+    same-length = length-put-cell w reached-base 1 at v;
+    reach-here = cell-same w reached-base 1 at v (omega arith) small;
+    reach-there = λ i h n. cell-other w reached-base 1 at i v n;
+    waits-here = cell-apart w reached-base 1 at v waiting-base 1 at (inr (omega arith)) ∙ e;
+    waits-there = λ i h n. cell-apart w reached-base 1 at v waiting-base 1 i (inr (omega arith));
+    queue-before = λ i h. cell-apart w reached-base 1 at v 0 2 i (inl (omega (arith, h)));
     queue-end = inl (e, refl);
     rest = once-rest;
   }
 
   abbrev marked : List ℕ
-  marked = put-cell once 44564 1 at 1
+  marked = put-cell once waiting-base 1 at 1
 
   abbrev pushed : List ℕ
   pushed = put-cell marked 0 2 tail at
 
   long : (length marked ≡ length w) × (length pushed ≡ length w)
   long =
-      let a = length-put-cell w 42516 1 at v in
-      let b = length-put-cell once 44564 1 at 1 in
+      let a = length-put-cell w reached-base 1 at v in
+      let b = length-put-cell once waiting-base 1 at 1 in
       (b ∙ a, length-put-cell marked 0 2 tail at ∙ b ∙ a)
 
-  stored-new : tail < 16384 → Stored w pushed tail (suc tail) at v
+  stored-new : tail < queue-cells → Stored w pushed tail (suc tail) at v
   stored-new t = record {
     same-length = long .1;
-    reach-here = cell-apart marked 0 2 tail at 42516 1 at (inr (omega arith)) ∙ cell-apart once 44564 1 at 1 42516 1 at (inl (omega arith)) ∙ cell-same w 42516 1 at v (omega arith) small;
-    reach-there = λ i h n. cell-apart marked 0 2 tail at 42516 1 i (inr (omega arith)) ∙ cell-apart once 44564 1 at 1 42516 1 i (inl (omega arith)) ∙ cell-other w 42516 1 at i v n;
-    waits-here = cell-apart marked 0 2 tail at 44564 1 at (inr (omega arith))
-        ∙ cell-same once 44564 1 at 1 (omega (arith, length-put-cell w 42516 1 at v)) (omega arith);
-    waits-there = λ i h n. cell-apart marked 0 2 tail at 44564 1 i (inr (omega arith)) ∙ cell-other once 44564 1 at i 1 n ∙ cell-apart w 42516 1 at v 44564 1 i (inr (omega arith));
-    queue-before = λ i h. cell-other marked 0 2 tail i at (λ e. omega (arith, h, e)) ∙ cell-apart once 44564 1 at 1 0 2 i (inl (omega (arith, h)))
-        ∙ cell-apart w 42516 1 at v 0 2 i (inl (omega (arith, h)));
+    reach-here = cell-apart marked 0 2 tail at reached-base 1 at (inr (omega arith)) ∙ cell-apart once waiting-base 1 at 1 reached-base 1 at (inl (omega arith)) ∙ cell-same w reached-base 1 at v (omega arith) small;
+    reach-there = λ i h n. cell-apart marked 0 2 tail at reached-base 1 i (inr (omega arith)) ∙ cell-apart once waiting-base 1 at 1 reached-base 1 i (inl (omega arith)) ∙ cell-other w reached-base 1 at i v n;
+    waits-here = cell-apart marked 0 2 tail at waiting-base 1 at (inr (omega arith))
+        ∙ cell-same once waiting-base 1 at 1 (omega (arith, length-put-cell w reached-base 1 at v)) (omega arith);
+    waits-there = λ i h n. cell-apart marked 0 2 tail at waiting-base 1 i (inr (omega arith)) ∙ cell-other once waiting-base 1 at i 1 n ∙ cell-apart w reached-base 1 at v waiting-base 1 i (inr (omega arith));
+    queue-before = λ i h. cell-other marked 0 2 tail i at (λ e. omega (arith, h, e)) ∙ cell-apart once waiting-base 1 at 1 0 2 i (inl (omega (arith, h)))
+        ∙ cell-apart w reached-base 1 at v 0 2 i (inl (omega (arith, h)));
     queue-end = inr (refl, cell-same marked 0 2 tail at (omega (arith, long .0)) (omega arith));
     rest = λ q h. byte-outside marked 0 2 tail at q (inr (after q h)) ∙ twice q h ∙ once-rest q h;
   }
     where
-      after : (q : ℕ) → ((32768 ≤ q) × (q < 42516)) ⊎ (46612 ≤ q) → 0 + 2 * tail + 2 ≤ q
+      after : (q : ℕ) → ((monitor-base ≤ q) × (q < reached-base)) ⊎ (spare-base ≤ q) → 0 + 2 * tail + 2 ≤ q
       after q (inl h) = omega (arith, h .0)
       after q (inr h) = omega arith
 
-      twice : (q : ℕ) → ((32768 ≤ q) × (q < 42516)) ⊎ (46612 ≤ q) → getD marked q 0 ≡ getD once q 0
-      twice q (inl h) = byte-outside once 44564 1 at 1 q (inl (omega (arith, h .1)))
-      twice q (inr h) = byte-outside once 44564 1 at 1 q (inr (omega arith))
+      twice : (q : ℕ) → ((monitor-base ≤ q) × (q < reached-base)) ⊎ (spare-base ≤ q) → getD marked q 0 ≡ getD once q 0
+      twice q (inl h) = byte-outside once waiting-base 1 at 1 q (inl (omega (arith, h .1)))
+      twice q (inr h) = byte-outside once waiting-base 1 at 1 q (inr (omega arith))
 
 -- ---- adding states, as the code does it
 
@@ -145,12 +147,12 @@ add-same w tail g p y old e d = go (eqb (bitOr (reach w g p) y) (reach w g p)) (
 
 -- w₁ has the new states
 module _ (w w₁ : List ℕ) (tail g p y old : ℕ) (hg : g < 256) (hp : p < 8) (is : old ≡ reach w g p) (fresh : bitOr old y ≡ old → ⊥)
-    (put : w₁ ≡ put-cell w 42516 1 (point g p) (bitOr old y)) where
+    (put : w₁ ≡ put-cell w reached-base 1 (point g p) (bitOr old y)) where
   is-grown : w₁ ≡ grown w g p y
-  is-grown = put ∙ ap (λ (x : ℕ). put-cell w 42516 1 (point g p) (bitOr x y)) is
+  is-grown = put ∙ ap (λ (x : ℕ). put-cell w reached-base 1 (point g p) (bitOr x y)) is
 
   same-waits : waits w₁ g p ≡ waits w g p
-  same-waits = ap (λ (v : List ℕ). waits v g p) put ∙ cell-apart w 42516 1 (point g p) (bitOr old y) 44564 1 (point g p) (inr (omega arith))
+  same-waits = ap (λ (v : List ℕ). waits v g p) put ∙ cell-apart w reached-base 1 (point g p) (bitOr old y) waiting-base 1 (point g p) (inr (omega arith))
 
   not-same : T (eqb (bitOr (reach w g p) y) (reach w g p)) → ⊥
   not-same t = fresh (ap (λ (x : ℕ). bitOr x y) is ∙ eqb→eq _ _ t ∙ sym is)
@@ -158,7 +160,7 @@ module _ (w w₁ : List ℕ) (tail g p y old : ℕ) (hg : g < 256) (hp : p < 8) 
   abbrev Ends : Bool → Bool → ℕ → List ℕ → Type 0
   Ends b c t v = (t ≡ cond b tail (cond c tail (suc tail))) × (v ≡ cond b w (cond c (grown w g p y) (queued (grown w g p y) tail g p)))
 
-  pub add-waiting : cell w₁ 44564 1 (point g p) ≡ 1 → (tail ≡ added-tail w tail g p y) × (w₁ ≡ added w tail g p y)
+  pub add-waiting : cell w₁ waiting-base 1 (point g p) ≡ 1 → (tail ≡ added-tail w tail g p y) × (w₁ ≡ added w tail g p y)
   unfolding added added-tail
   add-waiting e = go (eqb (bitOr (reach w g p) y) (reach w g p)) (eqb (waits w g p) 1) not-same (eq-eqb _ _ (sym same-waits ∙ e))
     where
@@ -167,7 +169,7 @@ module _ (w w₁ : List ℕ) (tail g p y old : ℕ) (hg : g < 256) (hp : p < 8) 
       go false true f t = (refl, is-grown)
       go false false f t = absurd t
 
-  pub add-new : (w₂ w₃ : List ℕ) → (cell w₁ 44564 1 (point g p) ≡ 1 → ⊥) → w₂ ≡ put-cell w₁ 44564 1 (point g p) 1 → w₃ ≡ put-cell w₂ 0 2 tail (point g p)
+  pub add-new : (w₂ w₃ : List ℕ) → (cell w₁ waiting-base 1 (point g p) ≡ 1 → ⊥) → w₂ ≡ put-cell w₁ waiting-base 1 (point g p) 1 → w₃ ≡ put-cell w₂ 0 2 tail (point g p)
       → (tail + 1 ≡ added-tail w tail g p y) × (w₃ ≡ added w tail g p y)
   unfolding added added-tail
   add-new w₂ w₃ n a b = go (eqb (bitOr (reach w g p) y) (reach w g p)) (eqb (waits w g p) 1) not-same (λ t. n (same-waits ∙ eqb→eq _ _ t))
@@ -219,7 +221,7 @@ module _ (G : Graph) (mon : Monitor) where
           on (inl z) = inl z
           on (inr k) = inr (k .0, k .1, omega (arith, k .2, y .longer), y .queue-kept (k .0) (k .2) ∙ k .3)
 
-  module _ (few-nodes : size G ≤ 256) (few-edges : length (G .edges) ≤ 4096) (tail : ℕ) (w : List ℕ) (now : Holding G mon tail w) (g p y : ℕ) (hg : g < size G) (hp : p < 8) (small : y < 256) where
+  module _ (few-nodes : size G ≤ max-nodes) (few-edges : length (G .edges) ≤ max-edges) (tail : ℕ) (w : List ℕ) (now : Holding G mon tail w) (g p y : ℕ) (hg : g < size G) (hp : p < 8) (small : y < 256) where
     abbrev old : ℕ
     old = reach w g p
 
@@ -228,21 +230,21 @@ module _ (G : Graph) (mon : Monitor) where
 
     -- bit q of the point's states, among all
     abbrev bit-of : List ℕ → ℕ → Bool
-    bit-of v h = member (cell v 42516 1 (h / 8)) (h % 8)
+    bit-of v h = member (cell v reached-base 1 (h / 8)) (h % 8)
 
     at-bit : (v : List ℕ) (q : ℕ) → q < 8 → bit-of v (8 * point g p + q) ≡ member (reach v g p) q
     at-bit v q h =
         let a : (8 * point g p + q) / 8 ≡ point g p = omega arith in
         let b : (8 * point g p + q) % 8 ≡ q = omega arith in
-        ap (λ (i : ℕ). member (cell v 42516 1 i) ((8 * point g p + q) % 8)) a ∙ ap (λ (k : ℕ). member (reach v g p) k) b
+        ap (λ (i : ℕ). member (cell v reached-base 1 i) ((8 * point g p + q) % 8)) a ∙ ap (λ (k : ℕ). member (reach v g p) k) b
 
-    not-full : (q : ℕ) → q < 8 → T (not (member old q)) → reached w < 16384
+    not-full : (q : ℕ) → q < 8 → T (not (member old q)) → reached w < queue-cells
     unfolding reached
-    not-full q h t = tally-room (bit-of w) (8 * point g p + q) 16384 (omega (arith, few-nodes)) (subst (λ (b : Bool). T (not b)) (sym (at-bit w q h)) t)
+    not-full q h t = tally-room (bit-of w) (8 * point g p + q) queue-cells (omega (arith, few-nodes)) (subst (λ (b : Bool). T (not b)) (sym (at-bit w q h)) t)
 
     -- a state that is new has room in the queue
-    pub room-for : (new ≡ old → ⊥) → tail < 16384
-    room-for f = let a = new-state old y (now .reach-small g p hg hp) small f in lt-le tail (reached w) 16384 (now .few) (not-full (a .0) (a .1) (a .3))
+    pub room-for : (new ≡ old → ⊥) → tail < queue-cells
+    room-for f = let a = new-state old y (now .reach-small g p hg hp) small f in lt-le tail (reached w) queue-cells (now .few) (not-full (a .0) (a .1) (a .3))
 
     module _ (happens : (q : ℕ) → q < 8 → T (member y q) → Inside G mon (meth G g) p g q) (w′ : List ℕ) (tail′ : ℕ) (fresh : new ≡ old → ⊥) (st : Stored w w′ tail tail′ (point g p) new) where
       -- the point itself, or another
@@ -269,12 +271,12 @@ module _ (G : Graph) (mon : Monitor) where
       unfolding reached
       more =
           let a = new-state old y (now .reach-small g p hg hp) small fresh in
-          tally-more (bit-of w) (bit-of w′) (8 * point g p + a .0) 16384 (omega (arith, few-nodes, a .1)) (subst (λ (b : Bool). T (not b)) (sym (at-bit w (a .0) (a .1))) (a .3))
+          tally-more (bit-of w) (bit-of w′) (8 * point g p + a .0) queue-cells (omega (arith, few-nodes, a .1)) (subst (λ (b : Bool). T (not b)) (sym (at-bit w (a .0) (a .1))) (a .3))
           (subst T (sym (at-bit w′ (a .0) (a .1))) (has-new (a .0) (a .2))) (λ h l t. up h l (ℕ-discrete (point g p) (h / 8)) t)
         where
-          up : (h : ℕ) → h < 16384 → Dec (point g p ≡ h / 8) → T (bit-of w h) → T (bit-of w′ h)
+          up : (h : ℕ) → h < queue-cells → Dec (point g p ≡ h / 8) → T (bit-of w h) → T (bit-of w′ h)
           up h l (yes e) t =
-              subst (λ (i : ℕ). T (member (cell w′ 42516 1 i) (h % 8))) e (grows (h % 8) (subst (λ (i : ℕ). T (member (cell w 42516 1 i) (h % 8))) (sym e) t))
+              subst (λ (i : ℕ). T (member (cell w′ reached-base 1 i) (h % 8))) e (grows (h % 8) (subst (λ (i : ℕ). T (member (cell w reached-base 1 i) (h % 8))) (sym e) t))
           up h l (no n) t = subst (λ (k : ℕ). T (member k (h % 8))) (sym (st .reach-there (h / 8) (omega arith) n)) t
 
       at-most : tail′ ≡ tail → tail ≤ tail′
@@ -310,7 +312,7 @@ module _ (G : Graph) (mon : Monitor) where
       }
         where
           small-on : (h r : ℕ) → h < size G → r < 8 → ((g ≡ h) × (p ≡ r)) ⊎ (point g p ≡ point h r → ⊥) → reach w′ h r < 256
-          small-on h r hh hr (inl e) = subst (λ (k : ℕ). k < 256) (sym (ap (λ (i : ℕ). cell w′ 42516 1 i) (sym (same-point h r e)) ∙ st .reach-here)) (or-lt 8 old y (now .reach-small g p hg hp) small)
+          small-on h r hh hr (inl e) = subst (λ (k : ℕ). k < 256) (sym (ap (λ (i : ℕ). cell w′ reached-base 1 i) (sym (same-point h r e)) ∙ st .reach-here)) (or-lt 8 old y (now .reach-small g p hg hp) small)
           small-on h r hh hr (inr n) = subst (λ (k : ℕ). k < 256) (sym (reach-other h r hh hr n)) (now .reach-small h r hh hr)
 
           happens-on : (h r q : ℕ) → h < size G → r < 8 → q < 8 → T (member (reach w′ h r) q) → ((g ≡ h) × (p ≡ r)) ⊎ (point g p ≡ point h r → ⊥) → Inside G mon (meth G h) r h q
@@ -318,7 +320,7 @@ module _ (G : Graph) (mon : Monitor) where
           happens-on h r q hh hr hq t (inl e) = subst (λ (i : ℕ). Inside G mon (meth G i) r i q) (e .0) (subst (λ (i : ℕ). Inside G mon (meth G g) i g q) (e .1) here)
             where
               here : Inside G mon (meth G g) p g q
-              here = on (or-e (member old q) (member y q) (subst T (ap (λ (i : ℕ). member (cell w′ 42516 1 i) q) (sym (same-point h r e)) ∙ ap (λ (k : ℕ). member k q) (st .reach-here) ∙ member-or old y q) t))
+              here = on (or-e (member old q) (member y q) (subst T (ap (λ (i : ℕ). member (cell w′ reached-base 1 i) q) (sym (same-point h r e)) ∙ ap (λ (k : ℕ). member k q) (st .reach-here) ∙ member-or old y q) t))
                 where
                   on : T (member old q) ⊎ T (member y q) → Inside G mon (meth G g) p g q
                   on (inl u) = now .reach-happens g p q hg hp hq u
@@ -337,10 +339,10 @@ module _ (G : Graph) (mon : Monitor) where
       }
         where
           here-waits : (h r : ℕ) → (g ≡ h) × (p ≡ r) → waits w′ h r ≡ 1
-          here-waits h r e = ap (λ (i : ℕ). cell w′ 44564 1 i) (sym (same-point h r e)) ∙ st .waits-here
+          here-waits h r e = ap (λ (i : ℕ). cell w′ waiting-base 1 i) (sym (same-point h r e)) ∙ st .waits-here
 
           kept-on : (h r q : ℕ) → h < size G → r < 8 → T (member (reach w h r) q) → ((g ≡ h) × (p ≡ r)) ⊎ (point g p ≡ point h r → ⊥) → T (member (reach w′ h r) q)
-          kept-on h r q hh hr t (inl e) = subst (λ (i : ℕ). T (member (cell w′ 42516 1 i) q)) (same-point h r e) (grows q (subst (λ (i : ℕ). T (member (cell w 42516 1 i) q)) (sym (same-point h r e)) t))
+          kept-on h r q hh hr t (inl e) = subst (λ (i : ℕ). T (member (cell w′ reached-base 1 i) q)) (same-point h r e) (grows q (subst (λ (i : ℕ). T (member (cell w reached-base 1 i) q)) (sym (same-point h r e)) t))
           kept-on h r q hh hr t (inr n) = subst (λ (k : ℕ). T (member k q)) (sym (reach-other h r hh hr n)) t
 
           changed-on : (h r : ℕ) → h < size G → r < 8 → ((g ≡ h) × (p ≡ r)) ⊎ (point g p ≡ point h r → ⊥) → (reach w′ h r ≡ reach w h r) ⊎ (waits w′ h r ≡ 1)
@@ -355,7 +357,7 @@ module _ (G : Graph) (mon : Monitor) where
               → ((waits w g p ≡ 1) × (tail′ ≡ tail)) ⊎ ((tail′ ≡ suc tail) × (queue w′ tail ≡ point g p))
               → (waits w h r ≡ 1) ⊎ ((i : ℕ) × (tail ≤ i) × (i < tail′) × (queue w′ i ≡ point h r))
           queued-new h r hh hr e (inr n) d = inl (sym (st .waits-there (point h r) (omega (arith, few-nodes)) n) ∙ e)
-          queued-new h r hh hr e (inl d) (inl z) = inl (ap (λ (i : ℕ). cell w 44564 1 i) (sym (same-point h r d)) ∙ z .0)
+          queued-new h r hh hr e (inl d) (inl z) = inl (ap (λ (i : ℕ). cell w waiting-base 1 i) (sym (same-point h r d)) ∙ z .0)
           queued-new h r hh hr e (inl d) (inr z) = inr (tail, omega arith, omega (arith, z .0), z .1 ∙ same-point h r d)
 
     -- adding states that happen
@@ -363,7 +365,7 @@ module _ (G : Graph) (mon : Monitor) where
       abbrev Adds : List ℕ → ℕ → Type 0
       Adds w′ tail′ = Grew G mon tail tail′ w w′ × ((q : ℕ) → T (member y q) → T (member (reach w′ g p) q))
 
-      at-point : point g p < 2048
+      at-point : point g p < points
       at-point = omega (arith, few-nodes)
 
       new-small : new < 256

@@ -12,10 +12,12 @@ use Rattle.files.specs.Basics.Lists.{index-i}
 use Rattle.files.specs.Basics.Tests.{eq-eqb}
 use Rattle.files.specs.Cells.Laws.{cell-one}
 use Rattle.files.specs.Graph.{Graph, Edge, size, node, no-edge, Flow}
+use Rattle.files.specs.Places.{max-nodes}
 use Rattle.files.specs.Rules.{Monitor, Event}
 use Rattle.maximal.specs.Masks.{member}
 use Rattle.maximal.specs.Masks.Laws.{member-none}
 use Rattle.runs.specs.Prepared.{labelled, Tables}
+use Rattle.runs.specs.Regions.{reached-base, waiting-base, watch-room}
 use Rattle.runs.specs.Runs.{meth}
 use Rattle.runs.specs.Summary.{Yields}
 use Rattle.runs.specs.Worklist.{passed, point, reach, waits, sums, no-sums, queue, reached, Holding, Grew, Covered, Spread, EdgesRun, Starts, CoveredBut, CallsRun, EntriesIn, SummariesIn}
@@ -58,17 +60,17 @@ module _ (G : Graph) (mon : Monitor) where
   -- ---- a buffer of zeros
 
   module _ (flow : Flow G) (labels-small : (e : Edge) → List·Memᴰ e (G .edges) → e .label < 9) (mon-small : (q : ℕ) (v : Event) → q < 8 → mon q v < 8)
-      (few-nodes : size G ≤ 256) (w : List ℕ) (zeros : (q : ℕ) → 42516 ≤ q → getD w q 0 ≡ 0) where
+      (few-nodes : size G ≤ max-nodes) (w : List ℕ) (zeros : (q : ℕ) → reached-base ≤ q → getD w q 0 ≡ 0) where
     reach-zero : (g p : ℕ) → reach w g p ≡ 0
-    reach-zero g p = cell-one w 42516 (point g p) ∙ zeros (42516 + point g p) (omega arith)
+    reach-zero g p = cell-one w reached-base (point g p) ∙ zeros (reached-base + point g p) (omega arith)
 
     waits-zero : (g p : ℕ) → waits w g p ≡ 0
-    waits-zero g p = cell-one w 44564 (point g p) ∙ zeros (44564 + point g p) (omega arith)
+    waits-zero g p = cell-one w waiting-base (point g p) ∙ zeros (waiting-base + point g p) (omega arith)
 
     none-in : (x q : ℕ) → x ≡ 0 → T (member x q) → ⊥
     none-in x q e t = subst T (ap (λ (k : ℕ). member k q) e ∙ member-none q) t
 
-    pub holds-nothing : Tables G mon w → 46949 ≤ length w → Holding G mon 0 w
+    pub holds-nothing : Tables G mon w → watch-room ≤ length w → Holding G mon 0 w
     holds-nothing t room = record {
       room = room;
       tables = t;

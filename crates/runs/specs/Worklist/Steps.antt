@@ -18,10 +18,12 @@ use Rattle.files.specs.Basics.Tables.{tally-le, tally-same}
 use Rattle.files.specs.Cells.{cell, put-cell}
 use Rattle.files.specs.Cells.Laws.{length-put-cell, byte-outside, cell-same, cell-apart, cell-other}
 use Rattle.files.specs.Graph.{Graph, Edge, size, node, Flow}
+use Rattle.files.specs.Places.{max-edges, max-nodes}
 use Rattle.files.specs.Rules.{Monitor, Event, calls, returns-to}
 use Rattle.maximal.specs.Masks.{member}
 use Rattle.maximal.specs.Masks.Laws.{member-or, member-one}
 use Rattle.runs.specs.Prepared.Files.{tables-kept}
+use Rattle.runs.specs.Regions.{queue-cells, reached-base, waiting-base}
 use Rattle.runs.specs.Runs.{meth, Runs}
 use Rattle.runs.specs.Summary.{Inside, enter, inner, over, Yields}
 use Rattle.runs.specs.Summary.Spots.{inside-now}
@@ -202,9 +204,9 @@ module _ (G : Graph) (mon : Monitor) (flow : Flow G) (labels-small : (e : Edge) 
   only-right (inl z) = absurd z
   only-right (inr a) = a
 
-  pub reached-most : (w : List ℕ) → reached w ≤ 16384
+  pub reached-most : (w : List ℕ) → reached w ≤ queue-cells
   unfolding reached
-  reached-most w = tally-le (λ (h : ℕ). member (cell w 42516 1 (h / 8)) (h % 8)) 16384
+  reached-most w = tally-le (λ (h : ℕ). member (cell w reached-base 1 (h / 8)) (h % 8)) queue-cells
 
   pub summed-i : (t : List (List ℕ)) (w : List ℕ) (g p : ℕ) → ((q : ℕ) → q < 8 → T (member (reach w g p) q) → T (member (sums t (meth G g) p) q)) → Summed G mon t w g p
   unfolding Summed
@@ -212,16 +214,16 @@ module _ (G : Graph) (mon : Monitor) (flow : Flow G) (labels-small : (e : Edge) 
 
   -- ---- a point is taken
 
-  module _ (few-nodes : size G ≤ 256) (few-edges : length (G .edges) ≤ 4096) (t : List (List ℕ)) (head tail : ℕ) (w : List ℕ) (s : Spread G mon t head tail w) (some : head < tail)
+  module _ (few-nodes : size G ≤ max-nodes) (few-edges : length (G .edges) ≤ max-edges) (t : List (List ℕ)) (head tail : ℕ) (w : List ℕ) (s : Spread G mon t head tail w) (some : head < tail)
       (g p : ℕ) (hg : g < size G) (hp : p < 8) (there : queue w head ≡ point g p) where
     abbrev taken : List ℕ
-    taken = put-cell w 44564 1 (point g p) 0
+    taken = put-cell w waiting-base 1 (point g p) 0
 
     reach-same : (h r : ℕ) → h < size G → r < 8 → reach taken h r ≡ reach w h r
-    reach-same h r hh hr = cell-apart w 44564 1 (point g p) 0 42516 1 (point h r) (inl (omega (arith, few-nodes)))
+    reach-same h r hh hr = cell-apart w waiting-base 1 (point g p) 0 reached-base 1 (point h r) (inl (omega (arith, few-nodes)))
 
-    queue-same : (i : ℕ) → i < tail → tail ≤ 16384 → queue taken i ≡ queue w i
-    queue-same i l t = cell-apart w 44564 1 (point g p) 0 0 2 i (inl (omega arith))
+    queue-same : (i : ℕ) → i < tail → tail ≤ queue-cells → queue taken i ≡ queue w i
+    queue-same i l t = cell-apart w waiting-base 1 (point g p) 0 0 2 i (inl (omega arith))
 
     -- what still waits is another point
     other : (h r : ℕ) → h < size G → r < 8 → waits taken h r ≡ 1 → (point g p ≡ point h r → ⊥) × (waits w h r ≡ 1)
@@ -229,35 +231,35 @@ module _ (G : Graph) (mon : Monitor) (flow : Flow G) (labels-small : (e : Edge) 
       where
         go : Dec (point g p ≡ point h r) → (point g p ≡ point h r → ⊥) × (waits w h r ≡ 1)
         go (yes d) =
-            let z : waits taken h r ≡ 0 = ap (λ (i : ℕ). cell taken 44564 1 i) (sym d) ∙ cell-same w 44564 1 (point g p) 0 (omega (arith, few-nodes, s .holding .room)) (omega arith) in
+            let z : waits taken h r ≡ 0 = ap (λ (i : ℕ). cell taken waiting-base 1 i) (sym d) ∙ cell-same w waiting-base 1 (point g p) 0 (omega (arith, few-nodes, s .holding .room)) (omega arith) in
             absurd (omega (arith, e))
-        go (no n) = (n, sym (cell-other w 44564 1 (point g p) (point h r) 0 n) ∙ e)
+        go (no n) = (n, sym (cell-other w waiting-base 1 (point g p) (point h r) 0 n) ∙ e)
 
     covered-taken : (e : Edge) → List·Memᴰ e (G .edges) → (r : ℕ) → r < 8 → (point g p ≡ point (e .from) r → ⊥) → Covered G mon t w e r → Covered G mon t taken e r
     unfolding Covered
-    covered-taken e k r hr n (inl d) = inl (cell-other w 44564 1 (point g p) (point (e .from) r) 0 n ∙ d)
+    covered-taken e k r hr n (inl d) = inl (cell-other w waiting-base 1 (point g p) (point (e .from) r) 0 n ∙ d)
     covered-taken e k r hr n (inr f) =
         inr (λ q hq u. subst (λ (y : ℕ). T (member y q)) (sym (reach-same (e .to) r (flow .to-node e k) hr))
         (f q hq (subst (λ (y : ℕ). T (member (after-edge G mon (sums t) e y) q)) (reach-same (e .from) r (flow .from-node e k) hr) u)))
 
     summed-taken : (h r : ℕ) → h < size G → r < 8 → (point g p ≡ point h r → ⊥) → Summed G mon t w h r → Summed G mon t taken h r
     unfolding Summed
-    summed-taken h r hh hr n (inl d) = inl (cell-other w 44564 1 (point g p) (point h r) 0 n ∙ d)
+    summed-taken h r hh hr n (inl d) = inl (cell-other w waiting-base 1 (point g p) (point h r) 0 n ∙ d)
     summed-taken h r hh hr n (inr f) = inr (λ q hq u. f q hq (subst (λ (y : ℕ). T (member y q)) (reach-same h r hh hr) u))
 
     reached-same : reached taken ≡ reached w
     unfolding reached
     reached-same =
-        tally-same (λ (h : ℕ). member (cell taken 42516 1 (h / 8)) (h % 8)) (λ (h : ℕ). member (cell w 42516 1 (h / 8)) (h % 8)) 16384
-        (λ h l. ap (λ (k : ℕ). member k (h % 8)) (cell-apart w 44564 1 (point g p) 0 42516 1 (h / 8) (inl (omega (arith, few-nodes)))))
+        tally-same (λ (h : ℕ). member (cell taken reached-base 1 (h / 8)) (h % 8)) (λ (h : ℕ). member (cell w reached-base 1 (h / 8)) (h % 8)) queue-cells
+        (λ h l. ap (λ (k : ℕ). member k (h % 8)) (cell-apart w waiting-base 1 (point g p) 0 reached-base 1 (h / 8) (inl (omega (arith, few-nodes)))))
 
-    in-reach : tail ≤ 16384
+    in-reach : tail ≤ queue-cells
     in-reach = le-trans (s .holding .few) (reached-most w)
 
     taken-holds : Holding G mon tail taken
     taken-holds = record {
-      room = omega (arith, length-put-cell w 44564 1 (point g p) 0, s .holding .room);
-      tables = tables-kept G mon w taken few-nodes few-edges (λ q a b. byte-outside w 44564 1 (point g p) 0 q (inl (omega arith))) (s .holding .tables);
+      room = omega (arith, length-put-cell w waiting-base 1 (point g p) 0, s .holding .room);
+      tables = tables-kept G mon w taken few-nodes few-edges (λ q a b. byte-outside w waiting-base 1 (point g p) 0 q (inl (omega arith))) (s .holding .tables);
       reach-small = λ h r hh hr. subst (λ (k : ℕ). k < 256) (sym (reach-same h r hh hr)) (s .holding .reach-small h r hh hr);
       reach-happens = λ h r q hh hr hq t. s .holding .reach-happens h r q hh hr hq (subst (λ (k : ℕ). T (member k q)) (reach-same h r hh hr) t);
       in-queue = λ i l. queued-on i l (s .holding .in-queue i l);

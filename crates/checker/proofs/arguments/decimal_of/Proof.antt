@@ -4,9 +4,10 @@ use lib.ListN.{length}
 use borrow.Author.Needs.{needs}
 use Rattle.checker.proofs.arguments.decimal_of.Statement.{statement}
 use Rattle.checker.proofs.arguments.decimal_of.Tie as tie
+use Rattle.checker.specs.Places.{number-most}
 
 abbrev Inv-loop : tie.InvT-loop
-Inv-loop text value₀ i₀ value i = value ≤ 1000000
+Inv-loop text value₀ i₀ value i = value ≤ number-most
 
 abbrev μ-loop : tie.MeasureT-loop
 μ-loop text value₀ i₀ value i = length text - i

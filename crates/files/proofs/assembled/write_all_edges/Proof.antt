@@ -10,6 +10,7 @@ use Rattle.files.specs.Deliveries.{decode-deliveries}
 use Rattle.files.specs.Deliveries.Layout.{nodes-among}
 use Rattle.files.proofs.assembled.write_all_edges.Statement.{statement}
 use Rattle.files.proofs.assembled.write_all_edges.Tie as tie
+use Rattle.files.specs.Places.{record-len}
 
 abbrev Inv-loop : tie.InvT-loop
 Inv-loop file kept out₀ first before₀ at₀ method₀ out before at method =
@@ -94,7 +95,7 @@ returns c =
     let a = c .before .before .before .before .args in
     let loop = c .before .loop in
     let e : loop .method - 1 ≡ 8 = omega (arith, loop .inv .1, c .loop-test .left) in
-    loop .inv .3 .bytes ∙ ap (λ (k : ℕ). put-at (a .out .now) (6 * a .first) (run (edge-recs (decode-deliveries (a .file .now))) k)) e
+    loop .inv .3 .bytes ∙ ap (λ (k : ℕ). put-at (a .out .now) (record-len * a .first) (run (edge-recs (decode-deliveries (a .file .now))) k)) e
 
 pub write-all-edges-spec : {M : Type 1} → statement M
 write-all-edges-spec =

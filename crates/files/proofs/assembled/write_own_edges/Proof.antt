@@ -9,6 +9,7 @@ use Rattle.files.specs.Deliveries.{decode-deliveries}
 use borrow.Author.Needs.{needs}
 use Rattle.files.proofs.assembled.write_own_edges.Statement.{statement}
 use Rattle.files.proofs.assembled.write_own_edges.Tie as tie
+use Rattle.files.specs.Places.{record-len}
 
 standing-part-requires : tie.Need-standing-part-requires
 standing-part-requires c κs = search needs
@@ -58,7 +59,7 @@ returns c =
       node-count (part .ensures) ∙ sym (node-recs-count ds (a .method)),
       (
         edge-count (part .ensures) ∙ sym (edge-recs-count ds (a .method)),
-        c .before .before .write-all-moved .ensures ∙ ap (put-at (a .out .now) (6 * a .at)) (body-moved l (a .method) (part .result) (part .ensures) (a .before) (s .pre .1 .1 .0)),
+        c .before .before .write-all-moved .ensures ∙ ap (put-at (a .out .now) (record-len * a .at)) (body-moved l (a .method) (part .result) (part .ensures) (a .before) (s .pre .1 .1 .0)),
       ),
     )
 

@@ -10,6 +10,7 @@ use Rattle.files.specs.Deliveries.{decode-deliveries}
 use borrow.Author.Needs.{needs}
 use Rattle.files.proofs.assembled.write_own_nodes.Statement.{statement}
 use Rattle.files.proofs.assembled.write_own_nodes.Tie as tie
+use Rattle.files.specs.Places.{record-len}
 
 standing-part-requires : tie.Need-standing-part-requires
 standing-part-requires c κs = let s = c .before .before in (s .pre .0, s .pre .1 .0)
@@ -56,7 +57,7 @@ returns c =
     let part = c .before .before .before .before .before .before .before .before .standing-part in
     let n : part .result .nodes ≡ length (node-recs (decode-deliveries (a .file .now)) (a .method)) = node-count (part .ensures) ∙ sym (node-recs-count (decode-deliveries (a .file .now)) (a .method)) in (
       ap (λ (k : ℕ). a .at + k) n,
-      c .before .before .before .copy-at .ensures ∙ ap (put-at (a .out .now) (6 * a .at)) (node-cut (a .file .now) (a .method) (part .result) (part .ensures)),
+      c .before .before .before .copy-at .ensures ∙ ap (put-at (a .out .now) (record-len * a .at)) (node-cut (a .file .now) (a .method) (part .result) (part .ensures)),
     )
 
 pub write-own-nodes-spec : {M : Type 1} → statement M

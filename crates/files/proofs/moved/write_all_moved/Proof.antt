@@ -9,6 +9,7 @@ use Rattle.files.specs.Cells.{put-at}
 use Rattle.files.specs.Cells.Wrote.{Wrote, wrote-none, wrote-more}
 use Rattle.files.specs.Decode.{decode-graph}
 use Rattle.files.specs.Join.Bytes.{moved-bytes, moved-all}
+use Rattle.files.specs.Places.{record-len}
 use Rattle.files.specs.View.{view-edges}
 use Rattle.files.proofs.moved.write_all_moved.Statement.{statement}
 use Rattle.files.proofs.moved.write_all_moved.Tie as tie
@@ -61,7 +62,7 @@ returns c =
     let l = c .before .before .loop in
     let G = decode-graph (a .graph .now) in
     let e : l .j ≡ a .view .edges = omega (arith, c .if1 .left, l .inv .0) in
-    l .inv .1 .bytes ∙ ap (put-at (a .out .now) (6 * a .first)) (ap (λ (n : ℕ). each (moved-bytes (a .before) G) (span 0 n)) (e ∙ sym (view-edges (k .pre .0))) ∙ moved-all (a .before) G)
+    l .inv .1 .bytes ∙ ap (put-at (a .out .now) (record-len * a .first)) (ap (λ (n : ℕ). each (moved-bytes (a .before) G) (span 0 n)) (e ∙ sym (view-edges (k .pre .0))) ∙ moved-all (a .before) G)
 
 pub write-all-moved-spec : {M : Type 1} → statement M
 write-all-moved-spec =

@@ -4,6 +4,7 @@ use Prim.Native.Nat.{_*_}
 use native.Mathlib.Omega.{arith}
 use Rattle.files.specs.Cells.{put-at}
 use Rattle.files.specs.Join.Bytes.{from-fits, to-fits, moved-is}
+use Rattle.files.specs.Places.{record-len}
 use Rattle.files.specs.Record.{six}
 use borrow.Author.Needs.{needs}
 use Rattle.files.proofs.moved.write_moved.Statement.{statement}
@@ -43,7 +44,7 @@ returns c =
     let from = c .before .before .before .before .before .before .moved-node in
     let to = c .before .before .before .before .before .moved-node2 in
     c .before .before .put-record .ensures
-    ∙ ap (put-at (a .out .now) (6 * a .at)) (ap six (c .before .before .before .edge .ensures)
+    ∙ ap (put-at (a .out .now) (record-len * a .at)) (ap six (c .before .before .before .edge .ensures)
     ∙ moved-is (a .graph .now) (a .view) (k .pre .0) (a .before) (k .pre .1 .0) (a .j) (k .pre .1 .1 .0) _ (x .ensures) (from .result) (to .result) (from .ensures) (to .ensures))
 
 pub write-moved-spec : {M : Type 1} → statement M

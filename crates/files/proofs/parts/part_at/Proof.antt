@@ -2,6 +2,7 @@ use mathlib.Core.Path.{refl, ap, _∙_}
 use Prim.Native.Nat.{_*_, _-_}
 use native.Mathlib.Omega.{arith}
 use lib.ListN.{take, drop}
+use Rattle.files.specs.Places.{record-len}
 use Rattle.files.specs.Refusal.{graph, nodes-of}
 use Rattle.files.specs.Checking.Laws.{counted-is}
 use Rattle.files.specs.Deliveries.Parts.{end-from, end-to}
@@ -39,7 +40,7 @@ returns c =
     record {
       start-at = refl;
       end-at = e .ensures;
-      nodes-at = c .count .ensures ∙ counted-is graph (take (6 * e .result - 6 * a .a) (drop (6 * a .a) l))
+      nodes-at = c .count .ensures ∙ counted-is graph (take (record-len * e .result - record-len * a .a) (drop (record-len * a .a) l))
           ∙ ap nodes-of (part-bytes l (a .a) (e .result) (omega (arith, e .ensures, end-from l (a .a))) (e .ensures));
     }
 

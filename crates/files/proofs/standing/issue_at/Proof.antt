@@ -1,5 +1,6 @@
 use mathlib.Core.Path.{ap}
 use Prim.Native.Nat.{_+_, _*_}
+use Rattle.files.specs.Places.{byte-end}
 use Rattle.files.specs.declared.record.Record.{Record}
 use borrow.Author.Needs.{needs}
 use Rattle.files.proofs.standing.issue_at.Statement.{statement}
@@ -21,7 +22,7 @@ add-result : tie.Need-add-result
 add-result c = search needs
 
 returns : tie.Need-returns
-returns c = ap (λ (r : Record). 256 * r .first + r .second) (c .before .before .read .ensures)
+returns c = ap (λ (r : Record). byte-end * r .first + r .second) (c .before .before .read .ensures)
 
 pub issue-at-spec : {M : Type 1} → statement M
 issue-at-spec =

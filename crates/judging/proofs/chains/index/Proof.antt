@@ -7,6 +7,7 @@ use Rattle.judging.proofs.ClearedLaws.{cleared-length}
 use borrow.Author.Needs.{needs}
 use Rattle.judging.proofs.chains.index.Statement.{statement}
 use Rattle.judging.proofs.chains.index.Tie as tie
+use Rattle.judging.specs.Places.{judge-room, node-heads-base, row-heads-base, node-heads-bytes}
 
 sub-clear : tie.Need-sub-clear
 sub-clear c = search needs
@@ -26,7 +27,7 @@ link-graph-requires c κs =
     let a = k .args in
     let r = k .pre .0 in
     let x = c .before .before .before .clear in
-    (r .held .views .graph-file, (r .held .views .nodes-are, (r .held .views .edges-are, (r .held .few-edges, (omega (arith, r .held .few-nodes), (omega (arith, r .held .few-edges, k .pre .1, cleared-length 32768 512 (a .work .now) (x .last .0) (x .ensures)), edges-none (a .s) (a .graph .now) (a .property .now) r (a .work .now) (x .last .0) (k .pre .1) (x .ensures)))))))
+    (r .held .views .graph-file, (r .held .views .nodes-are, (r .held .views .edges-are, (r .held .few-edges, (omega (arith, r .held .few-nodes), (omega (arith, r .held .few-edges, k .pre .1, cleared-length node-heads-base node-heads-bytes (a .work .now) (x .last .0) (x .ensures)), edges-none (a .s) (a .graph .now) (a .property .now) r (a .work .now) (x .last .0) (k .pre .1) (x .ensures)))))))
 
 sub-clear-2 : tie.Need-sub-clear-2
 sub-clear-2 c = search needs
@@ -38,7 +39,7 @@ part-clear-end-2 : tie.Need-part-clear-end-2
 part-clear-end-2 c =
     let k = c .before .before .before .before .before .before .before .before .before .before .before in
     let x = c .before .before .before .before .before .before .clear in
-    omega (arith, c .before .before .link-graph .kept .1 .1 .1 .0, cleared-length 32768 512 (k .args .work .now) (x .last .0) (x .ensures), k .pre .1)
+    omega (arith, c .before .before .link-graph .kept .1 .1 .1 .0, cleared-length node-heads-base node-heads-bytes (k .args .work .now) (x .last .0) (x .ensures), k .pre .1)
 
 clear-requires-2 : tie.Need-clear-requires-2
 clear-requires-2 c κs = search needs
@@ -51,8 +52,8 @@ link-places-requires c κs =
     let e = c .before .before .before .before .before .before .before .link-graph in
     let y = c .before .before .before .clear2 in
     let w = e .last .1 .1 .1 .0 in
-    let room : 41664 ≤ length w = omega (arith, e .kept .1 .1 .1 .0, cleared-length 32768 512 (a .work .now) (x .last .0) (x .ensures), k .pre .1) in
-    (k .pre .0, (omega (arith, room, cleared-length 41472 64 w (y .last .0) (y .ensures)), places-none (a .s) (a .graph .now) (a .property .now) (k .pre .0) w (y .last .0) room (y .ensures)))
+    let room : judge-room ≤ length w = omega (arith, e .kept .1 .1 .1 .0, cleared-length node-heads-base node-heads-bytes (a .work .now) (x .last .0) (x .ensures), k .pre .1) in
+    (k .pre .0, (omega (arith, room, cleared-length row-heads-base 64 w (y .last .0) (y .ensures)), places-none (a .s) (a .graph .now) (a .property .now) (k .pre .0) w (y .last .0) room (y .ensures)))
 
 same-length : tie.Need-same-length
 same-length c =
@@ -60,7 +61,7 @@ same-length c =
     let x = c .before .before .before .before .before .before .before .before .before .before .before .before .before .before .clear in
     let e = c .before .before .before .before .before .before .before .before .before .before .link-graph in
     let y = c .before .before .before .before .before .before .clear2 in
-    c .before .before .link-places .kept .1 .1 .1 .0 ∙ cleared-length 41472 64 (e .last .1 .1 .1 .0) (y .last .0) (y .ensures) ∙ e .kept .1 .1 .1 .0 ∙ cleared-length 32768 512 (k .args .work .now) (x .last .0) (x .ensures)
+    c .before .before .link-places .kept .1 .1 .1 .0 ∙ cleared-length row-heads-base 64 (e .last .1 .1 .1 .0) (y .last .0) (y .ensures) ∙ e .kept .1 .1 .1 .0 ∙ cleared-length node-heads-base node-heads-bytes (k .args .work .now) (x .last .0) (x .ensures)
 
 returns : tie.Need-returns
 returns c =
@@ -71,7 +72,7 @@ returns c =
     let y = c .before .before .before .before .before .before .clear2 in
     let p = c .before .before .link-places in
     let w = e .last .1 .1 .1 .0 in
-    let room : 41664 ≤ length w = omega (arith, e .kept .1 .1 .1 .0, cleared-length 32768 512 (a .work .now) (x .last .0) (x .ensures), k .pre .1) in
+    let room : judge-room ≤ length w = omega (arith, e .kept .1 .1 .1 .0, cleared-length node-heads-base node-heads-bytes (a .work .now) (x .last .0) (x .ensures), k .pre .1) in
     indexed (a .s) (a .graph .now) (a .property .now) (k .pre .0) w (p .last .1 .1 .1 .0) (e .ensures .0) (beside-places (a .s) (a .graph .now) (a .property .now) (k .pre .0) w (y .last .0) room (y .ensures) (p .last .1 .1 .1 .0) (p .ensures .1)) (p .ensures .0)
 
 pub index-spec : {M : Type 1} → statement M

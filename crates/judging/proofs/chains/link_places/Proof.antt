@@ -7,13 +7,14 @@ use Rattle.files.specs.Decode.{decode-property}
 use Rattle.judging.specs.Chains.{Chained, Outside, uses}
 use Rattle.judging.proofs.chains.link_places.Statement.{statement}
 use Rattle.judging.proofs.chains.link_places.Tie as tie
+use Rattle.judging.specs.Places.{judge-room, row-heads-base, row-nexts-base}
 
 abbrev Inv-loop : tie.InvT-loop
 Inv-loop graph property s work₀ j₀ work j =
     (j ≤ 2 * s .rows)
     × (length work ≡ length work₀)
-    × (Chained work 41472 41536 (uses (decode-property property)) (s .rows) j)
-    × (Outside 41472 41664 work₀ work)
+    × (Chained work row-heads-base row-nexts-base (uses (decode-property property)) (s .rows) j)
+    × (Outside row-heads-base judge-room work₀ work)
 
 abbrev μ-loop : tie.MeasureT-loop
 μ-loop graph property s work₀ j₀ work j = 2 * s .rows - j
@@ -50,7 +51,7 @@ returns c =
     let a = c .before .before .before .before .before .before .args in
     let l = c .before .before .loop in
     let n : l .j ≡ 2 * a .s .rows = omega (arith, c .if1 .left, l .inv .0) in
-    (subst (Chained (l .work) 41472 41536 (uses (decode-property (a .property .now))) (a .s .rows)) n (l .inv .2), l .inv .3)
+    (subst (Chained (l .work) row-heads-base row-nexts-base (uses (decode-property (a .property .now))) (a .s .rows)) n (l .inv .2), l .inv .3)
 
 pub link-places-spec : {M : Type 1} → statement M
 link-places-spec =

@@ -7,13 +7,14 @@ use lib.ListN.{length}
 use borrow.Author.Needs.{needs}
 use Rattle.files.specs.Decode.{decode-graph}
 use Rattle.files.specs.Graph.{node}
+use Rattle.files.specs.Places.{line-bytes}
 use Rattle.judging.specs.Refinement.{Chosen}
 use Rattle.judging.proofs.RowLaws.{chosen-none, chosen-put, chosen-over}
 use Rattle.judging.proofs.cover.entries.Statement.{statement}
 use Rattle.judging.proofs.cover.entries.Tie as tie
 
 abbrev Inv-loop : tie.InvT-loop
-Inv-loop first second s row₀ h₀ row h = (h ≤ s .second .nodes) × (length row ≡ 32) × Chosen (λ x. (node (decode-graph second) x) .entry) h row
+Inv-loop first second s row₀ h₀ row h = (h ≤ s .second .nodes) × (length row ≡ line-bytes) × Chosen (λ x. (node (decode-graph second) x) .entry) h row
 
 abbrev μ-loop : tie.MeasureT-loop
 μ-loop first second s row₀ h₀ row h = s .second .nodes - h

@@ -6,6 +6,7 @@ use Rattle.judging.proofs.SheetLaws.{listed-few}
 use borrow.Author.Needs.{needs}
 use Rattle.judging.proofs.decide.fail.Statement.{statement}
 use Rattle.judging.proofs.decide.fail.Tie as tie
+use Rattle.judging.specs.Places.{marks-base, marks-bytes}
 
 first-edges-requires : tie.Need-first-edges-requires
 first-edges-requires c κs = search needs
@@ -33,7 +34,7 @@ whole-requires : tie.Need-whole-requires
 whole-requires c κs = search needs
 
 same-length : tie.Need-same-length
-same-length c = c .before .before .before .before .walk .kept .1 .1 .1 .0 ∙ cleared-length 32768 1024 (c .before .before .before .before .before .before .before .before .before .before .before .before .first-edges .last .1 .1 .1 .0) (c .before .before .before .before .before .before .before .before .clear .last .0) (c .before .before .before .before .before .before .before .before .clear .ensures) ∙ c .before .before .before .before .before .before .before .before .before .before .before .before .first-edges .kept .1 .1 .1 .0
+same-length c = c .before .before .before .before .walk .kept .1 .1 .1 .0 ∙ cleared-length marks-base marks-bytes (c .before .before .before .before .before .before .before .before .before .before .before .before .first-edges .last .1 .1 .1 .0) (c .before .before .before .before .before .before .before .before .clear .last .0) (c .before .before .before .before .before .before .before .before .clear .ensures) ∙ c .before .before .before .before .before .before .before .before .before .before .before .before .first-edges .kept .1 .1 .1 .0
 
 returns : tie.Need-returns
 returns c = let k = c .before .before .before .before .before .before .before .before .before .before .before .before .before .before .before .before .before .before in answers-full (k .args .s) (k .args .graph .now) (k .args .property .now) (k .pre .0) (k .args .g) (k .pre .1 .1 .1 .0) (k .pre .1 .1 .1 .1) (c .before .before .before .before .walk .last .1 .1 .1 .0) (c .before .before .before .before .walk .result) (c .before .before .before .before .walk .ensures .1) (k .args .out .now) (c .whole .result) (c .before .if1 .taken) (c .whole .ensures)
@@ -45,7 +46,7 @@ same-length-2 : tie.Need-same-length-2
 same-length-2 c = search needs
 
 same-length-3 : tie.Need-same-length-3
-same-length-3 c = c .before .before .before .before .before .before .before .before .walk .kept .1 .1 .1 .0 ∙ cleared-length 32768 1024 (c .before .before .before .before .before .before .before .before .before .before .before .before .before .before .before .before .first-edges .last .1 .1 .1 .0) (c .before .before .before .before .before .before .before .before .before .before .before .before .clear .last .0) (c .before .before .before .before .before .before .before .before .before .before .before .before .clear .ensures) ∙ c .before .before .before .before .before .before .before .before .before .before .before .before .before .before .before .before .first-edges .kept .1 .1 .1 .0
+same-length-3 c = c .before .before .before .before .before .before .before .before .walk .kept .1 .1 .1 .0 ∙ cleared-length marks-base marks-bytes (c .before .before .before .before .before .before .before .before .before .before .before .before .before .before .before .before .first-edges .last .1 .1 .1 .0) (c .before .before .before .before .before .before .before .before .before .before .before .before .clear .last .0) (c .before .before .before .before .before .before .before .before .before .before .before .before .clear .ensures) ∙ c .before .before .before .before .before .before .before .before .before .before .before .before .before .before .before .before .first-edges .kept .1 .1 .1 .0
 
 returns-2 : tie.Need-returns-2
 returns-2 c = let k = c .before .before .before .before .before .before .before .before .before .before .before .before .before .before .before .before .before .before .before .before .before .before in answers-written (k .args .s) (k .args .graph .now) (k .args .property .now) (k .pre .0) (k .args .g) (k .pre .1 .1 .1 .0) (k .pre .1 .1 .1 .1) (c .before .before .before .before .before .before .before .before .walk .last .1 .1 .1 .0) (c .before .before .before .before .before .before .before .before .walk .result) (c .before .before .before .before .before .before .before .before .walk .ensures .1) (k .args .out .now) (c .before .before .write-sheet .last .1 .1 .1 .1 .0) (c .before .before .before .before .before .if1 .left) (c .before .before .write-sheet .ensures)

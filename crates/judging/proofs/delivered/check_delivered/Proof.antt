@@ -7,10 +7,10 @@ use Rattle.files.specs.Outcome.{short}
 use Rattle.files.specs.Refusal.{property}
 use Rattle.files.specs.Settling.Laws.{whole-settles, whole-known, delivery-settles, delivery-known, file-settles, next-settles, settled-as, passed-before}
 use Rattle.judging.specs.Delivered.{deliveries-store}
-use Rattle.judging.specs.Judge.{judge-room}
 use borrow.Author.Needs.{needs}
 use Rattle.judging.proofs.delivered.check_delivered.Statement.{statement}
 use Rattle.judging.proofs.delivered.check_delivered.Tie as tie
+use Rattle.judging.specs.Places.{judge-room}
 
 whole-settled-requires : tie.Need-whole-settled-requires
 whole-settled-requires c κs = search needs

@@ -5,6 +5,7 @@ use lib.ListN.{length, getD}
 use Rattle.files.specs.Decode.{decode-graph, decode-property}
 use Rattle.files.specs.Graph.{no-edge}
 use Rattle.files.specs.Property.{aims}
+use Rattle.judging.specs.Places.{judge-room, max-pairs}
 use Rattle.judging.specs.Ranking.Stores.{grew-none}
 use Rattle.judging.proofs.LevelLaws.{from-in, may-give, gave}
 use Rattle.files.specs.declared.graph.GraphEdge.{GraphEdge}
@@ -26,7 +27,7 @@ give-requires c κs =
     let a = k .args in
     let h = c .before .before .before .edge-at .ensures in
     let m = may-give (a .s) (a .graph .now) (a .property .now) (k .pre .0) (a .k) (a .tail) (a .work .now) (k .pre .1 .1 .1 .0) ((getD ((decode-graph (a .graph .now)) .edges) (a .e) no-edge) .from) (a .q) (from-in (a .s) (a .graph .now) (a .property .now) (k .pre .0) (a .e) (k .pre .1 .0)) (k .pre .1 .1 .0) (k .pre .1 .1 .1 .1 (subst T (sym (c .before .if1 .taken) ∙ ap (λ (y : Looks). y .along) (c .before .before .obliged .ensures) ∙ ap (λ (u : GraphEdge). aims (a .x .operator) (a .x .a) (u .label)) h) tt)) in
-    subst (λ (n : ℕ). (pair n (a .q) < 8192) × ((rank-at (a .work .now) n (a .q) ≡ 0 → a .tail < 8192) × ((41664 ≤ length (a .work .now)) × (a .k ≤ 8192)))) (sym (ap (λ (u : GraphEdge). u .from) h)) m
+    subst (λ (n : ℕ). (pair n (a .q) < max-pairs) × ((rank-at (a .work .now) n (a .q) ≡ 0 → a .tail < max-pairs) × ((judge-room ≤ length (a .work .now)) × (a .k ≤ max-pairs)))) (sym (ap (λ (u : GraphEdge). u .from) h)) m
 
 same-length : tie.Need-same-length
 same-length c = search needs

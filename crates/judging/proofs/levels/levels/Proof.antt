@@ -4,6 +4,7 @@ use native.Mathlib.Omega.{arith}
 use lib.ListN.{length}
 use Rattle.files.specs.Decode.{decode-graph, decode-property}
 use Rattle.judging.proofs.LevelLaws.{tail-fits, levels-end}
+use Rattle.judging.specs.Places.{max-pairs}
 use Rattle.judging.specs.Ranking.{Found}
 use native.Mathlib.Numerals.{add-one}
 use Rattle.judging.proofs.levels.levels.Statement.{statement}
@@ -13,7 +14,7 @@ abbrev Inv-loop : tie.InvT-loop
 Inv-loop graph property s work₀ first head₀ tail₀ k₀ work head tail k = (length work ≡ length work₀) × (1 ≤ k) × (Found (decode-graph graph) (decode-property property) k head tail work)
 
 abbrev μ-loop : tie.MeasureT-loop
-μ-loop graph property s work₀ first head₀ tail₀ k₀ work head tail k = 8192 - head
+μ-loop graph property s work₀ first head₀ tail₀ k₀ work head tail k = max-pairs - head
 
 loop-holds : tie.Need-loop-holds Inv-loop μ-loop
 loop-holds c =

@@ -5,6 +5,7 @@ use lib.Dec.{T}
 use lib.ListN.{length}
 use borrow.Author.Needs.{needs}
 use Rattle.files.specs.Decode.{decode-graph}
+use Rattle.files.specs.Places.{max-nodes}
 use Rattle.judging.specs.Refinement.{rel, edge, labelled-into, In, Shrank}
 use Rattle.judging.specs.Refinement.Handing.{shrank-none}
 use Rattle.judging.proofs.LevelLaws.{Walk}
@@ -13,7 +14,7 @@ use Rattle.judging.proofs.matches.drop_from.Statement.{statement}
 use Rattle.judging.proofs.matches.drop_from.Tie as tie
 
 abbrev Inv-loop : tie.InvT-loop
-Inv-loop first second s work₀ slot gone at₀ work at = (length work ≡ length work₀) × Shrank (decode-graph first) (decode-graph second) work₀ work × Walk (labelled-into (decode-graph first) slot) (length ((decode-graph first) .edges)) at (λ e. (h : ℕ) → h < 256 → T (rel work ((edge (decode-graph first) e) .from) h) → In gone h → ⊥)
+Inv-loop first second s work₀ slot gone at₀ work at = (length work ≡ length work₀) × Shrank (decode-graph first) (decode-graph second) work₀ work × Walk (labelled-into (decode-graph first) slot) (length ((decode-graph first) .edges)) at (λ e. (h : ℕ) → h < max-nodes → T (rel work ((edge (decode-graph first) e) .from) h) → In gone h → ⊥)
 
 abbrev μ-loop : tie.MeasureT-loop
 μ-loop first second s work₀ slot gone at₀ work at = at

@@ -4,6 +4,7 @@ use native.Mathlib.Omega.{arith}
 use lib.ListN.{length, replicate}
 use borrow.Author.Needs.{needs}
 use Rattle.files.specs.Decode.{decode-graph}
+use Rattle.files.specs.Places.{line-bytes}
 use Rattle.judging.specs.Refinement.{Shrank, LabelMatched}
 use Rattle.judging.specs.Refinement.Handing.{shrank-none, shrank-on}
 use Rattle.judging.proofs.MatchLaws.{labels-kept, met-first, met-still}
@@ -52,7 +53,7 @@ hand-on-by-requires c κs = let k = c .before .before .before .before .before .b
     let q = c .before .before .before .before .before .nodes-near in
     let p = c .before .before .before .before .before .before .before .before .predecessors in
     let r = c .before .before .before .before .before .before .before .before .before .before .before .row-without in
-    let n = met-first (k .args .s) (k .args .first .now) (k .args .second .now) (k .pre .1 .0) (k .args .work .now) (k .args .v) (k .args .row .now) (r .result) (replicate 32 0) (p .result) (k .pre .1 .1 .1 .0) (r .ensures .1) (p .ensures .1) in
+    let n = met-first (k .args .s) (k .args .first .now) (k .args .second .now) (k .pre .1 .0) (k .args .work .now) (k .args .v) (k .args .row .now) (r .result) (replicate line-bytes 0) (p .result) (k .pre .1 .1 .1 .0) (r .ensures .1) (p .ensures .1) in
     let m = met-still (k .args .s) (k .args .first .now) (k .args .second .now) (k .pre .1 .0) (k .args .work .now) (l .work) (k .args .v) (k .args .row .now) (p .result) (k .pre .1 .1 .0) (l .inv .2) (k .pre .1 .1 .1 .1 .0) n in
     ((k .pre .0, (omega (arith, p .ensures .0), omega (arith, q .ensures .0))), (k .pre .1 .0, (k .pre .1 .1 .0, (c .before .before .before .loop-test .taken, (l .inv .2 .refining, ((m, q .ensures .1), k .pre .1 .1 .1 .1 .1))))))
 

@@ -5,6 +5,7 @@ use lib.Dec.{T}
 use lib.ListN.{length}
 use borrow.Author.Needs.{needs}
 use Rattle.files.specs.Decode.{decode-graph}
+use Rattle.files.specs.Places.{line-bytes, max-nodes}
 use Rattle.judging.specs.Refinement.{rel, edge, labelled-into, In, Within}
 use Rattle.judging.proofs.LevelLaws.{Walk}
 use Rattle.judging.proofs.MatchLaws.{none-within, slot-start, slot-item, slot-less, source-added, all-added}
@@ -12,7 +13,7 @@ use Rattle.judging.proofs.matches.related_to_sources.Statement.{stateme
 use Rattle.judging.proofs.matches.related_to_sources.Tie as tie
 
 abbrev Inv-loop : tie.InvT-loop
-Inv-loop first second s work slot found₀ at₀ found at = (length found ≡ 32) × Within (s .second .nodes) found × Walk (labelled-into (decode-graph first) slot) (length ((decode-graph first) .edges)) at (λ e. (h : ℕ) → h < 256 → T (rel work ((edge (decode-graph first) e) .from) h) → In found h)
+Inv-loop first second s work slot found₀ at₀ found at = (length found ≡ line-bytes) × Within (s .second .nodes) found × Walk (labelled-into (decode-graph first) slot) (length ((decode-graph first) .edges)) at (λ e. (h : ℕ) → h < max-nodes → T (rel work ((edge (decode-graph first) e) .from) h) → In found h)
 
 abbrev μ-loop : tie.MeasureT-loop
 μ-loop first second s work slot found₀ at₀ found at = at

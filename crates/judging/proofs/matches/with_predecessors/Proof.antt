@@ -6,6 +6,7 @@ use lib.Count.{trailing-le}
 use lib.Dec.{T}
 use lib.ListN.{length}
 use borrow.Author.Needs.{needs}
+use Rattle.files.specs.Places.{line-bytes, max-nodes}
 use Rattle.judging.specs.Refinement.{In}
 use Rattle.judging.specs.Words.{Left, left-all, lowest-low}
 use Rattle.judging.proofs.MatchLaws.{Before, before-turn, before-end}
@@ -16,7 +17,7 @@ use Rattle.judging.proofs.rows.row_at.Reads as row-at-reads
 use Rattle.judging.proofs.rows.row_with.Reads as row-with-reads
 
 abbrev Inv-loop : tie.InvT-loop
-Inv-loop work nodes row k met₀ rest₀ met rest = (length met ≡ 32) × Left nodes k (Before work nodes k met) rest × ((y : ℕ) → y < 256 → In row y → In met y)
+Inv-loop work nodes row k met₀ rest₀ met rest = (length met ≡ line-bytes) × Left nodes k (Before work nodes k met) rest × ((y : ℕ) → y < max-nodes → In row y → In met y)
 
 abbrev μ-loop : tie.MeasureT-loop
 μ-loop work nodes row k met₀ rest₀ met rest = rest

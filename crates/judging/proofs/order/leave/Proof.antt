@@ -3,6 +3,7 @@ use native.Mathlib.Omega.{arith}
 use borrow.Author.Needs.{needs}
 use Rattle.judging.proofs.order.leave.Statement.{statement}
 use Rattle.judging.proofs.order.leave.Tie as tie
+use Rattle.judging.specs.Places.{cursors-base, neighbours-base, order-base}
 
 get8-requires : tie.Need-get8-requires
 get8-requires c κs = search needs
@@ -29,7 +30,7 @@ same-length-2 : tie.Need-same-length-2
 same-length-2 c = search needs
 
 returns-2 : tie.Need-returns-2
-returns-2 c = ((none-reaches (c .before .before .before .before .before .before .before .before .before .before .before .before .args .s .first .nodes) (c .before .before .before .before .before .before .before .before .before .before .before .before .args .w .left) (c .before .before .before .before .before .before .before .get8 .result) (c .before .before .before .before .if1 .left)) .1, byte-put (c .before .before .before .before .before .before .before .before .before .before .before .before .args .work .now) (c .before .before .put8 .last .0) 30528 (c .before .before .before .before .before .before .before .before .before .before .before .before .args .w .left) _ 29760 30816 (c .before .before .put8 .ensures) (omega arith) (omega (arith, (none-reaches (c .before .before .before .before .before .before .before .before .before .before .before .before .args .s .first .nodes) (c .before .before .before .before .before .before .before .before .before .before .before .before .args .w .left) (c .before .before .before .before .before .before .before .get8 .result) (c .before .before .before .before .if1 .left)) .0, c .before .before .before .before .before .before .before .before .before .before .before .before .pre .0 .first-held .few-nodes)))
+returns-2 c = ((none-reaches (c .before .before .before .before .before .before .before .before .before .before .before .before .args .s .first .nodes) (c .before .before .before .before .before .before .before .before .before .before .before .before .args .w .left) (c .before .before .before .before .before .before .before .get8 .result) (c .before .before .before .before .if1 .left)) .1, byte-put (c .before .before .before .before .before .before .before .before .before .before .before .before .args .work .now) (c .before .before .put8 .last .0) order-base (c .before .before .before .before .before .before .before .before .before .before .before .before .args .w .left) _ cursors-base neighbours-base (c .before .before .put8 .ensures) (omega arith) (omega (arith, (none-reaches (c .before .before .before .before .before .before .before .before .before .before .before .before .args .s .first .nodes) (c .before .before .before .before .before .before .before .before .before .before .before .before .args .w .left) (c .before .before .before .before .before .before .before .get8 .result) (c .before .before .before .before .if1 .left)) .0, c .before .before .before .before .before .before .before .before .before .before .before .before .pre .0 .first-held .few-nodes)))
 
 pub leave-spec : {M : Type 1} → statement M
 leave-spec =

@@ -3,13 +3,14 @@ use Prim.Native.Nat.{_-_, _≤_}
 use native.Mathlib.Omega.{arith}
 use lib.ListN.{length}
 use Rattle.judging.specs.Chains.{Outside}
+use Rattle.judging.specs.Places.{cursors-base, neighbours-base}
 use Rattle.judging.specs.Refinement.Files.{first-edge-in}
 use Rattle.judging.proofs.OrderLaws.{outside-on, pair-put}
 use Rattle.judging.proofs.order.put_cursors.Statement.{statement}
 use Rattle.judging.proofs.order.put_cursors.Tie as tie
 
 abbrev Inv-loop : tie.InvT-loop
-Inv-loop first second s work₀ left₀ work left = (length work ≡ length work₀) × (left ≤ s .first .edges) × Outside 29760 30816 work₀ work
+Inv-loop first second s work₀ left₀ work left = (length work ≡ length work₀) × (left ≤ s .first .edges) × Outside cursors-base neighbours-base work₀ work
 
 abbrev μ-loop : tie.MeasureT-loop
 μ-loop first second s work₀ left₀ work left = left
@@ -37,7 +38,7 @@ loop-again c = let k = c .before .before .before .before .before .before .before
     let l = c .before .before .before .before .before .before .loop in
     let p = c .before .before .put16 in
     let b = first-edge-in (c .before .before .before .before .before .before .before .before .before .before .args .s) (c .before .before .before .before .before .before .before .before .before .before .args .first .now) (c .before .before .before .before .before .before .before .before .before .before .args .second .now) (c .before .before .before .before .before .before .before .before .before .before .pre .0) (l .left - 1) (omega (arith, c .before .before .before .before .before .loop-test .taken, l .inv .1)) in
-    (p .kept .0 ∙ l .inv .0, omega (arith, c .before .before .before .before .before .loop-test .taken, l .inv .1), outside-on 29760 30816 (k .args .work .now) (l .work) (p .last .0) (l .inv .2) (pair-put (l .work) (p .last .0) 29760 (c .before .before .before .before .source-of .result) _ 29760 30816 (p .ensures) (omega arith) (omega (arith, c .before .before .before .before .source-of .ensures, b .0, k .pre .0 .first-held .few-nodes))))
+    (p .kept .0 ∙ l .inv .0, omega (arith, c .before .before .before .before .before .loop-test .taken, l .inv .1), outside-on cursors-base neighbours-base (k .args .work .now) (l .work) (p .last .0) (l .inv .2) (pair-put (l .work) (p .last .0) cursors-base (c .before .before .before .before .source-of .result) _ cursors-base neighbours-base (p .ensures) (omega arith) (omega (arith, c .before .before .before .before .source-of .ensures, b .0, k .pre .0 .first-held .few-nodes))))
 
 same-length : tie.Need-same-length Inv-loop μ-loop
 same-length c = c .before .loop .inv .0

@@ -2,6 +2,7 @@ use mathlib.Core.Path.{ap}
 use Prim.Native.Nat.{_<_}
 use native.Mathlib.Omega.{arith}
 use Rattle.files.specs.declared.graph.GraphEdge.{GraphEdge}
+use Rattle.judging.specs.Places.{cursors-base, met-base, neighbours-base, parents-base}
 use Rattle.judging.specs.Refinement.Files.{first-edge-in}
 use Rattle.judging.proofs.OrderLaws.{outside-on, byte-put, pair-put, bit-put}
 use borrow.Author.Needs.{needs}
@@ -51,7 +52,7 @@ same-length-3 : tie.Need-same-length-3
 same-length-3 c = search needs
 
 returns-3 : tie.Need-returns-3
-returns-3 c = (c .before .before .before .before .before .before .before .before .before .before .before .before .before .before .before .before .before .pre .1 .0, pair-put (c .before .before .before .before .before .before .before .before .before .before .before .before .before .before .before .before .before .args .work .now) (c .before .before .before .before .before .put16 .last .0) 29760 (c .before .before .before .before .before .before .before .before .before .before .before .before .before .before .before .before .before .args .w .node) _ 29760 30816 (c .before .before .before .before .before .put16 .ensures) (omega arith) (omega (arith, c .before .before .before .before .before .before .before .before .before .before .before .before .before .before .before .before .before .pre .1 .0, c .before .before .before .before .before .before .before .before .before .before .before .before .before .before .before .before .before .pre .0 .first-held .few-nodes)))
+returns-3 c = (c .before .before .before .before .before .before .before .before .before .before .before .before .before .before .before .before .before .pre .1 .0, pair-put (c .before .before .before .before .before .before .before .before .before .before .before .before .before .before .before .before .before .args .work .now) (c .before .before .before .before .before .put16 .last .0) cursors-base (c .before .before .before .before .before .before .before .before .before .before .before .before .before .before .before .before .before .args .w .node) _ cursors-base neighbours-base (c .before .before .before .before .before .put16 .ensures) (omega arith) (omega (arith, c .before .before .before .before .before .before .before .before .before .before .before .before .before .before .before .before .before .pre .1 .0, c .before .before .before .before .before .before .before .before .before .before .before .before .before .before .before .before .before .pre .0 .first-held .few-nodes)))
 
 put-bit-requires : tie.Need-put-bit-requires
 put-bit-requires c κs = omega (arith, (ap (λ (z : GraphEdge). z .to) (c .before .before .before .before .before .before .before .before .before .before .edge-at .ensures)), (first-edge-in (c .before .before .before .before .before .before .before .before .before .before .before .before .before .before .before .before .before .before .args .s) (c .before .before .before .before .before .before .before .before .before .before .before .before .before .before .before .before .before .before .args .first .now) (c .before .before .before .before .before .before .before .before .before .before .before .before .before .before .before .before .before .before .args .second .now) (c .before .before .before .before .before .before .before .before .before .before .before .before .before .before .before .before .before .before .pre .0) (c .before .before .before .before .before .before .before .before .before .before .before .before .before .get16 .result) (omega (arith, c .before .before .before .before .before .before .before .before .before .before .before .if1 .left))) .1, c .before .before .before .before .before .before .before .before .before .before .before .before .before .before .before .before .before .before .pre .0 .first-held .few-nodes, c .before .before .before .before .before .before .put16 .kept .0, c .before .before .before .before .before .before .before .before .before .before .before .before .before .before .before .before .before .before .pre .1 .1)
@@ -69,9 +70,9 @@ returns-4 : tie.Need-returns-4
 returns-4 c = let k = c .before .before .before .before .before .before .before .before .before .before .before .before .before .before .before .before .before .before .before .before .before .before .before .before .before in
     let to-low : c .before .before .before .before .before .before .before .before .before .before .before .before .before .before .before .before .before .edge-at .result .to < k .args .s .first .nodes = omega (arith, (ap (λ (z : GraphEdge). z .to) (c .before .before .before .before .before .before .before .before .before .before .before .before .before .before .before .before .before .edge-at .ensures)), (first-edge-in (c .before .before .before .before .before .before .before .before .before .before .before .before .before .before .before .before .before .before .before .before .before .before .before .before .before .args .s) (c .before .before .before .before .before .before .before .before .before .before .before .before .before .before .before .before .before .before .before .before .before .before .before .before .before .args .first .now) (c .before .before .before .before .before .before .before .before .before .before .before .before .before .before .before .before .before .before .before .before .before .before .before .before .before .args .second .now) (c .before .before .before .before .before .before .before .before .before .before .before .before .before .before .before .before .before .before .before .before .before .before .before .before .before .pre .0) (c .before .before .before .before .before .before .before .before .before .before .before .before .before .before .before .before .before .before .before .before .get16 .result) (omega (arith, c .before .before .before .before .before .before .before .before .before .before .before .before .before .before .before .before .before .before .if1 .left))) .1) in (
       to-low,
-      outside-on 29760 30816 (k .args .work .now) (c .before .before .before .before .before .before .before .before .before .before .before .before .before .put16 .last .0) (c .before .before .put8 .last .0) (pair-put (k .args .work .now) (c .before .before .before .before .before .before .before .before .before .before .before .before .before .put16 .last .0) 29760 (k .args .w .node) _ 29760 30816 (c .before .before .before .before .before .before .before .before .before .before .before .before .before .put16 .ensures) (omega arith) (omega (arith, k .pre .1 .0, k .pre .0 .first-held .few-nodes)))
-          (outside-on 29760 30816 (c .before .before .before .before .before .before .before .before .before .before .before .before .before .put16 .last .0) (c .before .before .before .before .before .before .put-bit .last .0) (c .before .before .put8 .last .0) (bit-put (c .before .before .before .before .before .before .before .before .before .before .before .before .before .put16 .last .0) (c .before .before .before .before .before .before .put-bit .last .0) 30784 _ 29760 30816 (c .before .before .before .before .before .before .put-bit .ensures) (omega arith) (omega (arith, to-low, k .pre .0 .first-held .few-nodes)))
-          (byte-put (c .before .before .before .before .before .before .put-bit .last .0) (c .before .before .put8 .last .0) 30272 _ _ 29760 30816 (c .before .before .put8 .ensures) (omega arith) (omega (arith, to-low, k .pre .0 .first-held .few-nodes)))),
+      outside-on cursors-base neighbours-base (k .args .work .now) (c .before .before .before .before .before .before .before .before .before .before .before .before .before .put16 .last .0) (c .before .before .put8 .last .0) (pair-put (k .args .work .now) (c .before .before .before .before .before .before .before .before .before .before .before .before .before .put16 .last .0) cursors-base (k .args .w .node) _ cursors-base neighbours-base (c .before .before .before .before .before .before .before .before .before .before .before .before .before .put16 .ensures) (omega arith) (omega (arith, k .pre .1 .0, k .pre .0 .first-held .few-nodes)))
+          (outside-on cursors-base neighbours-base (c .before .before .before .before .before .before .before .before .before .before .before .before .before .put16 .last .0) (c .before .before .before .before .before .before .put-bit .last .0) (c .before .before .put8 .last .0) (bit-put (c .before .before .before .before .before .before .before .before .before .before .before .before .before .put16 .last .0) (c .before .before .before .before .before .before .put-bit .last .0) met-base _ cursors-base neighbours-base (c .before .before .before .before .before .before .put-bit .ensures) (omega arith) (omega (arith, to-low, k .pre .0 .first-held .few-nodes)))
+          (byte-put (c .before .before .before .before .before .before .put-bit .last .0) (c .before .before .put8 .last .0) parents-base _ _ cursors-base neighbours-base (c .before .before .put8 .ensures) (omega arith) (omega (arith, to-low, k .pre .0 .first-held .few-nodes)))),
     )
 
 pub step-spec : {M : Type 1} → statement M

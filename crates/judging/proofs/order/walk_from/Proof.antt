@@ -6,9 +6,10 @@ use Rattle.judging.specs.Chains.{Outside}
 use Rattle.judging.proofs.OrderLaws.{outside-on}
 use Rattle.judging.proofs.order.walk_from.Statement.{statement}
 use Rattle.judging.proofs.order.walk_from.Tie as tie
+use Rattle.judging.specs.Places.{cursors-base, neighbours-base}
 
 abbrev Inv-loop : tie.InvT-loop
-Inv-loop first second s work₀ root left w₀ steps₀ work w steps = (length work ≡ length work₀) × (w .node < s .first .nodes) × Outside 29760 30816 work₀ work
+Inv-loop first second s work₀ root left w₀ steps₀ work w steps = (length work ≡ length work₀) × (w .node < s .first .nodes) × Outside cursors-base neighbours-base work₀ work
 
 abbrev μ-loop : tie.MeasureT-loop
 μ-loop first second s work₀ root left w₀ steps₀ work w steps = steps
@@ -35,7 +36,7 @@ loop-less : tie.Need-loop-less Inv-loop μ-loop
 loop-less c = omega (arith, c .before .before .before .before .before .loop-test .taken)
 
 loop-again : tie.Need-loop-again Inv-loop μ-loop
-loop-again c = let l = c .before .before .before .before .before .before .loop in let p = c .before .before .step in (p .kept .1 .1 .1 .0 ∙ l .inv .0, p .ensures .0, outside-on 29760 30816 (c .before .before .before .before .before .before .before .before .before .before .before .args .work .now) (l .work) (p .last .1 .1 .1 .0) (l .inv .2) (p .ensures .1))
+loop-again c = let l = c .before .before .before .before .before .before .loop in let p = c .before .before .step in (p .kept .1 .1 .1 .0 ∙ l .inv .0, p .ensures .0, outside-on cursors-base neighbours-base (c .before .before .before .before .before .before .before .before .before .before .before .args .work .now) (l .work) (p .last .1 .1 .1 .0) (l .inv .2) (p .ensures .1))
 
 same-length-2 : tie.Need-same-length-2 Inv-loop μ-loop
 same-length-2 c = c .before .loop .inv .0

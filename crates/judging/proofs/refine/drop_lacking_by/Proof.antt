@@ -6,6 +6,7 @@ use lib.ListN.{length}
 use borrow.Author.Needs.{needs}
 use Rattle.files.specs.Cells.{has-bit}
 use Rattle.files.specs.Decode.{decode-graph}
+use Rattle.files.specs.Places.{max-nodes}
 use Rattle.judging.specs.Refinement.{rel, edge, Shrank}
 use Rattle.judging.specs.Refinement.Handing.{shrank-none, shrank-on}
 use Rattle.judging.proofs.MatchLaws.{lacking-drop, dropped-turn, leading-all}
@@ -13,7 +14,7 @@ use Rattle.judging.proofs.refine.drop_lacking_by.Statement.{statement}
 use Rattle.judging.proofs.refine.drop_lacking_by.Tie as tie
 
 abbrev Inv-loop : tie.InvT-loop
-Inv-loop first second s work₀ label gone v₀ work v = (v ≤ s .first .nodes) × (length work ≡ length work₀) × Shrank (decode-graph first) (decode-graph second) work₀ work × ((e h : ℕ) → e < s .first .edges → (edge (decode-graph first) e) .label ≡ label → (edge (decode-graph first) e) .to < v → h < 256 → T (rel work ((edge (decode-graph first) e) .from) h) → T (has-bit gone 0 h) → ⊥)
+Inv-loop first second s work₀ label gone v₀ work v = (v ≤ s .first .nodes) × (length work ≡ length work₀) × Shrank (decode-graph first) (decode-graph second) work₀ work × ((e h : ℕ) → e < s .first .edges → (edge (decode-graph first) e) .label ≡ label → (edge (decode-graph first) e) .to < v → h < max-nodes → T (rel work ((edge (decode-graph first) e) .from) h) → T (has-bit gone 0 h) → ⊥)
 
 abbrev μ-loop : tie.MeasureT-loop
 μ-loop first second s work₀ label gone v₀ work v = s .first .nodes - v

@@ -6,12 +6,13 @@ use lib.Dec.{ltb}
 use lib.ListN.{length}
 use borrow.Author.Needs.{needs}
 use Rattle.files.specs.Cells.{has-bit}
+use Rattle.files.specs.Places.{line-bytes, max-nodes}
 use Rattle.judging.proofs.RowLaws.{chosen-none, chosen-put}
 use Rattle.judging.proofs.refine.everything.Statement.{statement}
 use Rattle.judging.proofs.refine.everything.Tie as tie
 
 abbrev Inv-loop : tie.InvT-loop
-Inv-loop s row₀ x₀ row x = (x ≤ s .second .nodes) × (length row ≡ 32) × ((h : ℕ) → h < 256 → has-bit row 0 h ≡ ltb h x)
+Inv-loop s row₀ x₀ row x = (x ≤ s .second .nodes) × (length row ≡ line-bytes) × ((h : ℕ) → h < max-nodes → has-bit row 0 h ≡ ltb h x)
 
 abbrev μ-loop : tie.MeasureT-loop
 μ-loop s row₀ x₀ row x = s .second .nodes - x

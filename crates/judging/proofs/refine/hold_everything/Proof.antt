@@ -4,14 +4,16 @@ use native.Mathlib.Omega.{arith}
 use lib.Dec.{ltb}
 use lib.ListN.{length}
 use borrow.Author.Needs.{needs}
+use Rattle.files.specs.Places.{max-nodes}
 use Rattle.judging.specs.Chains.{Outside}
+use Rattle.judging.specs.Places.{held-base, kinds-base}
 use Rattle.judging.specs.Refinement.{held}
 use Rattle.judging.proofs.MatchLaws.{held-turn}
 use Rattle.judging.proofs.refine.hold_everything.Statement.{statement}
 use Rattle.judging.proofs.refine.hold_everything.Tie as tie
 
 abbrev Inv-loop : tie.InvT-loop
-Inv-loop first second s work₀ row v₀ work v = (v ≤ s .first .nodes) × (length work ≡ length work₀) × ((u h : ℕ) → u < v → h < 256 → held work u h ≡ ltb h (s .second .nodes)) × Outside 8192 16384 work₀ work
+Inv-loop first second s work₀ row v₀ work v = (v ≤ s .first .nodes) × (length work ≡ length work₀) × ((u h : ℕ) → u < v → h < max-nodes → held work u h ≡ ltb h (s .second .nodes)) × Outside held-base kinds-base work₀ work
 
 abbrev μ-loop : tie.MeasureT-loop
 μ-loop first second s work₀ row v₀ work v = s .first .nodes - v

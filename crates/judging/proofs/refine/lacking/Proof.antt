@@ -5,13 +5,14 @@ use lib.Dec.{T}
 use native.Mathlib.Omega.{arith}
 use lib.ListN.{length}
 use borrow.Author.Needs.{needs}
+use Rattle.files.specs.Places.{line-bytes}
 use Rattle.judging.specs.Refinement.{Lacking}
 use Rattle.judging.proofs.MatchLaws.{lacking-none, lacking-put, lacking-over, not-off}
 use Rattle.judging.proofs.refine.lacking.Statement.{statement}
 use Rattle.judging.proofs.refine.lacking.Tie as tie
 
 abbrev Inv-loop : tie.InvT-loop
-Inv-loop s work label row₀ x₀ row x = (x ≤ s .second .nodes) × (length row ≡ 32) × Lacking work label x row
+Inv-loop s work label row₀ x₀ row x = (x ≤ s .second .nodes) × (length row ≡ line-bytes) × Lacking work label x row
 
 abbrev μ-loop : tie.MeasureT-loop
 μ-loop s work label row₀ x₀ row x = s .second .nodes - x

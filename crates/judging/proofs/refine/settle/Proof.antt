@@ -4,13 +4,14 @@ use native.Mathlib.Omega.{arith}
 use lib.Dec.{T}
 use lib.ListN.{length}
 use Rattle.files.specs.Decode.{decode-graph}
+use Rattle.files.specs.Places.{max-nodes}
 use Rattle.judging.specs.Refinement.{rel, held, load, Matching}
 use Rattle.judging.proofs.MatchLaws.{taken, matching-still, load-less, settled-all}
 use Rattle.judging.proofs.refine.settle.Statement.{statement}
 use Rattle.judging.proofs.refine.settle.Tie as tie
 
 abbrev Inv-loop : tie.InvT-loop
-Inv-loop first second s work₀ v₀ work v = (length work ≡ length work₀) × Matching (decode-graph first) (decode-graph second) (s .first .nodes) work × (v < s .first .nodes → (h : ℕ) × (h < 256) × T (held work v h) × (T (rel work v h) → ⊥)) × (s .first .nodes ≤ v → (u h : ℕ) → u < s .first .nodes → h < 256 → T (held work u h) → T (rel work u h))
+Inv-loop first second s work₀ v₀ work v = (length work ≡ length work₀) × Matching (decode-graph first) (decode-graph second) (s .first .nodes) work × (v < s .first .nodes → (h : ℕ) × (h < max-nodes) × T (held work v h) × (T (rel work v h) → ⊥)) × (s .first .nodes ≤ v → (u h : ℕ) → u < s .first .nodes → h < max-nodes → T (held work u h) → T (rel work u h))
 
 abbrev μ-loop : tie.MeasureT-loop
 μ-loop first second s work₀ v₀ work v = load (s .first .nodes) work

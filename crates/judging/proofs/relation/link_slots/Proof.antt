@@ -4,13 +4,14 @@ use native.Mathlib.Omega.{arith}
 use lib.ListN.{length}
 use Rattle.files.specs.Decode.{decode-graph}
 use Rattle.judging.specs.Chains.{Chained, Outside}
+use Rattle.judging.specs.Places.{cursors-base, heads-base, nexts-base}
 use Rattle.judging.specs.Refinement.{labelled-into}
 use Rattle.judging.proofs.RelationLaws.{slots-start, may-slot, slots-turn}
 use Rattle.judging.proofs.relation.link_slots.Statement.{statement}
 use Rattle.judging.proofs.relation.link_slots.Tie as tie
 
 abbrev Inv-loop : tie.InvT-loop
-Inv-loop first second s work₀ e₀ work e = (e ≤ s .first .edges) × (length work ≡ length work₀) × Chained work 16960 21568 (labelled-into (decode-graph first)) (9 * s .first .nodes) e × Outside 16960 29760 work₀ work
+Inv-loop first second s work₀ e₀ work e = (e ≤ s .first .edges) × (length work ≡ length work₀) × Chained work heads-base nexts-base (labelled-into (decode-graph first)) (9 * s .first .nodes) e × Outside heads-base cursors-base work₀ work
 
 abbrev μ-loop : tie.MeasureT-loop
 μ-loop first second s work₀ e₀ work e = s .first .edges - e
@@ -43,7 +44,7 @@ same-length c = c .before .before .loop .inv .1
 returns : tie.Need-returns Inv-loop μ-loop
 returns c = let l = c .before .before .loop in
     let e : l .e ≡ c .before .before .before .before .before .before .args .s .first .edges = omega (arith, c .if1 .left, l .inv .0) in
-    (subst (Chained (l .work) 16960 21568 (labelled-into (decode-graph (c .before .before .before .before .before .before .args .first .now))) (9 * c .before .before .before .before .before .before .args .s .first .nodes)) e (l .inv .2), l .inv .3)
+    (subst (Chained (l .work) heads-base nexts-base (labelled-into (decode-graph (c .before .before .before .before .before .before .args .first .now))) (9 * c .before .before .before .before .before .before .args .s .first .nodes)) e (l .inv .2), l .inv .3)
 
 pub link-slots-spec : {M : Type 1} → statement M
 link-slots-spec =

@@ -4,13 +4,14 @@ use native.Mathlib.Omega.{arith}
 use lib.ListN.{length}
 use Rattle.files.specs.Decode.{decode-graph}
 use Rattle.judging.specs.Chains.{Outside}
+use Rattle.judging.specs.Places.{neighbours-base, neighbours-end}
 use Rattle.judging.specs.Refinement.Preparing.{Putting}
 use Rattle.judging.proofs.RelationLaws.{putting-start, putting-turn, putting-all}
 use Rattle.judging.proofs.relation.put_edges.Statement.{statement}
 use Rattle.judging.proofs.relation.put_edges.Tie as tie
 
 abbrev Inv-loop : tie.InvT-loop
-Inv-loop first second s work₀ j₀ work j = (j ≤ s .second .edges) × (length work ≡ length work₀) × Putting (decode-graph second) (s .second .nodes) j work × Outside 30816 112736 work₀ work
+Inv-loop first second s work₀ j₀ work j = (j ≤ s .second .edges) × (length work ≡ length work₀) × Putting (decode-graph second) (s .second .nodes) j work × Outside neighbours-base neighbours-end work₀ work
 
 abbrev μ-loop : tie.MeasureT-loop
 μ-loop first second s work₀ j₀ work j = s .second .edges - j

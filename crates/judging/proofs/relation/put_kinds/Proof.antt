@@ -4,13 +4,14 @@ use native.Mathlib.Omega.{arith}
 use lib.ListN.{length}
 use Rattle.files.specs.Decode.{decode-graph}
 use Rattle.judging.specs.Chains.{Outside}
+use Rattle.judging.specs.Places.{heads-base, kinds-base}
 use Rattle.judging.specs.Refinement.{KindRows}
 use Rattle.judging.proofs.RelationLaws.{kinds-start, kinds-turn}
 use Rattle.judging.proofs.relation.put_kinds.Statement.{statement}
 use Rattle.judging.proofs.relation.put_kinds.Tie as tie
 
 abbrev Inv-loop : tie.InvT-loop
-Inv-loop first second s work₀ h₀ work h = (h ≤ s .second .nodes) × (length work ≡ length work₀) × KindRows (decode-graph second) h work × Outside 16384 16960 work₀ work
+Inv-loop first second s work₀ h₀ work h = (h ≤ s .second .nodes) × (length work ≡ length work₀) × KindRows (decode-graph second) h work × Outside kinds-base heads-base work₀ work
 
 abbrev μ-loop : tie.MeasureT-loop
 μ-loop first second s work₀ h₀ work h = s .second .nodes - h

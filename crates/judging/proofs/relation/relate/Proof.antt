@@ -6,7 +6,9 @@ use lib.Dec.{ltb}
 use lib.ListN.{length}
 use Rattle.files.specs.Decode.{decode-graph}
 use Rattle.files.specs.Graph.{node}
+use Rattle.files.specs.Places.{max-nodes}
 use Rattle.judging.specs.Chains.{Outside}
+use Rattle.judging.specs.Places.{held-base}
 use Rattle.judging.specs.Refinement.{rel}
 use Rattle.judging.specs.Simulation.{alike}
 use Rattle.judging.proofs.RelationLaws.{related-turn}
@@ -14,7 +16,7 @@ use Rattle.judging.proofs.relation.relate.Statement.{statement}
 use Rattle.judging.proofs.relation.relate.Tie as tie
 
 abbrev Inv-loop : tie.InvT-loop
-Inv-loop first second s work₀ g₀ work g = (g ≤ s .first .nodes) × (length work ≡ length work₀) × ((u h : ℕ) → u < g → h < 256 → rel work u h ≡ (ltb h (s .second .nodes) && alike (node (decode-graph first) u) (node (decode-graph second) h))) × Outside 0 8192 work₀ work
+Inv-loop first second s work₀ g₀ work g = (g ≤ s .first .nodes) × (length work ≡ length work₀) × ((u h : ℕ) → u < g → h < max-nodes → rel work u h ≡ (ltb h (s .second .nodes) && alike (node (decode-graph first) u) (node (decode-graph second) h))) × Outside 0 held-base work₀ work
 
 abbrev μ-loop : tie.MeasureT-loop
 μ-loop first second s work₀ g₀ work g = s .first .nodes - g

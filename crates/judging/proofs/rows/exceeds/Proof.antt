@@ -4,6 +4,7 @@ use native.Mathlib.Omega.{arith}
 use lib.Bits.{bitOr, bitAnd}
 use lib.ListN.{getD}
 use borrow.Author.Needs.{needs}
+use Rattle.files.specs.Places.{max-nodes}
 use Rattle.judging.specs.Refinement.Rows.{joined}
 use Rattle.judging.proofs.RowLaws.{joined-more, exceeds-by}
 use Rattle.judging.proofs.LevelLaws.{below-more}
@@ -13,7 +14,7 @@ use Rattle.files.proofs.cells.wide.Reads as wide-reads
 use Rattle.judging.proofs.rows.without.Reads as without-reads
 
 abbrev Inv-loop : tie.InvT-loop
-Inv-loop work at less any₀ k₀ any k = (k ≤ 32) × (any ≡ joined (λ j. bitAnd (getD work (at + j) 0) (255 - getD work (less + j) 0)) k) × ((j : ℕ) → j < k → getD work (less + j) 0 < 256)
+Inv-loop work at less any₀ k₀ any k = (k ≤ 32) × (any ≡ joined (λ j. bitAnd (getD work (at + j) 0) (255 - getD work (less + j) 0)) k) × ((j : ℕ) → j < k → getD work (less + j) 0 < max-nodes)
 
 abbrev μ-loop : tie.MeasureT-loop
 μ-loop work at less any₀ k₀ any k = 32 - k
@@ -46,7 +47,7 @@ loop-again : tie.Need-loop-again Inv-loop μ-loop
 loop-again c = let a = c .before .before .before .before .before .before .args in
     let l = c .before .before .before .before .loop in
     let w = a .work .now in
-    (omega (arith, c .before .before .before .loop-test .taken), ap (bitOr (l .any)) (c .without .ensures .0) ∙ joined-more (λ j. bitAnd (getD w (a .at + j) 0) (255 - getD w (a .less + j) 0)) (l .any) (l .k) (l .inv .1), below-more (λ j. getD w (a .less + j) 0 < 256) (l .k) (l .inv .2) (c .without .ensures .1))
+    (omega (arith, c .before .before .before .loop-test .taken), ap (bitOr (l .any)) (c .without .ensures .0) ∙ joined-more (λ j. bitAnd (getD w (a .at + j) 0) (255 - getD w (a .less + j) 0)) (l .any) (l .k) (l .inv .1), below-more (λ j. getD w (a .less + j) 0 < max-nodes) (l .k) (l .inv .2) (c .without .ensures .1))
 
 wide-requires : tie.Need-wide-requires Inv-loop μ-loop
 wide-requires c κs = search needs

@@ -4,13 +4,14 @@ use native.Mathlib.Omega.{arith}
 use native.Mathlib.Nat.{zero-add}
 use lib.ListN.{length, getD, set, length-set}
 use borrow.Author.Needs.{needs}
+use Rattle.files.specs.Places.{line-bytes}
 use Rattle.judging.specs.Refinement.Rows.{bytes-on}
 use Rattle.judging.proofs.RowLaws.{copied-bits}
 use Rattle.judging.proofs.rows.row_at.Statement.{statement}
 use Rattle.judging.proofs.rows.row_at.Tie as tie
 
 abbrev Inv-loop : tie.InvT-loop
-Inv-loop work at row₀ k₀ row k = (k ≤ 32) × (length row ≡ 32) × ((j : ℕ) → j < k → getD row (0 + j) 0 ≡ getD work (at + j) 0)
+Inv-loop work at row₀ k₀ row k = (k ≤ 32) × (length row ≡ line-bytes) × ((j : ℕ) → j < k → getD row (0 + j) 0 ≡ getD work (at + j) 0)
 
 abbrev μ-loop : tie.MeasureT-loop
 μ-loop work at row₀ k₀ row k = 32 - k

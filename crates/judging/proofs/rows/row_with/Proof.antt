@@ -5,13 +5,14 @@ use native.Mathlib.Nat.{zero-add}
 use lib.Bits.{bitOr}
 use lib.ListN.{length, getD, set, length-set}
 use borrow.Author.Needs.{needs}
+use Rattle.files.specs.Places.{line-bytes}
 use Rattle.judging.specs.Refinement.Rows.{bytes-on}
 use Rattle.judging.proofs.RowLaws.{joint-bits}
 use Rattle.judging.proofs.rows.row_with.Statement.{statement}
 use Rattle.judging.proofs.rows.row_with.Tie as tie
 
 abbrev Inv-loop : tie.InvT-loop
-Inv-loop row work at both₀ k₀ both k = (k ≤ 32) × (length both ≡ 32) × ((j : ℕ) → j < k → getD both (0 + j) 0 ≡ bitOr (getD row j 0) (getD work (at + j) 0))
+Inv-loop row work at both₀ k₀ both k = (k ≤ 32) × (length both ≡ line-bytes) × ((j : ℕ) → j < k → getD both (0 + j) 0 ≡ bitOr (getD row j 0) (getD work (at + j) 0))
 
 abbrev μ-loop : tie.MeasureT-loop
 μ-loop row work at both₀ k₀ both k = 32 - k

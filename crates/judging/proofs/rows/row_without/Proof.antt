@@ -5,6 +5,7 @@ use native.Mathlib.Nat.{zero-add}
 use lib.Bits.{bitAnd}
 use lib.ListN.{length, getD, set, length-set}
 use borrow.Author.Needs.{needs}
+use Rattle.files.specs.Places.{line-bytes, max-nodes}
 use Rattle.judging.specs.Refinement.Rows.{bytes-on}
 use Rattle.judging.proofs.LevelLaws.{below-more}
 use Rattle.judging.proofs.RowLaws.{rest-bits}
@@ -14,7 +15,7 @@ use Rattle.judging.proofs.rows.row_without.Tie as tie
 use Rattle.judging.proofs.rows.without.Reads as without-reads
 
 abbrev Inv-loop : tie.InvT-loop
-Inv-loop work at row rest₀ k₀ rest k = (k ≤ 32) × (length rest ≡ 32) × ((j : ℕ) → j < k → getD rest (0 + j) 0 ≡ bitAnd (getD work (at + j) 0) (255 - getD row j 0)) × ((j : ℕ) → j < k → getD row j 0 < 256)
+Inv-loop work at row rest₀ k₀ rest k = (k ≤ 32) × (length rest ≡ line-bytes) × ((j : ℕ) → j < k → getD rest (0 + j) 0 ≡ bitAnd (getD work (at + j) 0) (255 - getD row j 0)) × ((j : ℕ) → j < k → getD row j 0 < max-nodes)
 
 abbrev μ-loop : tie.MeasureT-loop
 μ-loop work at row rest₀ k₀ rest k = 32 - k
@@ -47,7 +48,7 @@ loop-again : tie.Need-loop-again Inv-loop μ-loop
 loop-again c = let a = c .before .before .before .before .before .before .before .args in
     let l = c .before .before .before .before .loop in
     let x = c .without .result in
-    (omega (arith, c .before .before .before .loop-test .taken), length-set (l .rest) (l .k) x ∙ l .inv .1, (bytes-on (λ j. bitAnd (getD (a .work .now) (a .at + j) 0) (255 - getD (a .row .now) j 0)) (l .rest) (l .rest) _ 0 (l .k) x (omega (arith, l .inv .1, c .before .before .before .loop-test .taken)) (c .without .ensures .0) (ap (λ (n : ℕ). set (l .rest) n x) (sym (zero-add (l .k)))) (l .inv .2, λ q d. refl)) .0, below-more (λ (j : ℕ). getD (a .row .now) j 0 < 256) (l .k) (l .inv .3) (c .without .ensures .1))
+    (omega (arith, c .before .before .before .loop-test .taken), length-set (l .rest) (l .k) x ∙ l .inv .1, (bytes-on (λ j. bitAnd (getD (a .work .now) (a .at + j) 0) (255 - getD (a .row .now) j 0)) (l .rest) (l .rest) _ 0 (l .k) x (omega (arith, l .inv .1, c .before .before .before .loop-test .taken)) (c .without .ensures .0) (ap (λ (n : ℕ). set (l .rest) n x) (sym (zero-add (l .k)))) (l .inv .2, λ q d. refl)) .0, below-more (λ (j : ℕ). getD (a .row .now) j 0 < max-nodes) (l .k) (l .inv .3) (c .without .ensures .1))
 
 returns : tie.Need-returns Inv-loop μ-loop
 returns c = let a = c .before .before .before .before .args in let l = c .before .loop in (l .inv .1, rest-bits (a .row .now) (a .work .now) (a .at) (l .rest) (l .rest) (l .k) (omega (arith, c .loop-test .left)) (l .inv .2, λ q d. refl) (l .inv .3))

@@ -4,6 +4,7 @@ use Prim.Native.Nat.{_*_, _/_, _%_, _<_}
 use native.Mathlib.Omega.{arith}
 use Rattle.files.specs.Cells.{put-at}
 use Rattle.files.specs.Decode.{decode-graph, decode-property}
+use Rattle.files.specs.Places.{record-len}
 use Rattle.judging.proofs.SheetLaws.{listed-few, place-in, cause-bytes, fault-of}
 use borrow.Author.Needs.{needs}
 use Rattle.judging.proofs.sheet.put_fault.Statement.{statement}
@@ -87,7 +88,7 @@ returns c =
     let x = y .before .get16 in
     let f = y .causes-of in
     c .before .before .put-record .ensures
-    ∙ ap (put-at (a .out .now) (6 * a .i))
+    ∙ ap (put-at (a .out .now) (record-len * a .i))
     (c .before .before .before .before .fault .ensures
     ∙ fault-of (decode-graph (a .graph .now)) (decode-property (a .property .now)) (a .work .now) (a .i) (x .result) (f .result .first) (f .result .second) (x .ensures) (f .ensures .0)
     (f .ensures .1))

@@ -2,6 +2,7 @@ use mathlib.Core.Path.{_≡_, refl, _∙_}
 use native.Mathlib.Omega.{arith}
 use Rattle.files.specs.Decode.{decode-graph, decode-property}
 use Rattle.judging.proofs.SheetLaws.{nothing-listed, start-in, first-turn, next-turn, listed-few, place-in}
+use Rattle.judging.specs.Places.{max-pairs}
 use Rattle.judging.specs.Sheets.{Listed}
 use Rattle.judging.specs.Sheets.Walk.{Onward, walk-all}
 use mathlib.Core.Logic.{inr}
@@ -15,7 +16,7 @@ abbrev Inv-loop : tie.InvT-loop
 Inv-loop graph property s work₀ g tail₀ head₀ work tail head = (Listed (decode-graph graph) (decode-property property) tail work) × (head ≤ tail) × (Onward (decode-graph graph) (decode-property property) head tail work) × (length work ≡ length work₀)
 
 abbrev μ-loop : tie.MeasureT-loop
-μ-loop graph property s work₀ g tail₀ head₀ work tail head = 8192 - head
+μ-loop graph property s work₀ g tail₀ head₀ work tail head = max-pairs - head
 
 visit-requires : tie.Need-visit-requires Inv-loop μ-loop
 visit-requires c κs = let k = c .before .before .before .before in (k .pre .0, (nothing-listed (c .before .before .before .before .args .s) (c .before .before .before .before .args .graph .now) (c .before .before .before .before .args .property .now) (c .before .before .before .before .pre .0) (k .args .work .now) (k .pre .1 .0) (k .pre .1 .1 .0), inr (start-in (c .before .before .before .before .args .s) (c .before .before .before .before .args .graph .now) (c .before .before .before .before .args .property .now) (c .before .before .before .before .pre .0) (k .args .g) (k .pre .1 .1 .1 .0) (k .pre .1 .1 .1 .1))))

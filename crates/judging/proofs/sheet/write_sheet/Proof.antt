@@ -6,6 +6,7 @@ use Prim.Native.Nat.{ℕ, _*_, _-_, _≤_}
 use native.Mathlib.Numerals.{add-one}
 use lib.ListN.{length}
 use Rattle.files.specs.Cells.{put-at}
+use Rattle.files.specs.Places.{record-len}
 use Rattle.judging.specs.Levels.Sheet.{fault, fault-bytes}
 use Rattle.judging.specs.Ranking.{queue-at}
 use Rattle.judging.specs.Sheets.{pair-of}
@@ -36,7 +37,7 @@ loop-again c = let a = c .before .before .before .before .before .before .before
     let l = c .before .before .before .before .before .loop in
     let x = c .before .before .put-fault in (
       omega (arith, c .before .before .before .before .loop-test .taken),
-      x .ensures ∙ ap (λ (o : List ℕ). put-at o (6 * l .i) (fault-bytes (fault (decode-graph (a .graph .now)) (decode-property (a .property .now)) (pair-of (queue-at (a .work .now) (l .i)))))) (l .inv .1) ∙ bytes-more (decode-graph (a .graph .now)) (decode-property (a .property .now)) (a .work .now) (a .out .now) (l .i) ∙ ap (λ (k : ℕ). put-at (a .out .now) 0 (bytes-of (decode-graph (a .graph .now)) (decode-property (a .property .now)) (a .work .now) k)) (sym (add-one (l .i))),
+      x .ensures ∙ ap (λ (o : List ℕ). put-at o (record-len * l .i) (fault-bytes (fault (decode-graph (a .graph .now)) (decode-property (a .property .now)) (pair-of (queue-at (a .work .now) (l .i)))))) (l .inv .1) ∙ bytes-more (decode-graph (a .graph .now)) (decode-property (a .property .now)) (a .work .now) (a .out .now) (l .i) ∙ ap (λ (k : ℕ). put-at (a .out .now) 0 (bytes-of (decode-graph (a .graph .now)) (decode-property (a .property .now)) (a .work .now) k)) (sym (add-one (l .i))),
       x .kept .1 .1 .1 .1 .0 ∙ l .inv .2,
     )
 

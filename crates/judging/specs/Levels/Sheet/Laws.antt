@@ -17,6 +17,7 @@ use Rattle.files.specs.Basics.Queue.{breadth-first, From, itself, listed, start
 use Rattle.files.specs.Basics.Tests.{and-l, and-r, and-i, any, any-e, any-i, upto, upto-i, upto-e, grid, grid-i, length-grid, decide, not-not, not-and}
 use Rattle.files.specs.Decode.Listed.{decode-each}
 use Rattle.files.specs.Graph.{Graph, Edge, size, node, Flow}
+use Rattle.files.specs.Places.{record-len}
 use Rattle.files.specs.Property.{Row, always, never, returns, not-returns, in-method, not-in-method, both, either, box, box-all, row, obliged, Boxed, by-label, by-any, Property}
 use Rattle.judging.specs.Levels.{level, holds, satisfies, rank}
 use Rattle.judging.specs.Levels.Laws.{satisfies-iff}
@@ -264,7 +265,7 @@ unfolding sheet
 sheet-length G P = length-map (pairs G P) (fault G P)
 
 -- six bytes a record
-pub sheet-bytes-length : (G : Graph) (P : List Row) → length (sheet-bytes G P) ≡ 6 * length (sheet G P)
+pub sheet-bytes-length : (G : Graph) (P : List Row) → length (sheet-bytes G P) ≡ record-len * length (sheet G P)
 unfolding sheet-bytes
 sheet-bytes-length G P = length-each 6 fault-bytes (λ f. refl) (sheet G P)
 

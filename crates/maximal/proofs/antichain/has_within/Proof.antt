@@ -10,9 +10,10 @@ use Rattle.maximal.specs.Masks.{within}
 use Rattle.maximal.proofs.AntichainLaws.{some-listed, none-listed}
 use Rattle.maximal.proofs.antichain.has_within.Statement.{statement}
 use Rattle.maximal.proofs.antichain.has_within.Tie as tie
+use Rattle.maximal.specs.Places.{candidates-base}
 
 abbrev Inv-loop : tie.InvT-loop
-Inv-loop work count s i₀ i = (i ≤ count) × ((j : ℕ) → j < i → T (not (within (cell work 87072 4 j) s)))
+Inv-loop work count s i₀ i = (i ≤ count) × ((j : ℕ) → j < i → T (not (within (cell work candidates-base 4 j) s)))
 
 abbrev μ-loop : tie.MeasureT-loop
 μ-loop work count s i₀ i = count - i
@@ -44,7 +45,7 @@ loop-again c =
     let a = c .before .before .before .before .before .before .args in
     let l = c .before .before .before .before .loop in
     let t = sym (c .before .is-within .ensures ∙ ap (λ (u : ℕ). within u (a .s)) (c .before .before .get32 .ensures)) ∙ c .if1 .left in
-    (omega arith, none-on (λ j. within (cell (a .work .now) 87072 4 j) (a .s)) (l .i) (l .inv .1) t)
+    (omega arith, none-on (λ j. within (cell (a .work .now) candidates-base 4 j) (a .s)) (l .i) (l .inv .1) t)
 
 returns-2 : tie.Need-returns-2 Inv-loop μ-loop
 returns-2 c =

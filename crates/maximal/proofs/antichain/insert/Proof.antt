@@ -9,6 +9,7 @@ use Rattle.maximal.proofs.AntichainLaws.{listed-put, put-outside}
 use borrow.Author.Needs.{needs}
 use Rattle.maximal.proofs.antichain.insert.Statement.{statement}
 use Rattle.maximal.proofs.antichain.insert.Tie as tie
+use Rattle.maximal.specs.Places.{max-candidates, model-room}
 
 has-within-requires : tie.Need-has-within-requires
 has-within-requires c κs = search needs
@@ -38,8 +39,8 @@ returns-2 c =
     let a = c .before .before .before .before .before .before .before .before .before .before .before .before .args in
     let d = c .before .before .before .before .before .before .drop-above in
     let p = c .before .before .put32 in
-    let few : d .result < 4096 = omega (arith, d .ensures .1 .0) in
-    let room : 103456 ≤ length (d .last .0) = omega (arith, d .kept .0) in (
+    let few : d .result < max-candidates = omega (arith, d .ensures .1 .0) in
+    let room : model-room ≤ length (d .last .0) = omega (arith, d .kept .0) in (
       listed-put (d .last .0) (p .last .0) (d .result) (a .s) few room (omega arith) (p .ensures)
           ∙ ap (λ (l : List ℕ). l ++ a .s ∷ []) (d .ensures .0)
           ∙ sym (inserted-last (listed (a .work .now) (a .count)) (a .s) (sym (c .before .before .before .before .before .before .before .before .before .has-within .ensures) ∙ c .before .before .before .before .before .before .before .before .if1 .left)),

@@ -2,10 +2,10 @@
 use Rattle.files.specs.Outcome.{short}
 use Rattle.files.specs.Refusal.{interface, property}
 use Rattle.files.specs.Settling.Laws.{whole-settles, file-settles, next-settles, settled-as}
-use Rattle.maximal.specs.Modelling.{model-room}
 use borrow.Author.Needs.{needs}
 use Rattle.maximal.proofs.build.check_model.Statement.{statement}
 use Rattle.maximal.proofs.build.check_model.Tie as tie
+use Rattle.maximal.specs.Places.{model-room}
 
 whole-settled-requires : tie.Need-whole-settled-requires
 whole-settled-requires c κs = search needs

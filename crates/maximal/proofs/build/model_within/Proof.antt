@@ -10,10 +10,11 @@ use Rattle.files.specs.Settling.Laws.{settled-as}
 use Rattle.judging.specs.TwoFiles.{two-known}
 use Rattle.maximal.proofs.BuildLaws.{scope-of}
 use Rattle.maximal.specs.Modelling.Laws.{modelled-is}
-use Rattle.maximal.specs.Modelling.{model-room, model-first, model-graph, model-last}
+use Rattle.maximal.specs.Modelling.{model-first, model-graph, model-last}
 use borrow.Author.Needs.{needs}
 use Rattle.maximal.proofs.build.model_within.Statement.{statement}
 use Rattle.maximal.proofs.build.model_within.Tie as tie
+use Rattle.maximal.specs.Places.{model-room}
 
 check-model-requires : tie.Need-check-model-requires
 check-model-requires c κs = search needs

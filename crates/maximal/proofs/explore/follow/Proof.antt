@@ -10,6 +10,7 @@ use Rattle.maximal.proofs.MaskLaws.{asked-among}
 use borrow.Author.Needs.{needs}
 use Rattle.maximal.proofs.explore.follow.Statement.{statement}
 use Rattle.maximal.proofs.explore.follow.Tie as tie
+use Rattle.maximal.specs.Places.{model-room}
 
 -- ---- what is known of the slot
 
@@ -57,7 +58,7 @@ module _ (p : tie.After-slice-known5) where
         put-asked = p .before .before .put32 .ensures;
       }
 
-  still-room : 103456 ≤ length (p .before .before .put32 .last .0)
+  still-room : model-room ≤ length (p .before .before .put32 .last .0)
   still-room = omega (arith, cleared told .room, p .before .before .before .before .before .before .put82 .kept .0, p .before .before .put32 .kept .0)
 
 -- ---- the needs

@@ -7,9 +7,10 @@ use Rattle.maximal.specs.Listing.{tally-upto}
 use Rattle.maximal.specs.Listing.Laws.{tally-from-le, upto-none, upto-more, upto-stays}
 use Rattle.maximal.proofs.written.count_edges.Statement.{statement}
 use Rattle.maximal.proofs.written.count_edges.Tie as tie
+use Rattle.maximal.specs.Places.{max-followers}
 
 abbrev Inv-loop : tie.InvT-loop
-Inv-loop work c limit i₀ n₀ i n = (i ≤ c) × (n ≡ tally-upto work c limit i) × (n ≤ 2304 * i)
+Inv-loop work c limit i₀ n₀ i n = (i ≤ c) × (n ≡ tally-upto work c limit i) × (n ≤ max-followers * i)
 
 abbrev μ-loop : tie.MeasureT-loop
 μ-loop work c limit i₀ n₀ i n = c - i

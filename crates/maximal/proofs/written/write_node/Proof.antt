@@ -1,6 +1,7 @@
 use mathlib.Core.Path.{ap, _∙_}
 use Prim.Native.Nat.{_*_}
 use Rattle.files.specs.Cells.{put-at}
+use Rattle.files.specs.Places.{record-len}
 use Rattle.files.specs.Record.{six}
 use Rattle.files.specs.declared.record.Record.{Record}
 use Rattle.maximal.proofs.WrittenLaws.{node-of}
@@ -42,8 +43,8 @@ returns c =
     let kind = c .before .before .before .before .before .before .get82 in
     let state = c .before .before .before .before .before .before .before .get8 in
     c .before .before .put-record .ensures
-    ∙ ap (λ (r : Record). put-at (a .out .now) (6 * a .i) (six r)) (c .before .before .before .node .ensures)
-    ∙ ap (put-at (a .out .now) (6 * a .i)) (node-of (a .work .now) (a .i) (state .result) (kind .result) (bit .result) (state .ensures) (kind .ensures) (bit .ensures))
+    ∙ ap (λ (r : Record). put-at (a .out .now) (record-len * a .i) (six r)) (c .before .before .before .node .ensures)
+    ∙ ap (put-at (a .out .now) (record-len * a .i)) (node-of (a .work .now) (a .i) (state .result) (kind .result) (bit .result) (state .ensures) (kind .ensures) (bit .ensures))
 
 pub write-node-spec : {M : Type 1} → statement M
 write-node-spec =

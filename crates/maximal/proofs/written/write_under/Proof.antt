@@ -2,6 +2,7 @@ use mathlib.Core.Path.{refl, sym, ap, _∙_}
 use Prim.Native.Nat.{ℕ, _+_, _-_, _*_}
 use native.Mathlib.Omega.{arith}
 use Rattle.files.specs.Cells.{put-at}
+use Rattle.files.specs.Places.{record-len}
 use Rattle.files.specs.Record.{six}
 use Rattle.files.specs.declared.record.Record.{Record}
 use Rattle.maximal.specs.Listing.{under-bytes}
@@ -94,7 +95,7 @@ loop-again c =
     let row = c .before .before .before .before .before .before .before .before .before .before .before .before .order-row .last .1 .1 .1 .0 in
     let is = leads-row (a .c) (a .work .now) (p .1 .1 .1 .1 .1 .0) (p .1 .1 .1 .1 .1 .1) (c .before .before .before .before .before .before .before .before .before .before .before .before .before .before .row-of .result) (c .before .before .before .before .before .before .before .before .before .before .before .before .order-row .last .1 .1 .1 .0) (c .before .before .before .before .before .before .before .before .before .before .before .before .order-row .ensures) (a .i) (a .label) (c .before .before .before .before .before .before .before .before .before .before .before .before .before .before .row-of .ensures .0) in
     visit row 0 (a .c) (λ (m : ℕ). Wrote (a .out .now) (y .last .0) (a .at) (l .end + 1) (under-bytes (a .work .now) m (a .i) (a .label))) (λ t k e x. edge-off (a .work .now) (a .out .now) (y .last .0) (a .i) (a .label) t (a .at) (l .end + 1) x (sym e ∙ is t k)) (l .j + 1) (c .next-bit2 .result) (omega (arith, h))
-    (edge-on (a .work .now) (a .out .now) (l .out) (a .i) (a .label) (l .j) (a .at) (l .end) (l .inv .here h) (y .last .0) (l .end + 1) (omega (arith, p .1 .1 .1 .1 .0)) (sym (l .inv .is-one h) ∙ is (l .j) h) (y .ensures ∙ ap (λ (r : Record). put-at (l .out) (6 * l .end) (six r)) (c .before .before .before .before .before .edge .ensures)) (y .kept .0) refl) (c .next-bit2 .ensures)
+    (edge-on (a .work .now) (a .out .now) (l .out) (a .i) (a .label) (l .j) (a .at) (l .end) (l .inv .here h) (y .last .0) (l .end + 1) (omega (arith, p .1 .1 .1 .1 .0)) (sym (l .inv .is-one h) ∙ is (l .j) h) (y .ensures ∙ ap (λ (r : Record). put-at (l .out) (record-len * l .end) (six r)) (c .before .before .before .before .before .edge .ensures)) (y .kept .0) refl) (c .next-bit2 .ensures)
 
 same-length : tie.Need-same-length Inv-loop μ-loop
 same-length c = c .before .loop .inv .all (omega (arith, c .loop-test .left)) .as-long

@@ -5,6 +5,7 @@ use Prim.Native.Nat.{ℕ, _+_, _*_}
 use native.Mathlib.Omega.{arith}
 use lib.ListN.{take}
 use lib.Seq.{length-take-le}
+use Rattle.files.specs.Places.{record-len}
 use Rattle.judging.specs.declared.sizes.Sizes.{Sizes}
 use Rattle.runs.specs.Answer.{watched-answer}
 use Rattle.runs.specs.Composing.Joined.{joint-ready, joint-told}
@@ -14,7 +15,7 @@ use Rattle.runs.proofs.composing.watch_joined.Tie as tie
 
 -- the second graph's bytes, where they stand in the buffer
 abbrev second : Sizes → List ℕ → List ℕ
-second s l = take (6 * (s .second .nodes + s .second .edges)) l
+second s l = take (record-len * (s .second .nodes + s .second .edges)) l
 
 add-second : tie.Need-add-second
 add-second c = search needs
@@ -28,7 +29,7 @@ slice-reshare-prefix-join-into c = search needs
 slice-aggregate-join-into : tie.Need-slice-aggregate-join-into
 slice-aggregate-join-into c =
     let k = c .before .before .before .before .before .before .before in
-    sym (length-take-le (6 * (k .args .s .second .nodes + k .args .s .second .edges)) (k .args .store .now) (omega (arith, k .pre .0 .second-held .few-nodes, k .pre .0 .second-held .few-edges, k .pre .1 .1 .1 .0)))
+    sym (length-take-le (record-len * (k .args .s .second .nodes + k .args .s .second .edges)) (k .args .store .now) (omega (arith, k .pre .0 .second-held .few-nodes, k .pre .0 .second-held .few-edges, k .pre .1 .1 .1 .0)))
 
 join-into-requires : tie.Need-join-into-requires
 join-into-requires c κs = search needs

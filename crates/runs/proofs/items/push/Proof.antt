@@ -4,6 +4,7 @@ use Prim.Native.Nat.{_*_}
 use native.Mathlib.Omega.{arith}
 use lib.Dec.{T}
 use Rattle.files.specs.Cells.{put-at}
+use Rattle.files.specs.Places.{record-len}
 use Rattle.runs.specs.Searching.{rec-of}
 use Rattle.runs.specs.Searching.Pushes.{push-seen, push-new}
 use borrow.Author.Needs.{needs}
@@ -73,7 +74,7 @@ returns-2 c =
     (c .before .before .before .before .before .before .before .before .before .before .before .before .before .before .has-bit .result)
     (c .before .before .before .before .before .before .before .before .before .before .before .before .before .before .has-bit .ensures)
     (c .before .before .before .before .before .before .before .before .before .before .before .before .before .if1 .left)
-    (c .before .before .before .before .before .before .before .before .before .before .put-record .ensures ∙ ap (put-at (a .work .now) (6 * a .tail)) (c .before .before .before .before .before .before .before .before .before .before .before .step .ensures)) (c .before .before .before .before .before .before .put16 .ensures)
+    (c .before .before .before .before .before .before .before .before .before .before .put-record .ensures ∙ ap (put-at (a .work .now) (record-len * a .tail)) (c .before .before .before .before .before .before .before .before .before .before .before .step .ensures)) (c .before .before .before .before .before .before .put16 .ensures)
     (c .before .before .put-bit .ensures)
 
 pub push-spec : {M : Type 1} → statement M

@@ -3,6 +3,7 @@ use mathlib.Core.Path.{_≡_, sym, ap}
 use Prim.Native.Nat.{ℕ, _+_, _*_, _-_}
 use native.Mathlib.Omega.{arith}
 use lib.ListN.{take, drop}
+use Rattle.files.specs.Places.{record-len}
 use Rattle.runs.specs.Joining.Bytes.{first-room, first-cut, second-cut, join-stored}
 use borrow.Author.Needs.{needs}
 use Rattle.runs.proofs.joining.write_join.Statement.{statement}
@@ -88,10 +89,10 @@ returns c =
     let c2 = d .copy-at2 in
     let c3 = c .before .before .before .before .before .before .before .before .copy-at3 in
     let w = c .before .before .write-all-moved in
-    let e : 6 * (s .first .nodes + s .first .edges) - 6 * s .first .nodes ≡ 6 * s .first .edges = omega arith in
+    let e : record-len * (s .first .nodes + s .first .edges) - record-len * s .first .nodes ≡ record-len * s .first .edges = omega arith in
     join-stored s f (k .args .graph2 .now) (k .pre .0) (k .args .out .now) (c1 .last .0) (c2 .last .0) (c3 .last .0) (w .last .1 .1 .1 .0)
-    (take (6 * (s .first .nodes + s .first .edges) - 6 * s .first .nodes) (drop (6 * s .first .nodes) f)) (c1 .ensures) (c2 .ensures) (c3 .ensures)
-    (ap (λ (n : ℕ). take n (drop (6 * s .first .nodes) f)) e) (w .ensures)
+    (take (record-len * (s .first .nodes + s .first .edges) - record-len * s .first .nodes) (drop (record-len * s .first .nodes) f)) (c1 .ensures) (c2 .ensures) (c3 .ensures)
+    (ap (λ (n : ℕ). take n (drop (record-len * s .first .nodes) f)) e) (w .ensures)
 
 pub write-join-spec : {M : Type 1} → statement M
 write-join-spec =

@@ -4,6 +4,7 @@ use Prim.Native.Nat.{ℕ, _+_, _*_, _-_}
 use native.Mathlib.Omega.{arith}
 use lib.ListN.{take, drop}
 use Rattle.files.specs.Decode.{decode-graph, decode-interface}
+use Rattle.files.specs.Places.{record-len}
 use Rattle.files.specs.Sides as sides
 use Rattle.files.specs.View.{Held}
 use borrow.Author.Needs.{needs}
@@ -32,14 +33,14 @@ lacks-entry-requires : tie.Need-lacks-entry-requires
 lacks-entry-requires c κs =
     let k = c .before .before .before .before in
     let a = k .args in
-    let e : 6 * (a .model .nodes + a .model .edges) ≡ a .at + 6 * (a .model .nodes + a .model .edges) - a .at = omega arith in
+    let e : record-len * (a .model .nodes + a .model .edges) ≡ a .at + record-len * (a .model .nodes + a .model .edges) - a .at = omega arith in
     let h = subst (λ (n : ℕ). Held (a .model) (take n (drop (a .at) (a .store .now)))) e (k .pre .1 .0) in
     (k .pre .0, (h .views .graph-file, h .views .nodes-are))
 
 returns : tie.Need-returns
 returns c =
     let a = c .before .before .before .before .before .args in
-    let e : a .at + 6 * (a .model .nodes + a .model .edges) - a .at ≡ 6 * (a .model .nodes + a .model .edges) = omega arith in
+    let e : a .at + record-len * (a .model .nodes + a .model .edges) - a .at ≡ record-len * (a .model .nodes + a .model .edges) = omega arith in
     subst (λ (n : ℕ). c .lacks-entry .result ≡ sides.lacks-entry (decode-interface (a .interface .now)) (decode-graph (take n (drop (a .at) (a .store .now))))) e (c .lacks-entry .ensures)
 
 pub bars-spec : {M : Type 1} → statement M

@@ -9,13 +9,14 @@ use Rattle.runs.specs.Prepared.Files.{edges-is}
 use Rattle.runs.proofs.PrepareLaws.{opened-below, opened-on}
 use Rattle.runs.proofs.prepare.link_groups.Statement.{statement}
 use Rattle.runs.proofs.prepare.link_groups.Tie as tie
+use Rattle.runs.specs.Regions.{label-heads-base, label-nexts-base, reached-base}
 
 abbrev Inv-loop : tie.InvT-loop
 Inv-loop graph rules s work₀ e₀ work e =
     (e ≤ s .edges)
     × (length work ≡ length work₀)
-    × (Chained work 34306 34324 (opens (decode-graph graph)) 9 e)
-    × (Outside 34306 42516 work₀ work)
+    × (Chained work label-heads-base label-nexts-base (opens (decode-graph graph)) 9 e)
+    × (Outside label-heads-base reached-base work₀ work)
 
 abbrev μ-loop : tie.MeasureT-loop
 μ-loop graph rules s work₀ e₀ work e = s .edges - e
@@ -66,7 +67,7 @@ returns c =
     let a = k .args in
     let l = c .before .before .loop in
     let n : l .e ≡ length ((decode-graph (a .graph .now)) .edges) = omega (arith, c .if1 .left, l .inv .0, edges-is (a .s) (a .graph .now) (a .rules .now) (k .pre .0)) in
-    (subst (Chained (l .work) 34306 34324 (opens (decode-graph (a .graph .now))) 9) n (l .inv .2), l .inv .3)
+    (subst (Chained (l .work) label-heads-base label-nexts-base (opens (decode-graph (a .graph .now))) 9) n (l .inv .2), l .inv .3)
 
 pub link-groups-spec : {M : Type 1} → statement M
 link-groups-spec =

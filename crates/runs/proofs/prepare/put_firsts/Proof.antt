@@ -12,14 +12,15 @@ use Rattle.runs.specs.Prepared.Files.{size-is}
 use Rattle.runs.proofs.PrepareLaws.{put-outside, few-first}
 use Rattle.runs.proofs.prepare.put_firsts.Statement.{statement}
 use Rattle.runs.proofs.prepare.put_firsts.Tie as tie
+use Rattle.runs.specs.Regions.{firsts-base, label-heads-base}
 
 abbrev Inv-loop : tie.InvT-loop
 Inv-loop graph rules s work₀ g₀ first₀ work g first =
     (g ≤ s .nodes)
     × (length work ≡ length work₀)
     × (first ≡ first-edge (decode-graph graph) g)
-    × ((u : ℕ) → u < g + 1 → cell work 33792 2 u ≡ first-edge (decode-graph graph) u)
-    × (Outside 33792 34306 work₀ work)
+    × ((u : ℕ) → u < g + 1 → cell work firsts-base 2 u ≡ first-edge (decode-graph graph) u)
+    × (Outside firsts-base label-heads-base work₀ work)
 
 abbrev μ-loop : tie.MeasureT-loop
 μ-loop graph rules s work₀ g₀ first₀ work g first = s .nodes - g
@@ -36,7 +37,7 @@ loop-holds c =
       omega arith,
       refl,
       z,
-      cells-on (first-edge (decode-graph (a .graph .now))) (a .work .now) _ 33792 2 0 0 (p .ensures) (omega (arith, k .pre .1)) (omega arith) z (λ u h. absurd (omega arith)),
+      cells-on (first-edge (decode-graph (a .graph .now))) (a .work .now) _ firsts-base 2 0 0 (p .ensures) (omega (arith, k .pre .1)) (omega arith) z (λ u h. absurd (omega arith)),
       λ q d. refl,
     )
 
@@ -74,9 +75,9 @@ loop-again c =
       omega (arith, t),
       p .kept .0 ∙ l .inv .1,
       f .ensures,
-      cells-on (first-edge (decode-graph (a .graph .now))) (l .work) _ 33792 2 (l .g + 1) (f .result) (p .ensures)
+      cells-on (first-edge (decode-graph (a .graph .now))) (l .work) _ firsts-base 2 (l .g + 1) (f .result) (p .ensures)
           (omega (arith, t, k .pre .0 .held .few-nodes, k .pre .1, l .inv .1, z .kept .0)) (omega (arith, f .ensures, few)) (f .ensures) (l .inv .3),
-      put-outside (z .last .0) (l .work) _ 33792 2 (l .g + 1) (f .result) 33792 34306 (p .ensures) (omega arith) (omega (arith, t, k .pre .0 .held .few-nodes)) (l .inv .4),
+      put-outside (z .last .0) (l .work) _ firsts-base 2 (l .g + 1) (f .result) firsts-base label-heads-base (p .ensures) (omega arith) (omega (arith, t, k .pre .0 .held .few-nodes)) (l .inv .4),
     )
 
 same-length : tie.Need-same-length Inv-loop μ-loop
@@ -89,7 +90,7 @@ returns c =
     let l = c .before .before .loop in
     let p = c .before .before .before .before .before .put16 in (
       λ u h. l .inv .3 u (omega (arith, h, c .if1 .left, size-is (a .s) (a .graph .now) (a .rules .now) (k .pre .0))),
-      λ q d. l .inv .4 q d ∙ put-outside (a .work .now) (a .work .now) _ 33792 2 0 0 33792 34306 (p .ensures) (omega arith) (omega arith) (λ i x. refl) q d,
+      λ q d. l .inv .4 q d ∙ put-outside (a .work .now) (a .work .now) _ firsts-base 2 0 0 firsts-base label-heads-base (p .ensures) (omega arith) (omega arith) (λ i x. refl) q d,
     )
 
 pub put-firsts-spec : {M : Type 1} → statement M

@@ -8,9 +8,10 @@ use Rattle.runs.specs.Prepared.{SteppedFrom}
 use Rattle.runs.proofs.PrepareLaws.{steps-all}
 use Rattle.runs.proofs.prepare.put_steps.Statement.{statement}
 use Rattle.runs.proofs.prepare.put_steps.Tie as tie
+use Rattle.runs.specs.Regions.{firsts-base, monitor-base}
 
 abbrev Inv-loop : tie.InvT-loop
-Inv-loop rules work₀ j₀ work j = (j ≤ count rules) × (length work ≡ length work₀) × (SteppedFrom rules j work) × (Outside 32768 33792 work₀ work)
+Inv-loop rules work₀ j₀ work j = (j ≤ count rules) × (length work ≡ length work₀) × (SteppedFrom rules j work) × (Outside monitor-base firsts-base work₀ work)
 
 abbrev μ-loop : tie.MeasureT-loop
 μ-loop rules work₀ j₀ work j = j

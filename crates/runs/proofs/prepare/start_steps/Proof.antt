@@ -8,12 +8,13 @@ use Rattle.judging.specs.Chains.{Outside}
 use Rattle.runs.proofs.PrepareLaws.{put-outside, steps-none}
 use Rattle.runs.proofs.prepare.start_steps.Statement.{statement}
 use Rattle.runs.proofs.prepare.start_steps.Tie as tie
+use Rattle.runs.specs.Regions.{firsts-base, monitor-base, monitor-bytes}
 
 abbrev Inv-loop : tie.InvT-loop
-Inv-loop rules work₀ i₀ work i = (i ≤ 1024) × (length work ≡ length work₀) × ((u : ℕ) → u < i → cell work 32768 1 u ≡ u % 8) × (Outside 32768 33792 work₀ work)
+Inv-loop rules work₀ i₀ work i = (i ≤ monitor-bytes) × (length work ≡ length work₀) × ((u : ℕ) → u < i → cell work monitor-base 1 u ≡ u % 8) × (Outside monitor-base firsts-base work₀ work)
 
 abbrev μ-loop : tie.MeasureT-loop
-μ-loop rules work₀ i₀ work i = 1024 - i
+μ-loop rules work₀ i₀ work i = monitor-bytes - i
 
 loop-holds : tie.Need-loop-holds Inv-loop μ-loop
 loop-holds c = (omega arith, refl, (λ u h. absurd (omega arith)), λ q d. refl)
@@ -38,8 +39,8 @@ loop-again c =
     let p = c .before .before .put8 in (
       omega (arith, t),
       p .kept .0 ∙ l .inv .1,
-      cells-on (λ n. n % 8) (l .work) _ 32768 1 (l .i) (l .i % 8) (p .ensures) (omega (arith, t, l .inv .1, k .pre .1)) (omega arith) refl (l .inv .2),
-      put-outside (k .args .work .now) (l .work) _ 32768 1 (l .i) (l .i % 8) 32768 33792 (p .ensures) (omega arith) (omega (arith, t)) (l .inv .3),
+      cells-on (λ n. n % 8) (l .work) _ monitor-base 1 (l .i) (l .i % 8) (p .ensures) (omega (arith, t, l .inv .1, k .pre .1)) (omega arith) refl (l .inv .2),
+      put-outside (k .args .work .now) (l .work) _ monitor-base 1 (l .i) (l .i % 8) monitor-base firsts-base (p .ensures) (omega arith) (omega (arith, t)) (l .inv .3),
     )
 
 same-length : tie.Need-same-length Inv-loop μ-loop

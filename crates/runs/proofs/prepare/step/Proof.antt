@@ -4,6 +4,7 @@ use Rattle.files.specs.Cells.{cell}
 use borrow.Author.Needs.{needs}
 use Rattle.runs.proofs.prepare.step.Statement.{statement}
 use Rattle.runs.proofs.prepare.step.Tie as tie
+use Rattle.runs.specs.Regions.{monitor-base}
 
 slot-requires : tie.Need-slot-requires
 slot-requires c κs = search needs
@@ -19,7 +20,7 @@ returns c =
     let k = c .before .before .before .before in
     let a = k .args in
     c .get8 .ensures
-    ∙ ap (λ (n : ℕ). cell (a .work .now) 32768 1 (n + a .q)) (c .before .slot .ensures .0)
+    ∙ ap (λ (n : ℕ). cell (a .work .now) monitor-base 1 (n + a .q)) (c .before .slot .ensures .0)
     ∙ k .pre .0 (a .q) (a .event) (a .m1) (a .m2) (k .pre .1 .1 .0) (k .pre .1 .1 .1 .0) (k .pre .1 .1 .1 .1 .0) (k .pre .1 .1 .1 .1 .1 .0) (k .pre .1 .1 .1 .1 .1 .1 .0)
     (k .pre .1 .1 .1 .1 .1 .1 .1 .0) (k .pre .1 .1 .1 .1 .1 .1 .1 .1)
 

@@ -4,6 +4,7 @@ use native.Mathlib.Omega.{arith}
 use lib.ListN.{getD}
 use Rattle.files.specs.Decode.{decode-graph}
 use Rattle.files.specs.Graph.{size, node}
+use Rattle.files.specs.Places.{record-len}
 use Rattle.files.specs.declared.graph.GraphNode.{GraphNode}
 use Rattle.runs.proofs.SearchLaws.{item-few, item-reads, node-there, turn-back, at-place, may-step-first, here-stepped, may-stepped, here-entered, may-entered, turn-on}
 use Rattle.runs.proofs.SummaryLaws.{node-of, node-readable}
@@ -60,7 +61,7 @@ returns c =
     let a = k .args in
     let h = c .before .node-at .ensures in
     turn-back (a .s) (a .graph .now) (a .rules .now) (k .pre .0) (a .start) (a .head) (a .tail) (a .work .now) (k .pre .1 .1 .1 .0) (k .pre .1 .1 .0) (k .pre .1 .1 .1 .1)
-    (c .before .before .before .wide .result) (getD (a .work .now) (6 * a .head + 5) 0) (c .before .before .before .wide .ensures .0) refl _ h
+    (c .before .before .before .wide .result) (getD (a .work .now) (record-len * a .head + 5) 0) (c .before .before .before .wide .ensures .0) refl _ h
     (c .if1 .taken)
 
 called-set-requires : tie.Need-called-set-requires
@@ -72,7 +73,7 @@ called-set-requires c κs =
       (
         node-of (a .s) (a .graph .now) (a .rules .now) (k .pre .0) (c .before .before .before .before .wide .result)
             (at-place (a .s) (a .graph .now) (a .rules .now) (k .pre .0) (a .start) (a .head) (a .tail) (a .work .now) (k .pre .1 .1 .1 .0) (k .pre .1 .1 .0) (k .pre .1 .1 .1 .1)
-            (c .before .before .before .before .wide .result) (getD (a .work .now) (6 * a .head + 5) 0)
+            (c .before .before .before .before .wide .result) (getD (a .work .now) (record-len * a .head + 5) 0)
             (c .before .before .before .before .wide .ensures .0) refl _ h (c .before .if1 .left) .at-node),
         (k .pre .1 .1 .1 .0 .searching .room, k .pre .1 .1 .1 .0 .searching .tables),
       ),
@@ -86,11 +87,11 @@ look-internals-requires c κs =
       k .pre .0,
       (
         at-place (a .s) (a .graph .now) (a .rules .now) (k .pre .0) (a .start) (a .head) (a .tail) (a .work .now) (k .pre .1 .1 .1 .0) (k .pre .1 .1 .0) (k .pre .1 .1 .1 .1)
-            (c .before .before .before .before .before .before .wide .result) (getD (a .work .now) (6 * a .head + 5) 0)
+            (c .before .before .before .before .before .before .wide .result) (getD (a .work .now) (record-len * a .head + 5) 0)
             (c .before .before .before .before .before .before .wide .ensures .0) refl _ h (c .before .before .before .if1 .left),
         may-step-first (a .s) (a .graph .now)
             (a .rules .now) (k .pre .0) (a .start) (a .head) (a .tail) (a .work .now) (k .pre .1 .1 .1 .0) (k .pre .1 .1 .0) (k .pre .1 .1 .1 .1)
-            (c .before .before .before .before .before .before .wide .result) (getD (a .work .now) (6 * a .head + 5) 0)
+            (c .before .before .before .before .before .before .wide .result) (getD (a .work .now) (record-len * a .head + 5) 0)
             (c .before .before .before .before .before .before .wide .ensures .0) refl _ h (c .before .before .before .if1 .left),
       ),
     )
@@ -105,13 +106,13 @@ look-entered-requires c κs =
         c .before .before .before .before .before .called-set .ensures,
         (
           here-stepped (a .s) (a .graph .now) (a .rules .now) (k .pre .0) (a .start) (a .head) (a .tail) (a .work .now) (k .pre .1 .1 .1 .0) (k .pre .1 .1 .0) (k .pre .1 .1 .1 .1)
-              (c .before .before .before .before .before .before .before .before .before .before .wide .result) (getD (a .work .now) (6 * a .head + 5) 0)
+              (c .before .before .before .before .before .before .before .before .before .before .wide .result) (getD (a .work .now) (record-len * a .head + 5) 0)
               (c .before .before .before .before .before .before .before .before .before .before .wide .ensures .0) refl _ h
               (c .before .before .before .before .before .before .before .if1 .left) (c .before .before .before .look-internals .result) (c .before .before .before .look-internals .last .1 .1 .1 .0)
               (c .before .before .before .look-internals .ensures),
           may-stepped (a .s) (a .graph .now) (a .rules .now) (k .pre .0) (a .start) (a .head) (a .tail) (a .work .now) (k .pre .1 .1 .1 .0)
               (k .pre .1 .1 .0) (k .pre .1 .1 .1 .1) (c .before .before .before .before .before .before .before .before .before .before .wide .result)
-              (getD (a .work .now) (6 * a .head + 5) 0) (c .before .before .before .before .before .before .before .before .before .before .wide .ensures .0) refl _ h
+              (getD (a .work .now) (record-len * a .head + 5) 0) (c .before .before .before .before .before .before .before .before .before .before .wide .ensures .0) refl _ h
               (c .before .before .before .before .before .before .before .if1 .left) (c .before .before .before .look-internals .result) (c .before .before .before .look-internals .last .1 .1 .1 .0)
               (c .before .before .before .look-internals .ensures),
         ),
@@ -131,7 +132,7 @@ look-passeds-requires c κs =
           (
             here-entered (a .s) (a .graph .now) (a .rules .now) (k .pre .0) (a .start) (a .head) (a .tail) (a .work .now) (k .pre .1 .1 .1 .0) (k .pre .1 .1 .0) (k .pre .1 .1 .1 .1)
                 (c .before .before .before .before .before .before .before .before .before .before .before .before .before .before .wide .result)
-                (getD (a .work .now) (6 * a .head + 5) 0) (c .before .before .before .before .before .before .before .before .before .before .before .before .before .before .wide
+                (getD (a .work .now) (record-len * a .head + 5) 0) (c .before .before .before .before .before .before .before .before .before .before .before .before .before .before .wide
                 .ensures .0) refl _ h (c .before .before .before .before .before .before .before .before .before .before .before .if1 .left)
                 (c .before .before .before .before .before .before .before .look-internals .result) (c .before .before .before .before .before .before .before .look-internals .last .1 .1 .1 .0)
                 (c .before .before .before .before .before .before .before .look-internals .ensures) (c .before .before .before .look-entered .result)
@@ -139,7 +140,7 @@ look-passeds-requires c κs =
             may-entered (a .s) (a .graph .now) (a .rules .now) (k .pre .0) (a .start)
                 (a .head) (a .tail) (a .work .now) (k .pre .1 .1 .1 .0) (k .pre .1 .1 .0) (k .pre .1 .1 .1 .1)
                 (c .before .before .before .before .before .before .before .before .before .before .before .before .before .before .wide .result)
-                (getD (a .work .now) (6 * a .head + 5) 0) (c .before .before .before .before .before .before .before .before .before .before .before .before .before .before .wide
+                (getD (a .work .now) (record-len * a .head + 5) 0) (c .before .before .before .before .before .before .before .before .before .before .before .before .before .before .wide
                 .ensures .0) refl _ h (c .before .before .before .before .before .before .before .before .before .before .before .if1 .left)
                 (c .before .before .before .before .before .before .before .look-internals .result) (c .before .before .before .before .before .before .before .look-internals .last .1 .1 .1 .0)
                 (c .before .before .before .before .before .before .before .look-internals .ensures) (c .before .before .before .look-entered .result)
@@ -159,7 +160,7 @@ returns-2 c =
     let h = c .before .before .before .before .before .before .before .before .before .before .before .before .before .before .before .node-at .ensures in
     turn-on (a .s) (a .graph .now) (a .rules .now) (k .pre .0) (a .start) (a .head) (a .tail) (a .work .now) (k .pre .1 .1 .1 .0) (k .pre .1 .1 .0) (k .pre .1 .1 .1 .1)
     (c .before .before .before .before .before .before .before .before .before .before .before .before .before .before .before .before .before .wide .result)
-    (getD (a .work .now) (6 * a .head + 5) 0) (c .before .before .before .before .before .before .before .before .before .before .before .before .before .before .before .before .before .wide .ensures .0) refl _ h (c .before .before .before .before .before .before .before .before .before .before .before .before .before .before .if1 .left)
+    (getD (a .work .now) (record-len * a .head + 5) 0) (c .before .before .before .before .before .before .before .before .before .before .before .before .before .before .before .before .before .wide .ensures .0) refl _ h (c .before .before .before .before .before .before .before .before .before .before .before .before .before .before .if1 .left)
     (c .before .before .before .before .before .before .before .before .before .before .look-internals .result)
     (c .before .before .before .before .before .before .before .before .before .before .look-internals .last .1 .1 .1 .0)
     (c .before .before .before .before .before .before .before .before .before .before .look-internals .ensures) (c .before .before .before .before .before .before .look-entered .result)

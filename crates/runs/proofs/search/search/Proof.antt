@@ -1,10 +1,11 @@
 use mathlib.Core.Path.{_≡_, refl, _∙_}
-use Prim.Native.Nat.{_-_}
+use Prim.Native.Nat.{_+_, _-_}
 use native.Mathlib.Omega.{arith}
 use lib.ListN.{length}
 use Rattle.files.specs.Decode.{decode-graph, decode-rules}
 use Rattle.files.specs.Rules.{watch}
 use Rattle.runs.specs.Prepared.Files.{is-flow, labels-small, monitor-small}
+use Rattle.runs.specs.Regions.{points}
 use Rattle.runs.specs.Searching.{Turn}
 use Rattle.runs.specs.Searching.Ends.{start-may, turn-first, says-bad, says-clean}
 use Rattle.runs.proofs.SearchLaws.{item-few, item-reads, bad-there, good-there}
@@ -15,7 +16,7 @@ abbrev Inv-loop : tie.InvT-loop
 Inv-loop graph rules s table work₀ start end₀ head₀ work end head = (length work ≡ length work₀) × (Turn (decode-graph graph) (watch (decode-rules rules)) start head end work)
 
 abbrev μ-loop : tie.MeasureT-loop
-μ-loop graph rules s table work₀ start end₀ head₀ work end head = 2049 - head
+μ-loop graph rules s table work₀ start end₀ head₀ work end head = points + 1 - head
 
 look-starts-requires : tie.Need-look-starts-requires Inv-loop μ-loop
 look-starts-requires c κs =

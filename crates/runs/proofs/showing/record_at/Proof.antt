@@ -4,6 +4,7 @@ use Prim.Native.Nat.{ℕ, _+_, _*_, _-_}
 use native.Mathlib.Omega.{arith}
 use lib.ListN.{take, drop}
 use borrow.Author.Needs.{needs}
+use Rattle.files.specs.Places.{record-len}
 use Rattle.runs.proofs.showing.record_at.Statement.{statement}
 use Rattle.runs.proofs.showing.record_at.Tie as tie
 
@@ -28,8 +29,8 @@ part-result-end c = search needs
 returns : tie.Need-returns
 returns c =
     let a = c .before .args in
-    let e : 6 * a .i + 6 - 6 * a .i ≡ 6 = omega arith in
-    (ap (λ (n : ℕ). take n (drop (6 * a .i) (a .graph .now))) e, refl)
+    let e : record-len * a .i + 6 - record-len * a .i ≡ 6 = omega arith in
+    (ap (λ (n : ℕ). take n (drop (record-len * a .i) (a .graph .now))) e, refl)
 
 pub record-at-spec : {M : Type 1} → statement M
 record-at-spec =

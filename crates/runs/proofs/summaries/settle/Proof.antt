@@ -9,6 +9,7 @@ use Rattle.files.specs.Decode.{decode-graph, decode-rules}
 use Rattle.files.specs.Graph.{node}
 use Rattle.files.specs.Rules.{watch}
 use Rattle.files.specs.declared.graph.GraphNode.{GraphNode}
+use Rattle.runs.specs.Regions.{queue-cells}
 use Rattle.runs.specs.Worklist.{queue, Past, Spread}
 use Rattle.runs.proofs.SummaryLaws.{node-of, node-readable, method-small, queue-fits, node-there, at-fits, taken-holds, next-ready, point-ran, settled}
 use borrow.Author.Needs.{needs}
@@ -20,7 +21,7 @@ Inv-loop graph rules s work₀ tail table₀ head₀ end₀ work table head end 
     (length work ≡ length work₀) × (head ≤ end) × (Spread (decode-graph graph) (watch (decode-rules rules)) table head end work) × (Past work₀ work)
 
 abbrev μ-loop : tie.MeasureT-loop
-μ-loop graph rules s work₀ tail table₀ head₀ end₀ work table head end = 16384 - head
+μ-loop graph rules s work₀ tail table₀ head₀ end₀ work table head end = queue-cells - head
 
 loop-holds : tie.Need-loop-holds Inv-loop μ-loop
 loop-holds c = (refl, omega arith, c .before .before .before .pre .1, λ q h. refl)

@@ -5,6 +5,7 @@ use lib.ListN.{length}
 use borrow.Author.Needs.{needs}
 use Rattle.files.specs.Cells.{put-at}
 use Rattle.files.specs.Decode.{decode-graph, decode-rules}
+use Rattle.files.specs.Places.{record-len}
 use Rattle.files.specs.Rules.{watch}
 use Rattle.runs.specs.Searching.Trace.{Writing, writing-first, writing-more, writing-next, writing-back, writing-small, writing-done, item-part}
 use Rattle.runs.proofs.trail.write_trail.Statement.{statement}
@@ -88,7 +89,7 @@ loop-again c =
     let x = c .before .before .before .copy-at in
     writing-next (decode-graph (a .graph .now)) (watch (decode-rules (a .rules .now))) (a .start) (a .i) (a .work .now) (a .out .now) (l .out) (x .last .0) (l .at) (l .k) (c .get16 .result) (l .k - 1) (l .inv) (omega (arith, z))
     (c .get16 .ensures) (omega (arith, writing-more (decode-graph (a .graph .now)) (watch (decode-rules (a .rules .now))) (a .start) (a .i) (a .work .now) (a .out .now) (l .out) (l .at) (l .k) (l .inv) (omega (arith, z))))
-    (x .ensures ∙ ap (put-at (l .out) (6 * (l .k - 1))) (item-part (a .work .now) (l .at) (omega (arith, l .inv .below, l .inv .traced .few, j .pre .1 .0)))) (x .kept .0)
+    (x .ensures ∙ ap (put-at (l .out) (record-len * (l .k - 1))) (item-part (a .work .now) (l .at) (omega (arith, l .inv .below, l .inv .traced .few, j .pre .1 .0)))) (x .kept .0)
 
 same-length : tie.Need-same-length Inv-loop μ-loop
 same-length c = c .before .loop .inv .same-length

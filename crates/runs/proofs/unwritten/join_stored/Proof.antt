@@ -4,6 +4,7 @@ use Prim.Native.Nat.{ℕ, _+_, _*_, _-_}
 use native.Mathlib.Omega.{arith}
 use lib.ListN.{take, drop}
 use lib.Seq.{length-take-le}
+use Rattle.files.specs.Places.{record-len}
 use Rattle.judging.specs.Refinement.{Both}
 use Rattle.runs.specs.Composing.Joined.{JoinedInto}
 use borrow.Author.Needs.{needs}
@@ -28,7 +29,7 @@ add-second-2 c = search needs
 slice-aggregate-join-into : tie.Need-slice-aggregate-join-into
 slice-aggregate-join-into c =
     let k = c .before .before .before .before .before in
-    sym (length-take-le (6 * (k .args .s .first .nodes + k .args .s .first .edges)) (k .args .store .now) (omega (arith, k .pre .0 .first-held .few-nodes, k .pre .0 .first-held .few-edges, k .pre .1 .1 .0)))
+    sym (length-take-le (record-len * (k .args .s .first .nodes + k .args .s .first .edges)) (k .args .store .now) (omega (arith, k .pre .0 .first-held .few-nodes, k .pre .0 .first-held .few-edges, k .pre .1 .1 .0)))
 
 sub-join-into : tie.Need-sub-join-into
 sub-join-into c = omega arith
@@ -46,8 +47,8 @@ join-into-requires c κs =
     let k = c .before .before .before .before .before .before .before in
     let s = k .args .s in
     let l = k .args .store .now in
-    let at : ℕ = 6 * (s .first .nodes + s .first .edges) in
-    let e : 6 * (s .second .nodes + s .second .edges) ≡ at + 6 * (s .second .nodes + s .second .edges) - at = omega arith in
+    let at : ℕ = record-len * (s .first .nodes + s .first .edges) in
+    let e : record-len * (s .second .nodes + s .second .edges) ≡ at + record-len * (s .second .nodes + s .second .edges) - at = omega arith in
     (subst (λ (n : ℕ). Both s (take at l) (take n (drop at l))) e (k .pre .0), (k .pre .1 .0, k .pre .1 .1 .1))
 
 same-length : tie.Need-same-length
@@ -59,8 +60,8 @@ returns c =
     let a = k .args in
     let s = a .s in
     let l = a .store .now in
-    let at : ℕ = 6 * (s .first .nodes + s .first .edges) in
-    let e : at + 6 * (s .second .nodes + s .second .edges) - at ≡ 6 * (s .second .nodes + s .second .edges) = omega arith in
+    let at : ℕ = record-len * (s .first .nodes + s .first .edges) in
+    let e : at + record-len * (s .second .nodes + s .second .edges) - at ≡ record-len * (s .second .nodes + s .second .edges) = omega arith in
     let j = c .before .before .join-into in
     subst (λ (n : ℕ). JoinedInto (a .limits) (a .barred) s (take at l) (take n (drop at l)) (a .work .now) (j .last .1 .1 .0) (j .result)) e (j .ensures)
 

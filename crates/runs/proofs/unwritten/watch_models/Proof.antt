@@ -2,6 +2,7 @@
 use Prim.Native.Nat.{_+_, _*_}
 use native.Mathlib.Omega.{arith}
 use lib.ListN.{take}
+use Rattle.files.specs.Places.{record-len}
 use Rattle.runs.specs.Answer.{watched-answer}
 use Rattle.runs.specs.Composing.Work.{model-refused, model-within, model-decoded, model-held}
 use Rattle.runs.specs.Unwritten.Work.{first-large, first-small}
@@ -74,7 +75,7 @@ returns-2 c =
     let d = c .before .before .before .before .before .before .before .before .before .before .before .before .before .nodes .given in
     let t = c .before .before .before .before .before .before .watch-second in
     first-small (a .limits) (a .interface1 .now) (a .property1 .now) (a .interface2 .now) (a .property2 .now) (a .rules .now) (a .start) (a .out .now)
-    (model-within (a .limits) (a .interface1 .now) (a .property1 .now) (a .store .now) (a .work .now) (k .pre .0) (room .strides) (omega (arith, room .store-long)) (room .work-long) (x .last .1 .1 .0) (x .last .1 .1 .1 .0) (x .result) (x .ensures) (d .0 .0) (d .0 .1 .0) (d .1)) (take (6 * (d .0 .0 + d .0 .1 .0)) (x .last .1 .1 .0))
+    (model-within (a .limits) (a .interface1 .now) (a .property1 .now) (a .store .now) (a .work .now) (k .pre .0) (room .strides) (omega (arith, room .store-long)) (room .work-long) (x .last .1 .1 .0) (x .last .1 .1 .1 .0) (x .result) (x .ensures) (d .0 .0) (d .0 .1 .0) (d .1)) (take (record-len * (d .0 .0 + d .0 .1 .0)) (x .last .1 .1 .0))
     (model-decoded (a .limits) (a .interface1 .now) (a .property1 .now) (a .store .now) (a .work .now) (k .pre .0) (room .strides) (omega (arith, room .store-long)) (room .work-long) (x .last .1 .1 .0) (x .last .1 .1 .1 .0) (x .result) (x .ensures) (d .0 .0) (d .0 .1 .0) (d .1)) (c .before .before .before .before .before .before .before .before .before .before .bars .result) (c .before .before .before .before .before .before .before .before .before .before .bars .ensures) (t .last .1 .1 .1 .1 .0) (watched-answer (t .result)) (t .ensures)
 
 pub watch-models-spec : {M : Type 1} → statement M

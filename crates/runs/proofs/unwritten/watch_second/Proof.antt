@@ -7,6 +7,7 @@ use native.Mathlib.Omega.{arith}
 use lib.ListN.{length, take, drop, length-drop}
 use Rattle.files.specs.Decode.{decode-graph, decode-rules}
 use Rattle.files.specs.Outcome.{Answers, answered}
+use Rattle.files.specs.Places.{graph-room, record-len}
 use Rattle.files.specs.Rules.{watch}
 use Rattle.files.specs.View.{Held}
 use Rattle.runs.specs.Answer.{watched-answer}
@@ -40,8 +41,8 @@ bars-requires c κs =
     let room = k .pre .1 .1 .1 in
     let x = c .before .before .before .before .before .before .before .before .model-behind in
     let d = c .before .before .nodes .given in
-    let at : ℕ = 6 * (a .first .nodes + a .first .edges) in
-    let long : 26112 ≤ length (drop at (a .store .now)) = omega (arith, length-drop at (a .store .now), k .pre .0 .few-nodes, k .pre .0 .few-edges, room .store-long) in
+    let at : ℕ = record-len * (a .first .nodes + a .first .edges) in
+    let long : graph-room ≤ length (drop at (a .store .now)) = omega (arith, length-drop at (a .store .now), k .pre .0 .few-nodes, k .pre .0 .few-edges, room .store-long) in
     let h = model-held (a .limits) (a .interface .now) (a .property .now) (drop at (a .store .now)) (a .work .now) (k .pre .1 .0) (room .strides) long (room .work-long)
     (drop at (x .last .1 .1 .0)) (x .last .1 .1 .1 .1 .0) (x .result) (x .ensures .1) (d .0 .0) (d .0 .1 .0) (d .1) in (
       record { limits = a .limits; accepted = k .pre .1 .0 .interface-within },
@@ -55,8 +56,8 @@ watch-stored-requires c κs =
     let room = k .pre .1 .1 .1 in
     let x = c .before .before .before .before .before .before .before .before .before .before .before .before .model-behind in
     let d = c .before .before .before .before .before .before .nodes .given in
-    let at : ℕ = 6 * (a .first .nodes + a .first .edges) in
-    let long : 26112 ≤ length (drop at (a .store .now)) = omega (arith, length-drop at (a .store .now), k .pre .0 .few-nodes, k .pre .0 .few-edges, room .store-long) in (
+    let at : ℕ = record-len * (a .first .nodes + a .first .edges) in
+    let long : graph-room ≤ length (drop at (a .store .now)) = omega (arith, length-drop at (a .store .now), k .pre .0 .few-nodes, k .pre .0 .few-edges, room .store-long) in (
       record {
         first-held = subst (Held (a .first)) (sym (x .ensures .0)) (k .pre .0);
         second-held =
@@ -79,8 +80,8 @@ returns c =
     let room = k .pre .1 .1 .1 in
     let x = c .before .before .before .before .before .before .before .model-behind in
     let d = c .before .refusal .given in
-    let at : ℕ = 6 * (a .first .nodes + a .first .edges) in
-    let long : 26112 ≤ length (drop at (a .store .now)) = omega (arith, length-drop at (a .store .now), k .pre .0 .few-nodes, k .pre .0 .few-edges, room .store-long) in
+    let at : ℕ = record-len * (a .first .nodes + a .first .edges) in
+    let long : graph-room ≤ length (drop at (a .store .now)) = omega (arith, length-drop at (a .store .now), k .pre .0 .few-nodes, k .pre .0 .few-edges, room .store-long) in
     let large = model-refused (a .limits) (a .interface .now) (a .property .now) (drop at (a .store .now)) (a .work .now) (k .pre .1 .0) (room .strides) long (room .work-long)
     (drop at (x .last .1 .1 .0)) (x .last .1 .1 .1 .1 .0) (x .result) (x .ensures .1) (d .0 .0) (d .1) in
     model-large (a .limits) (a .barred) (take at (a .store .now)) (a .interface .now) (a .property .now) (a .rules .now) (a .start) (a .out .now) (large .0) (d .0 .0) (large .1)
@@ -102,9 +103,9 @@ returns-2 c =
     let x = c .before .before .before .before .before .before .before .before .before .before .before .before .before .before .before .before .before .before .before .model-behind in
     let d = c .before .before .before .before .before .before .before .before .before .before .before .before .before .nodes .given in
     let t = c .before .before .before .before .before .before .watch-stored in
-    let at : ℕ = 6 * (a .first .nodes + a .first .edges) in
-    let long : 26112 ≤ length (drop at (a .store .now)) = omega (arith, length-drop at (a .store .now), k .pre .0 .few-nodes, k .pre .0 .few-edges, room .store-long) in
-    let two : List ℕ = take (6 * (d .0 .0 + d .0 .1 .0)) (drop at (x .last .1 .1 .0)) in
+    let at : ℕ = record-len * (a .first .nodes + a .first .edges) in
+    let long : graph-room ≤ length (drop at (a .store .now)) = omega (arith, length-drop at (a .store .now), k .pre .0 .few-nodes, k .pre .0 .few-edges, room .store-long) in
+    let two : List ℕ = take (record-len * (d .0 .0 + d .0 .1 .0)) (drop at (x .last .1 .1 .0)) in
     let barred : Bool = a .barred || c .before .before .before .before .before .before .before .before .before .before .bars .result in
     let mon = watch (decode-rules (a .rules .now)) in
     model-small (a .limits) (a .barred) (take at (a .store .now)) (a .interface .now) (a .property .now) (a .rules .now) (a .start) (a .out .now)

@@ -3,6 +3,7 @@ use mathlib.Core.List.{List}
 use Prim.Native.Nat.{ℕ, _+_, _*_}
 use native.Mathlib.Omega.{arith}
 use lib.ListN.{take, drop}
+use Rattle.files.specs.Places.{record-len}
 use Rattle.judging.specs.declared.sizes.Sizes.{Sizes}
 use Rattle.runs.specs.Answer.{watched-answer}
 use Rattle.runs.specs.Composing.Joined.{joint-ready, joint-told}
@@ -12,10 +13,10 @@ use Rattle.runs.proofs.unwritten.watch_stored.Tie as tie
 
 -- the two graphs' bytes, where they stand in the buffer
 abbrev first : Sizes → List ℕ → List ℕ
-first s l = take (6 * (s .first .nodes + s .first .edges)) l
+first s l = take (record-len * (s .first .nodes + s .first .edges)) l
 
 abbrev second : Sizes → List ℕ → List ℕ
-second s l = take (6 * (s .second .nodes + s .second .edges)) (drop (6 * (s .first .nodes + s .first .edges)) l)
+second s l = take (record-len * (s .second .nodes + s .second .edges)) (drop (record-len * (s .first .nodes + s .first .edges)) l)
 
 join-stored-requires : tie.Need-join-stored-requires
 join-stored-requires c κs = search needs

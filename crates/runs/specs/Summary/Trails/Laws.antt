@@ -12,6 +12,7 @@ use Rattle.files.specs.Basics.Shortest.{To, there, by, ways, to-ways, short-way
 use Rattle.files.specs.Basics.Tests.{any, any-i, and-i, and-e, eq-eqb}
 use Rattle.files.specs.Decode.Listed.{decode-each}
 use Rattle.files.specs.Graph.{Graph, Edge, size, node, Flow, EntryOf}
+use Rattle.files.specs.Places.{record-len}
 use Rattle.files.specs.Rules.{Event, calls, Monitor}
 use Rattle.runs.specs.Runs.{meth, Runs, Bad}
 use Rattle.runs.specs.Summary.{Trail, starts, steps, enters, passes, Place, is-entry-of, callee, spots, all-places}
@@ -258,7 +259,7 @@ unfolding trail-bytes
 trail-bytes-is G mon m = refl
 
 -- six bytes a record
-pub trail-bytes-length : (G : Graph) (mon : Monitor) (m : ℕ) → length (trail-bytes G mon m) ≡ 6 * length (trail G mon m)
+pub trail-bytes-length : (G : Graph) (mon : Monitor) (m : ℕ) → length (trail-bytes G mon m) ≡ record-len * length (trail G mon m)
 unfolding trail-bytes
 trail-bytes-length G mon m = length-each 6 trail-rec-bytes (λ r. refl) (trail G mon m)
 
