@@ -1,11 +1,11 @@
 -- For the code that finds causes: ranks and first edges as their cells hold them, targets as numbers, and causes by a row's operator.
 use mathlib.Core.Path.{_≡_, refl, sym, ap, ap₂, subst, _∙_}
-use mathlib.Core.Logic.{_⊎_, inl, inr}
-use mathlib.Core.Bool.{Bool, true, false, not, cond, _&&_, _||_}
+use mathlib.Core.Logic.{inl}
+use mathlib.Core.Bool.{Bool, true, false, cond, _&&_, _||_}
 use mathlib.Core.List.{List, [], _∷_}
 use mathlib.Core.Option.{Option, none, some}
 use Prim.Native.Nat.{ℕ, suc, _+_, _*_, _≤_, _<_}
-use native.Mathlib.Nat.{eq-or-lt-of-le, mul-le-mul}
+use native.Mathlib.Nat.{mul-le-mul}
 use native.Mathlib.Numerals.{add-one}
 use native.Mathlib.Omega.{arith}
 use lib.Dec.{T, eqb, ltb, leb, ltb→lt}
@@ -38,16 +38,6 @@ use Rattle.judging.specs.Ranking.Files.{size-is, edges-is, rows-is, is-f
 use Rattle.judging.specs.Ranking.Laws.{ranked-e, ranked-i}
 use Rattle.judging.specs.Sheets.{cause-held, AreCauses, as-causes, best-target, better}
 use Rattle.judging.specs.Sheets.Laws.{zero-holds, rank-zero, rank-found, within, best-none, best-still, best-within, best-on, box-causes-are}
-
--- ---- scans
-
--- none up to v passes
-pub none-on : (f : ℕ → Bool) (v : ℕ) → ((u : ℕ) → u < v → T (not (f u))) → f v ≡ false → (u : ℕ) → u < v + 1 → T (not (f u))
-none-on f v h e u k = let m : suc u ≤ suc v = omega arith in go (eq-or-lt-of-le (omega (arith, m)))
-  where
-    go : (u ≡ v) ⊎ (u < v) → T (not (f u))
-    go (inl q) = subst (λ (n : ℕ). T (not (f n))) (sym q) (subst (λ (b : Bool). T (not b)) (sym e) tt)
-    go (inr l) = h u l
 
 -- ---- ranks
 

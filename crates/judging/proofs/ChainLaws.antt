@@ -1,6 +1,5 @@
 -- For the code that builds the chains: the row that a record names, a list of zeros, and one edge or place more.
 use mathlib.Core.Path.{_≡_, refl, sym, ap, subst, _∙_}
-use mathlib.Core.Logic.{inl, inr}
 use mathlib.Core.Bool.{Bool, true, false, not, cond}
 use mathlib.Core.List.{List}
 use mathlib.Core.Option.{Option, none, some}
@@ -25,7 +24,7 @@ use Rattle.files.specs.declared.property.PropertyRow.{PropertyRow}
 use Rattle.judging.specs.Places.{judge-room, node-heads-base, node-nexts-base, row-heads-base, row-nexts-base, node-heads-bytes}
 use Rattle.judging.specs.declared.shape.Shape.{Shape}
 use Rattle.judging.specs.Chains.{Chained, Outside, linked, into, uses, named, named-or, is-row, operand-of, Index}
-use Rattle.judging.specs.Chains.Laws.{chained-none, chained-kept, linked-is, linked-outside, test-turned, chain-more, chain-on, chain-skip}
+use Rattle.judging.specs.Chains.Laws.{chained-none, chained-kept, linked-is, linked-outside, test-turned, chain-more, chain-on, chain-skip, outside-both}
 use Rattle.judging.specs.Ranking.{Ready}
 use Rattle.judging.specs.Ranking.Files.{size-is, edges-is, rows-is}
 use Rattle.judging.proofs.ClearedLaws.{cleared-outside, cleared-inside}
@@ -63,11 +62,6 @@ pub row-names : (u : PropertyRow) (v : Row) (i n r : ℕ) → u ≡ row-held v �
 row-names u v i n r is e = e ∙ ap (λ (y : PropertyRow). operand-of (y .operator) (y .a) (y .b) i n) is ∙ operand-is v i n
 
 -- ---- bytes
-
--- a byte outside two parts that were written, one after the other
-pub outside-both : (a b c d m n : ℕ) (w₀ w w′ : List ℕ) → m ≤ a → b ≤ n → m ≤ c → d ≤ n → Outside a b w₀ w → Outside c d w w′ → Outside m n w₀ w′
-outside-both a b c d m n w₀ w w′ x y z u f g q (inl h) = g q (inl (omega arith)) ∙ f q (inl (omega arith))
-outside-both a b c d m n w₀ w w′ x y z u f g q (inr h) = g q (inr (omega arith)) ∙ f q (inr (omega arith))
 
 -- ---- edges
 

@@ -4,9 +4,7 @@ use mathlib.Core.Logic.{_⊎_, inl, inr}
 use mathlib.Core.Bool.{Bool, true, false, not, cond, _&&_, _||_}
 use mathlib.Core.List.{List}
 use mathlib.Core.Option.{none, some, Option·none-ne-some}
-use Prim.Native.Nat.{ℕ, zero, suc, _+_, _*_, _-_, _/_, _%_, _≤_, _<_}
-use native.Mathlib.Nat.{le-refl}
-use native.Mathlib.Decide.{ℕ-discrete}
+use Prim.Native.Nat.{ℕ, zero, suc, _*_, _-_, _/_, _%_, _≤_, _<_}
 use native.Mathlib.Omega.{arith}
 use lib.Dec.{T, eqb, leb}
 use lib.ListN.{length, getD}
@@ -22,47 +20,11 @@ use Rattle.files.specs.Property.{Row, both, either, row, obliged, Boxed, is-box
 use Rattle.files.specs.declared.property.PropertyRow.{PropertyRow}
 use Rattle.judging.specs.Places.{judge-room, max-pairs}
 use Rattle.judging.specs.declared.shape.Shape.{Shape}
-use Rattle.files.specs.Basics.First.{last-where, last-le, last-passes, last-above}
-use Rattle.judging.specs.Chains.Laws.{walk-on}
 use Rattle.judging.specs.Levels.{level}
 use Rattle.judging.specs.Ranking.{Ready, pair, rank-at, queue-at, Given, given, tail-after, Finding, Grew, RowDone, Done, Found, Ranked, Names}
 use Rattle.judging.specs.Ranking.Stores.{give-grew, give-room}
 use Rattle.judging.specs.Ranking.Files.{size-is, edges-is, rows-is, is-flow, is-property, nodes-fit, rows-fit, Operands, operands, box-operand, both-falls, either-level}
 use Rattle.judging.specs.Ranking.Laws.{row-done-kept, both-done, either-done, rank-tells, next-finding, later-found, all-found}
-
--- ---- what is done so far
-
--- one number more
-pub below-more : (D : ℕ → Type 0) (i : ℕ) → ((j : ℕ) → j < i → D j) → D i → (j : ℕ) → j < i + 1 → D j
-below-more D i f d j h = go (ℕ-discrete j i)
-  where
-    go : Dec (j ≡ i) → D j
-    go (yes e) = subst D (sym e) d
-    go (no n) = f j (omega arith)
-
--- ---- a walk along a chain
-
--- the walk stands at an item of the chain, counted from 1, or at its end, and what comes from there on is done
-abbrev pub Walk : (ℕ → Bool) → ℕ → ℕ → (ℕ → Type 0) → Type 0
-Walk p items at D = (m : ℕ) × (m ≤ items) × (at ≡ last-where p m) × ((j : ℕ) → j < items → T (p j) → at ≤ j → D j)
-
-pub walk-start : (p : ℕ → Bool) (items at : ℕ) (D : ℕ → Type 0) → at ≡ last-where p items → Walk p items at D
-walk-start p items at D e = (items, le-refl items, e, λ j h t l. absurd (last-above p items j (omega (arith, e)) h t))
-
-pub walk-item : (p : ℕ → Bool) (items at : ℕ) (D : ℕ → Type 0) → Walk p items at D → 0 < at → T (p (at - 1)) × (at - 1 < items)
-walk-item p items at D x h =
-    let e : last-where p (x .0) ≡ suc (at - 1) = omega (arith, x .2) in
-    let i = last-passes p (x .0) (at - 1) e in
-    (i .0, omega (arith, i .1, x .1))
-
-pub walk-turn : (p : ℕ → Bool) (items at next : ℕ) (D E : ℕ → Type 0) → Walk p items at D → 0 < at → next ≡ last-where p (at - 1) → ((j : ℕ) → j < items → D j → E j) → E (at - 1)
-    → Walk p items next E
-walk-turn p items at next D E x h e f d =
-    let i = walk-item p items at D x h in
-    (at - 1, omega (arith, i .1), e, λ j hj t l. walk-on p E items (at - 1) (λ n hn s m. f n hn (x .3 n hn s (omega arith))) d j hj t (subst (λ (n : ℕ). n ≤ j) e l))
-
-pub walk-less : (p : ℕ → Bool) (at next : ℕ) → 0 < at → next ≡ last-where p (at - 1) → next < at
-walk-less p at next h e = omega (arith, e, last-le p (at - 1))
 
 -- ---- files
 

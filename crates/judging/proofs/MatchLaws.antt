@@ -16,6 +16,7 @@ use Rattle.files.specs.Cells.Laws.{zero-byte, zero-bit, bit-byte, bit-same, bit
 use Rattle.files.specs.Decode.{decode-graph}
 use Rattle.files.specs.Graph.{Graph, size}
 use Rattle.files.specs.Places.{line-bytes, max-nodes}
+use Rattle.judging.specs.Chains.Laws.{Walk, walk-start, walk-item, walk-turn, walk-less}
 use Rattle.judging.specs.Places.{cursors-base, heads-base, held-base, kinds-base, neighbours-base, nexts-base}
 use Rattle.judging.specs.declared.sizes.Sizes.{Sizes}
 use Rattle.files.specs.Basics.First.{last-where}
@@ -27,7 +28,6 @@ use Rattle.judging.specs.Refinement.Taking.{took, matching-on, matching-
 use Rattle.judging.specs.Simulation.{related}
 use Rattle.judging.specs.Simulation.Laws.{related-e}
 use Rattle.judging.specs.Words.{Left, left-turn, left-none}
-use Rattle.judging.proofs.LevelLaws.{Walk, walk-start, walk-item, walk-turn, walk-less}
 
 -- a row without a bit
 pub none-within : (n : ℕ) → Within n (replicate line-bytes 0)

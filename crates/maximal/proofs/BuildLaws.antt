@@ -1,5 +1,5 @@
 -- For the call: what an accepted property allows the search, when a model is too large, and the outcome of one that is counted and written.
-use mathlib.Core.Path.{_≡_, refl, sym, ap, subst, _∙_}
+use mathlib.Core.Path.{_≡_, refl, sym, ap, _∙_}
 use mathlib.Core.Logic.{_⊎_, inl, inr}
 use mathlib.Core.List.{List, [], _∷_, _++_}
 use mathlib.Core.Option.{none}
@@ -11,7 +11,6 @@ use Rattle.files.specs.Decode.{decode-interface, decode-property, graph-bytes}
 use Rattle.files.specs.Decode.Properties.{decoded-rows, decoded-property}
 use Rattle.files.specs.Graph.{Graph}
 use Rattle.files.specs.Interface.{Interface}
-use Rattle.files.specs.Limits.{desk}
 use Rattle.files.specs.Outcome.{Answers, TooLarge, refusal-at, refused-answer, verdict-answer}
 use Rattle.files.specs.Outcome.Ends.{answers-large, answers-short, answers-written}
 use Rattle.files.specs.Places.{record-len}
@@ -107,8 +106,3 @@ module _ (L : Limits) (i p : List ℕ) (f : PropertyFile p) (s : Scope) (states-
 
       pub answers-model : (out′ : List ℕ) → record-len * (c + n) ≤ length out → out′ ≡ graph-bytes G ++ drop (length (graph-bytes G)) out → Answers (from-size L i p (length out)) out out′ (verdict-answer 1 (c ∷ n ∷ []))
       answers-model out′ h e = answers-written L G [] out small out′ c n (omega (arith, long, h)) e (sym (model-nodes-many I P wf c w x)) edges-counted
-
--- ---- the limits of the desk
-
-pub desk-bounded : (L : Limits) → L ≡ desk → Bounded L
-desk-bounded L e = subst Bounded (sym e) (record { nodes-fit = omega arith; rows-fit = omega arith; ors-fit = omega arith })

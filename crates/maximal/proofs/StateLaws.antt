@@ -8,6 +8,7 @@ use native.Mathlib.Decide.{ℕ-discrete}
 use native.Mathlib.Omega.{arith}
 use lib.Dec.{T, T-not, not-T, eqb, eqb→eq, ltb, ltb→lt, lt→ltb}
 use lib.ListN.{length, getD}
+use Rattle.files.specs.Basics.Below.{none-on}
 use Rattle.files.specs.Basics.Least.{least-before, least-hit, least-lt}
 use Rattle.files.specs.Basics.Tests.{T-eq, eq-eqb, and-l, and-r, and-i, or-l, or-r}
 use Rattle.files.specs.Cells.{put-cell, put-bit}
@@ -17,7 +18,6 @@ use Rattle.files.specs.Interface.{Interface}
 use Rattle.files.specs.Property.{Row}
 use Rattle.judging.specs.Chains.{Outside}
 use Rattle.judging.specs.Sheets.Laws.{least-none}
-use Rattle.judging.proofs.CauseLaws.{none-on}
 use Rattle.maximal.specs.Places.{candidates-base, entries-slot, model-room, order-base, sets-end, targets-base, kinds-base, max-states, sets-base}
 use Rattle.maximal.specs.declared.places.Scope.{Scope}
 use Rattle.maximal.specs.Charting.{Scoped, kind-at, set-at, same-state, found, target, Elsewhere, Known, Holds, Crowded, Admitted}

@@ -2,11 +2,11 @@
 use lib.ListN.{length}
 use Rattle.files.specs.Settling.Calls.{both-desk}
 use Rattle.files.specs.declared.record.Limits.{Limits}
-use Rattle.judging.proofs.DecideLaws.{desk-strides}
 use Rattle.judging.specs.Delivered.{delivered}
 use borrow.Author.Needs.{needs}
 use Rattle.judging.proofs.judge_deliveries.Statement.{statement}
 use Rattle.judging.proofs.judge_deliveries.Tie as tie
+use Rattle.judging.specs.Judge.Laws.{desk-strides}
 
 desk-requires : tie.Need-desk-requires
 desk-requires c κs = search needs

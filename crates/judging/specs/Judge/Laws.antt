@@ -12,6 +12,7 @@ use Rattle.files.specs.Decode.{decode-graph, decode-property}
 use Rattle.files.specs.Decode.Graphs.{decoded-flow}
 use Rattle.files.specs.Decode.Properties.{decoded-property}
 use Rattle.files.specs.Graph.{Graph, Flow}
+use Rattle.files.specs.Limits.{desk}
 use Rattle.files.specs.Outcome.{Said, refuses, says, refusal-at, NoneOf, FirstOf, Matches, answer, answered, out-check}
 use Rattle.files.specs.Outcome.Calls as calls
 use Rattle.files.specs.Outcome.Laws.{refused-by, accepted-by}
@@ -20,7 +21,7 @@ use Rattle.files.specs.Refusal.{graph, property, refusal}
 use Rattle.files.specs.declared.record.Limits.{Limits}
 use Rattle.judging.specs.Places.{judge-room}
 use Rattle.judging.specs.TwoFiles.{two-match, two-given, two-say}
-use Rattle.judging.specs.Judge.{judge-first, judge-said, judge-verdict, judge-checks, judge-lines, judged, Judges, judged-answer}
+use Rattle.judging.specs.Judge.{judge-first, judge-said, judge-verdict, judge-checks, judge-lines, judged, Judges, judged-answer, Strides}
 use Rattle.judging.specs.Levels.{Satisfies, satisfies}
 use Rattle.judging.specs.Levels.Laws.{satisfies-agrees}
 use Rattle.judging.specs.Levels.Greatest.{greatest-solution, holds-solves}
@@ -130,3 +131,8 @@ fails-said G P e = ap (λ (b : Bool). cond b (record { verdict = 1; values = [];
 pub judge-answers : (n : ℕ) (ws : List ℕ) (r : Refusal) → (judged-answer Holds ≡ answer (says (record { verdict = 1; values = []; written = [] })))
     × (judged-answer (Fails n) ≡ answer (says (record { verdict = 2; values = n ∷ []; written = ws }))) × (judged-answer (Refused r) ≡ answer (refuses r))
 judge-answers n ws r = (refl, refl, refl)
+
+-- ---- the limits of the desk
+
+pub desk-strides : (L : Limits) → L ≡ desk → Strides L
+desk-strides L e = subst Strides (sym e) (record { nodes-fit = omega arith; edges-fit = omega arith; rows-fit = omega arith })

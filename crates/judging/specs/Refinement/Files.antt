@@ -8,7 +8,10 @@ use Rattle.files.specs.Basics.Lists.{index-e}
 use Rattle.files.specs.Decode.{decode-graph}
 use Rattle.files.specs.Graph.{Graph, size, no-edge, Flow}
 use Rattle.files.specs.Places.{max-edges, max-nodes}
-use Rattle.files.specs.View.{view-size, view-edges, view-flow, view-filed}
+use Rattle.files.specs.View.{view-size, view-edges, view-flow, view-filed, Views, view-held}
+use Rattle.files.specs.declared.record.Limits.{Limits}
+use Rattle.files.specs.declared.view.GraphView.{GraphView}
+use Rattle.judging.specs.Judge.{GraphWithin, Strides}
 use Rattle.judging.specs.declared.sizes.Sizes.{Sizes}
 use Rattle.judging.specs.Refinement.{Both, edge}
 
@@ -58,3 +61,11 @@ module _ (s : Sizes) (f g : List ℕ) (x : Both s f g) where
       let m = index-e no-edge (H .edges) e (omega (arith, second-edges)) in
       let l = (view-filed (x .second-held .views)) .labels (edge H e) m in
       (omega (arith, second-size, second-flow .from-node (edge H e) m), omega (arith, second-size, second-flow .to-node (edge H e) m), omega (arith, l))
+
+-- ---- the files, accepted
+
+-- two accepted graphs, in limits that the buffer's strides allow
+pub both-sizes : (L : Limits) → Strides L → (f g : List ℕ) → GraphWithin L f → GraphWithin L g → (v w : GraphView) → Views v f → Views w g
+    → Both (record { first = v; second = w }) f g
+both-sizes L strides f g a b v w x y =
+    record { first-held = view-held L (strides .nodes-fit) (strides .edges-fit) x a; second-held = view-held L (strides .nodes-fit) (strides .edges-fit) y b }

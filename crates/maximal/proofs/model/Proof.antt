@@ -3,7 +3,7 @@ use lib.ListN.{length}
 use Rattle.files.specs.Outcome.{Outcome}
 use Rattle.files.specs.Settling.Calls.{does-desk}
 use Rattle.files.specs.declared.record.Limits.{Limits}
-use Rattle.maximal.proofs.BuildLaws.{desk-bounded}
+use Rattle.maximal.specs.Modelling.Laws.{desk-bounded}
 use Rattle.maximal.specs.Modelling.{modelled}
 use borrow.Author.Needs.{needs}
 use Rattle.maximal.proofs.model.Statement.{statement}

@@ -14,6 +14,7 @@ use Rattle.files.specs.Decode.Properties.{decoded-property}
 use Rattle.files.specs.Decode.Written.{decode-bytes}
 use Rattle.files.specs.Graph.{Graph, Flow, size}
 use Rattle.files.specs.Interface.{Interface, Of}
+use Rattle.files.specs.Limits.{desk}
 use Rattle.files.specs.Outcome.{Said, refuses, says, refusal-at, NoneOf, FirstOf, Matches, TooLarge, graph-said, answer, answered}
 use Rattle.files.specs.Outcome.Calls as calls
 use Rattle.files.specs.Outcome.Laws.{whole-match, files-match, out-match, refused-by, accepted-by, verdict-is, file-accepted, whole-none, says-too-large, small-enough, whole-none-i, file-none, none-end}
@@ -28,7 +29,7 @@ use Rattle.maximal.specs.Model.Ordered.{Earlier, earlier-not, state-orde
 use Rattle.maximal.specs.Model.Computed.{is-model}
 use Rattle.maximal.specs.Model.Filed.{model-is-of, model-filed}
 use Rattle.maximal.specs.Model.Maximal.{maximal}
-use Rattle.maximal.specs.Modelling.{model-first, model-graph, model-last, model-checks, model-lines, modelled, Models, modelled-answer}
+use Rattle.maximal.specs.Modelling.{model-first, model-graph, model-last, model-checks, model-lines, modelled, Models, modelled-answer, Bounded}
 use Rattle.files.specs.Outcome.{published}
 use mathlib.Core.Bool.{true}
 use Rattle.files.specs.declared.refusal.Refusal.{Refusal}
@@ -136,3 +137,8 @@ model-on L i p out work I P G a b c d e small o w =
 -- each case answers what its outcome says
 pub model-answers : (G : Graph) (r : Refusal) → (modelled-answer (Written (size G) (length (G .edges))) ≡ answer (says (graph-said G []))) × (modelled-answer (Refused r) ≡ answer (refuses r))
 model-answers G r = (refl, refl)
+
+-- ---- the limits of the desk
+
+pub desk-bounded : (L : Limits) → L ≡ desk → Bounded L
+desk-bounded L e = subst Bounded (sym e) (record { nodes-fit = omega arith; rows-fit = omega arith; ors-fit = omega arith })

@@ -1,9 +1,9 @@
 -- The call is `compose_both_within` at the desk's limits, which the buffers allow.
-use Rattle.judging.proofs.DecideLaws.{desk-strides}
-use Rattle.maximal.proofs.BuildLaws.{desk-bounded}
+use Rattle.judging.specs.Judge.Laws.{desk-strides}
 use lib.ListN.{length}
 use Rattle.files.specs.Settling.Calls.{both-desk}
 use Rattle.files.specs.declared.record.Limits.{Limits}
+use Rattle.maximal.specs.Modelling.Laws.{desk-bounded}
 use Rattle.runs.specs.Unwritten.{composed-both}
 use borrow.Author.Needs.{needs}
 use Rattle.runs.proofs.compose_both.Statement.{statement}

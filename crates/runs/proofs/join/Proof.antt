@@ -1,7 +1,7 @@
 use lib.ListN.{length}
-use Rattle.judging.proofs.DecideLaws.{desk-strides}
 use Rattle.files.specs.Settling.Calls.{answers-desk}
 use Rattle.files.specs.declared.record.Limits.{Limits}
+use Rattle.judging.specs.Judge.Laws.{desk-strides}
 use Rattle.runs.specs.Joining.{joined}
 use borrow.Author.Needs.{needs}
 use Rattle.runs.proofs.join.Statement.{statement}

@@ -1,9 +1,9 @@
 use mathlib.Core.Path.{sym, _∙_}
 use native.Mathlib.Omega.{arith}
 use borrow.Author.Needs.{needs}
+use Rattle.files.specs.Basics.Below.{none-on}
 use Rattle.files.specs.Decode.{decode-graph}
 use Rattle.judging.proofs.CoverLaws.{lowest-at, lowest-none}
-use Rattle.judging.proofs.CauseLaws.{none-on}
 use mathlib.Core.Bool.{not}
 use Prim.Native.Nat.{ℕ, _-_, _≤_, _<_}
 use lib.Dec.{T}

@@ -2,7 +2,6 @@ use borrow.Author.Needs.{needs}
 use Rattle.judging.proofs.CoverLaws.{covered-by}
 use Rattle.judging.proofs.cover.is_covered.Statement.{statement}
 use Rattle.judging.proofs.cover.is_covered.Tie as tie
-use Rattle.judging.proofs.rows.meets.Reads as meets-reads
 
 mul-meets : tie.Need-mul-meets
 mul-meets c = search needs

@@ -3,9 +3,6 @@ use Rattle.judging.proofs.DecideLaws.{answers-clean}
 use borrow.Author.Needs.{needs}
 use Rattle.judging.proofs.decide.decide.Statement.{statement}
 use Rattle.judging.proofs.decide.decide.Tie as tie
-use Rattle.judging.proofs.causes.first_failing.Reads as first-failing-reads
-use Rattle.judging.proofs.decide.fail.Reads as fail-reads
-use Rattle.judging.proofs.decide.find_ranks.Reads as find-ranks-reads
 
 find-ranks-requires : tie.Need-find-ranks-requires
 find-ranks-requires c κs = search needs

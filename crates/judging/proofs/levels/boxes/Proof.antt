@@ -6,9 +6,10 @@ use lib.ListN.{length, getD}
 use Rattle.files.specs.Decode.{decode-graph, decode-property}
 use Rattle.files.specs.Graph.{no-edge}
 use Rattle.files.specs.Property.{aims}
+use Rattle.judging.specs.Chains.Laws.{Walk, walk-start, walk-item, walk-turn, walk-less}
 use Rattle.judging.specs.Ranking.{Given, Grew}
 use Rattle.judging.specs.Ranking.Stores.{grew-none, grew-on}
-use Rattle.judging.proofs.LevelLaws.{Walk, walk-start, walk-item, walk-turn, walk-less, node-in, row-in, from-in}
+use Rattle.judging.proofs.LevelLaws.{node-in, row-in, from-in}
 use Rattle.judging.specs.Chains.{into}
 use Rattle.judging.specs.Ranking.Files.{edges-is}
 use borrow.Author.Needs.{needs}

@@ -2,10 +2,11 @@ use mathlib.Core.Path.{_≡_, refl, _∙_}
 use Prim.Native.Nat.{ℕ, _-_, _≤_, _<_}
 use native.Mathlib.Omega.{arith}
 use lib.ListN.{length}
+use Rattle.files.specs.Basics.Below.{below-more}
 use Rattle.files.specs.Decode.{decode-graph, decode-property}
 use Rattle.judging.specs.Ranking.{Grew, pair, queue-at, Done}
 use Rattle.judging.specs.Ranking.Stores.{grew-none, grew-on}
-use Rattle.judging.proofs.LevelLaws.{below-more, tail-fits, entry-finding, done-kept, popped, popped-done, level-on}
+use Rattle.judging.proofs.LevelLaws.{tail-fits, entry-finding, done-kept, popped, popped-done, level-on}
 use Rattle.files.specs.Graph.{size}
 use borrow.Author.Needs.{needs}
 use Rattle.judging.proofs.levels.level.Statement.{statement}

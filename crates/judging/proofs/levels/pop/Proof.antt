@@ -3,9 +3,10 @@ use Prim.Native.Nat.{ℕ, _*_, _-_, _/_, _%_}
 use native.Mathlib.Omega.{arith}
 use lib.ListN.{length}
 use Rattle.files.specs.Decode.{decode-graph, decode-property}
+use Rattle.judging.specs.Chains.Laws.{Walk, walk-start, walk-item, walk-turn, walk-less}
 use Rattle.judging.specs.Ranking.{Grew, RowDone}
 use Rattle.judging.specs.Ranking.Stores.{grew-none, grew-on}
-use Rattle.judging.proofs.LevelLaws.{Walk, walk-start, walk-item, walk-turn, walk-less, row-in}
+use Rattle.judging.proofs.LevelLaws.{row-in}
 use Rattle.judging.specs.Chains.{uses}
 use Rattle.judging.specs.Ranking.Files.{rows-is}
 use Rattle.judging.specs.Ranking.Laws.{row-done-kept, done-places}

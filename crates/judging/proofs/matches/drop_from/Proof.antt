@@ -6,9 +6,9 @@ use lib.ListN.{length}
 use borrow.Author.Needs.{needs}
 use Rattle.files.specs.Decode.{decode-graph}
 use Rattle.files.specs.Places.{max-nodes}
+use Rattle.judging.specs.Chains.Laws.{Walk}
 use Rattle.judging.specs.Refinement.{rel, edge, labelled-into, In, Shrank}
 use Rattle.judging.specs.Refinement.Handing.{shrank-none}
-use Rattle.judging.proofs.LevelLaws.{Walk}
 use Rattle.judging.proofs.MatchLaws.{slot-start, slot-item, slot-less, source-dropped, all-dropped, taken}
 use Rattle.judging.proofs.matches.drop_from.Statement.{statement}
 use Rattle.judging.proofs.matches.drop_from.Tie as tie

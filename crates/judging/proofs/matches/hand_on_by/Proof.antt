@@ -7,13 +7,6 @@ use Rattle.judging.proofs.MatchLaws.{found, all-sifted, label-empty, la
 use borrow.Author.Needs.{needs}
 use Rattle.judging.proofs.matches.hand_on_by.Statement.{statement}
 use Rattle.judging.proofs.matches.hand_on_by.Tie as tie
-use Rattle.files.proofs.cells.get16.Reads as get16-reads
-use Rattle.judging.proofs.matches.drop_from.Reads as drop-from-reads
-use Rattle.judging.proofs.matches.related_to_sources.Reads as related-to-sources-reads
-use Rattle.judging.proofs.matches.sift.Reads as sift-reads
-use Rattle.judging.proofs.rows.any_at.Reads as any-at-reads
-use Rattle.judging.proofs.rows.common.Reads as common-reads
-use Rattle.judging.proofs.rows.row_without.Reads as row-without-reads
 
 mul-slot : tie.Need-mul-slot
 mul-slot c = search needs

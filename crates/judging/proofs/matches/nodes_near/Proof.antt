@@ -6,8 +6,6 @@ use Rattle.judging.proofs.RowLaws.{full-bits}
 use borrow.Author.Needs.{needs}
 use Rattle.judging.proofs.matches.nodes_near.Statement.{statement}
 use Rattle.judging.proofs.matches.nodes_near.Tie as tie
-use Rattle.judging.proofs.matches.predecessors.Reads as predecessors-reads
-use Rattle.judging.proofs.rows.size_of_row.Reads as size-of-row-reads
 
 size-of-row-requires : tie.Need-size-of-row-requires
 size-of-row-requires c κs = search needs

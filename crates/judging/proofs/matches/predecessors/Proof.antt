@@ -8,7 +8,6 @@ use Rattle.judging.specs.Refinement.{Preceded}
 use Rattle.judging.specs.Refinement.Handing.{preceded-none, preceded-on}
 use Rattle.judging.proofs.matches.predecessors.Statement.{statement}
 use Rattle.judging.proofs.matches.predecessors.Tie as tie
-use Rattle.judging.proofs.matches.with_predecessors.Reads as with-predecessors-reads
 
 abbrev Inv-loop : tie.InvT-loop
 Inv-loop work nodes met₀ k₀ met k = (k ≤ 8) × (length met ≡ line-bytes) × Preceded work nodes (replicate line-bytes 0) met 0 (32 * k)

@@ -6,8 +6,8 @@ use lib.ListN.{length}
 use borrow.Author.Needs.{needs}
 use Rattle.files.specs.Decode.{decode-graph}
 use Rattle.files.specs.Places.{line-bytes, max-nodes}
+use Rattle.judging.specs.Chains.Laws.{Walk}
 use Rattle.judging.specs.Refinement.{rel, edge, labelled-into, In, Within}
-use Rattle.judging.proofs.LevelLaws.{Walk}
 use Rattle.judging.proofs.MatchLaws.{none-within, slot-start, slot-item, slot-less, source-added, all-added}
 use Rattle.judging.proofs.matches.related_to_sources.Statement.{statement}
 use Rattle.judging.proofs.matches.related_to_sources.Tie as tie

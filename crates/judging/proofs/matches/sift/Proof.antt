@@ -6,7 +6,6 @@ use Rattle.judging.specs.Refinement.{Sifted}
 use Rattle.judging.specs.Refinement.Handing.{sifted-none, sifted-on}
 use Rattle.judging.proofs.matches.sift.Statement.{statement}
 use Rattle.judging.proofs.matches.sift.Tie as tie
-use Rattle.judging.proofs.matches.sift_word.Reads as sift-word-reads
 
 abbrev Inv-loop : tie.InvT-loop
 Inv-loop work label row found gone₀ k₀ gone k = (k ≤ 8) × (length gone ≡ length gone₀) × Sifted work label row found gone₀ gone 0 (32 * k)

@@ -4,8 +4,6 @@ use Rattle.judging.proofs.MatchLaws.{asked-met, asked-unmet, not-off}
 use borrow.Author.Needs.{needs}
 use Rattle.judging.proofs.matches.sift_at.Statement.{statement}
 use Rattle.judging.proofs.matches.sift_at.Tie as tie
-use Rattle.files.proofs.cells.put_bit.Reads as put-bit-reads
-use Rattle.judging.proofs.rows.meets.Reads as meets-reads
 
 mul-meets : tie.Need-mul-meets
 mul-meets c = search needs

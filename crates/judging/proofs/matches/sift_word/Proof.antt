@@ -11,8 +11,6 @@ use Rattle.judging.proofs.MatchLaws.{Sifting, Decided, sifting-turn, si
 use borrow.Author.Needs.{needs}
 use Rattle.judging.proofs.matches.sift_word.Statement.{statement}
 use Rattle.judging.proofs.matches.sift_word.Tie as tie
-use Rattle.files.proofs.cells.get32.Reads as get32-reads
-use Rattle.judging.proofs.matches.sift_at.Reads as sift-at-reads
 
 abbrev Inv-loop : tie.InvT-loop
 Inv-loop work label row found gone₀ k rest₀ gone rest = (length gone ≡ length gone₀) × Sifting work label row found k gone₀ gone rest

@@ -12,9 +12,6 @@ use Rattle.judging.specs.Words.{Left, left-all, lowest-low}
 use Rattle.judging.proofs.MatchLaws.{Before, before-turn, before-end}
 use Rattle.judging.proofs.matches.with_predecessors.Statement.{statement}
 use Rattle.judging.proofs.matches.with_predecessors.Tie as tie
-use Rattle.files.proofs.cells.get32.Reads as get32-reads
-use Rattle.judging.proofs.rows.row_at.Reads as row-at-reads
-use Rattle.judging.proofs.rows.row_with.Reads as row-with-reads
 
 abbrev Inv-loop : tie.InvT-loop
 Inv-loop work nodes row k met₀ rest₀ met rest = (length met ≡ line-bytes) × Left nodes k (Before work nodes k met) rest × ((y : ℕ) → y < max-nodes → In row y → In met y)

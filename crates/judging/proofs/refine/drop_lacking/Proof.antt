@@ -8,7 +8,6 @@ use Rattle.judging.specs.Refinement.Handing.{shrank-none, shrank-on}
 use Rattle.judging.proofs.MatchLaws.{leadings-kept}
 use Rattle.judging.proofs.refine.drop_lacking.Statement.{statement}
 use Rattle.judging.proofs.refine.drop_lacking.Tie as tie
-use Rattle.judging.proofs.refine.drop_lacking_by.Reads as drop-lacking-by-reads
 
 abbrev Inv-loop : tie.InvT-loop
 Inv-loop first second s work₀ label₀ work label = (label ≤ 9) × (length work ≡ length work₀) × Shrank (decode-graph first) (decode-graph second) work₀ work × ((l : ℕ) → l < label → Leading (decode-graph first) (decode-graph second) work l)

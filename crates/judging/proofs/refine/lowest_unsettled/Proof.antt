@@ -3,9 +3,9 @@ use mathlib.Core.Bool.{not}
 use Prim.Native.Nat.{ℕ, _-_, _≤_, _<_}
 use native.Mathlib.Omega.{arith}
 use lib.Dec.{T}
+use Rattle.files.specs.Basics.Below.{below-more}
 use Rattle.files.specs.Places.{max-nodes}
 use Rattle.judging.specs.Refinement.{rel, held}
-use Rattle.judging.proofs.LevelLaws.{below-more}
 use Rattle.judging.proofs.MatchLaws.{taken}
 use Rattle.judging.proofs.refine.lowest_unsettled.Statement.{statement}
 use Rattle.judging.proofs.refine.lowest_unsettled.Tie as tie

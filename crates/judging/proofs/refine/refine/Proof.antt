@@ -3,11 +3,6 @@ use Rattle.judging.proofs.MatchLaws.{ordered, held-beside, matched-firs
 use borrow.Author.Needs.{needs}
 use Rattle.judging.proofs.refine.refine.Statement.{statement}
 use Rattle.judging.proofs.refine.refine.Tie as tie
-use Rattle.judging.proofs.order.put_in_order.Reads as put-in-order-reads
-use Rattle.judging.proofs.refine.drop_lacking.Reads as drop-lacking-reads
-use Rattle.judging.proofs.refine.hold_everything.Reads as hold-everything-reads
-use Rattle.judging.proofs.refine.settle.Reads as settle-reads
-use Rattle.judging.proofs.relation.prepare.Reads as prepare-reads
 
 prepare-requires : tie.Need-prepare-requires
 prepare-requires c κs = search needs

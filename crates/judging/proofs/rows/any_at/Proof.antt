@@ -7,7 +7,6 @@ use Rattle.judging.specs.Refinement.Rows.{joined}
 use Rattle.judging.proofs.RowLaws.{joined-more, any-by}
 use Rattle.judging.proofs.rows.any_at.Statement.{statement}
 use Rattle.judging.proofs.rows.any_at.Tie as tie
-use Rattle.files.proofs.cells.wide.Reads as wide-reads
 
 abbrev Inv-loop : tie.InvT-loop
 Inv-loop work at any₀ k₀ any k = (k ≤ 32) × (any ≡ joined (λ j. getD work (at + j) 0) k)

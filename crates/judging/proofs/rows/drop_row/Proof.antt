@@ -2,8 +2,6 @@ use mathlib.Core.Path.{_∙_}
 use borrow.Author.Needs.{needs}
 use Rattle.judging.proofs.rows.drop_row.Statement.{statement}
 use Rattle.judging.proofs.rows.drop_row.Tie as tie
-use Rattle.judging.proofs.rows.put_row.Reads as put-row-reads
-use Rattle.judging.proofs.rows.row_without.Reads as row-without-reads
 
 row-without-requires : tie.Need-row-without-requires
 row-without-requires c κs = search needs

@@ -4,14 +4,12 @@ use native.Mathlib.Omega.{arith}
 use lib.Bits.{bitOr, bitAnd}
 use lib.ListN.{getD}
 use borrow.Author.Needs.{needs}
+use Rattle.files.specs.Basics.Below.{below-more}
 use Rattle.files.specs.Places.{max-nodes}
 use Rattle.judging.specs.Refinement.Rows.{joined}
 use Rattle.judging.proofs.RowLaws.{joined-more, exceeds-by}
-use Rattle.judging.proofs.LevelLaws.{below-more}
 use Rattle.judging.proofs.rows.exceeds.Statement.{statement}
 use Rattle.judging.proofs.rows.exceeds.Tie as tie
-use Rattle.files.proofs.cells.wide.Reads as wide-reads
-use Rattle.judging.proofs.rows.without.Reads as without-reads
 
 abbrev Inv-loop : tie.InvT-loop
 Inv-loop work at less any₀ k₀ any k = (k ≤ 32) × (any ≡ joined (λ j. bitAnd (getD work (at + j) 0) (255 - getD work (less + j) 0)) k) × ((j : ℕ) → j < k → getD work (less + j) 0 < max-nodes)

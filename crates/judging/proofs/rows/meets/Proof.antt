@@ -8,7 +8,6 @@ use Rattle.judging.specs.Refinement.Rows.{joined}
 use Rattle.judging.proofs.RowLaws.{joined-more, meets-by}
 use Rattle.judging.proofs.rows.meets.Statement.{statement}
 use Rattle.judging.proofs.rows.meets.Tie as tie
-use Rattle.files.proofs.cells.wide.Reads as wide-reads
 
 abbrev Inv-loop : tie.InvT-loop
 Inv-loop row work at any₀ k₀ any k = (k ≤ 32) × (any ≡ joined (λ j. bitAnd (getD row j 0) (getD work (at + j) 0)) k)

@@ -5,14 +5,13 @@ use native.Mathlib.Nat.{zero-add}
 use lib.Bits.{bitAnd}
 use lib.ListN.{length, getD, set, length-set}
 use borrow.Author.Needs.{needs}
+use Rattle.files.specs.Basics.Below.{below-more}
 use Rattle.files.specs.Places.{line-bytes, max-nodes}
 use Rattle.judging.specs.Refinement.Rows.{bytes-on}
-use Rattle.judging.proofs.LevelLaws.{below-more}
 use Rattle.judging.proofs.RowLaws.{rest-bits}
 use borrow.Author.Needs.{needs}
 use Rattle.judging.proofs.rows.row_without.Statement.{statement}
 use Rattle.judging.proofs.rows.row_without.Tie as tie
-use Rattle.judging.proofs.rows.without.Reads as without-reads
 
 abbrev Inv-loop : tie.InvT-loop
 Inv-loop work at row rest₀ k₀ rest k = (k ≤ 32) × (length rest ≡ line-bytes) × ((j : ℕ) → j < k → getD rest (0 + j) 0 ≡ bitAnd (getD work (at + j) 0) (255 - getD row j 0)) × ((j : ℕ) → j < k → getD row j 0 < max-nodes)

@@ -7,7 +7,6 @@ use native.Mathlib.Omega.{arith}
 use borrow.Author.Needs.{needs}
 use Rattle.judging.proofs.rows.size_of_row.Statement.{statement}
 use Rattle.judging.proofs.rows.size_of_row.Tie as tie
-use Rattle.files.proofs.cells.get32.Reads as get32-reads
 
 abbrev Inv-loop : tie.InvT-loop
 Inv-loop row n₀ k₀ n k = (k ≤ 8) × (n ≤ 32 * k) × (n ≡ ones-in row k)

@@ -4,8 +4,8 @@ use mathlib.Core.Bool.{not}
 use Prim.Native.Nat.{ℕ, _-_, _≤_, _<_}
 use native.Mathlib.Omega.{arith}
 use lib.Dec.{T}
+use Rattle.files.specs.Basics.Below.{none-on}
 use Rattle.files.specs.Cells.{cell}
-use Rattle.judging.proofs.CauseLaws.{none-on}
 use Rattle.maximal.specs.Masks.{within}
 use Rattle.maximal.proofs.AntichainLaws.{some-listed, none-listed}
 use Rattle.maximal.proofs.antichain.has_within.Statement.{statement}

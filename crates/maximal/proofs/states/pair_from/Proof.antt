@@ -3,8 +3,8 @@ use mathlib.Core.Bool.{not}
 use Prim.Native.Nat.{ℕ, _-_, _≤_, _<_}
 use native.Mathlib.Omega.{arith}
 use lib.Dec.{T}
+use Rattle.files.specs.Basics.Below.{none-on}
 use Rattle.judging.specs.Sheets.Laws.{least-at, least-none}
-use Rattle.judging.proofs.CauseLaws.{none-on}
 use Rattle.maximal.specs.Charting.{is-pair}
 use Rattle.maximal.proofs.states.pair_from.Statement.{statement}
 use Rattle.maximal.proofs.states.pair_from.Tie as tie

@@ -7,7 +7,7 @@ use lib.ListN.{length, getD}
 use Rattle.files.specs.Decode.{decode-graph, decode-rules}
 use Rattle.files.specs.Graph.{no-edge}
 use Rattle.files.specs.Rules.{watch}
-use Rattle.judging.proofs.LevelLaws.{Walk, walk-start, walk-item, walk-turn, walk-less}
+use Rattle.judging.specs.Chains.Laws.{Walk, walk-start, walk-item, walk-turn, walk-less}
 use Rattle.runs.specs.Prepared.{opens}
 use Rattle.runs.specs.Prepared.Files.{edges-is, edges-fit}
 use Rattle.runs.specs.Worklist.{Grew, GroupRan}

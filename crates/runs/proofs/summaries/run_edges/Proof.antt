@@ -7,9 +7,9 @@ use native.Mathlib.Omega.{arith}
 use lib.Dec.{eqb}
 use lib.ListN.{length}
 use Rattle.files.specs.Access.{first-edge}
+use Rattle.files.specs.Basics.Below.{below-more}
 use Rattle.files.specs.Decode.{decode-graph, decode-rules}
 use Rattle.files.specs.Rules.{watch}
-use Rattle.judging.proofs.LevelLaws.{below-more}
 use Rattle.runs.specs.Worklist.{passed, sums, Grew}
 use Rattle.runs.specs.Worklist.Growth.{grew-none, grew-on}
 use Rattle.runs.proofs.SummaryLaws.{Ran, ran, ran-kept, first-held, edge-in-file, leaves-node, ran-edges, method-small, label-in, to-in, may-add}

@@ -3,10 +3,10 @@ use mathlib.Core.Path.{_≡_, refl, _∙_}
 use Prim.Native.Nat.{ℕ, _-_, _≤_, _<_}
 use native.Mathlib.Omega.{arith}
 use lib.ListN.{length, getD}
+use Rattle.files.specs.Basics.Below.{below-more}
 use Rattle.files.specs.Decode.{decode-graph, decode-rules}
 use Rattle.files.specs.Graph.{no-edge}
 use Rattle.files.specs.Rules.{watch}
-use Rattle.judging.proofs.LevelLaws.{below-more}
 use Rattle.runs.specs.Worklist.{Grew, RanIn}
 use Rattle.runs.specs.Worklist.Growth.{grew-none, grew-on}
 use Rattle.runs.proofs.SummaryLaws.{to-is, group-in, group-ends, may-get, row-runs, ran-in-kept}

@@ -4,10 +4,10 @@ use native.Mathlib.Nat.{lt-trans}
 use native.Mathlib.Omega.{arith}
 use lib.Dec.{T}
 use lib.ListN.{length}
+use Rattle.files.specs.Basics.Below.{below-more}
 use Rattle.files.specs.Decode.{decode-graph, decode-rules}
 use Rattle.files.specs.Graph.{node}
 use Rattle.files.specs.Rules.{watch}
-use Rattle.judging.proofs.LevelLaws.{below-more}
 use Rattle.maximal.specs.Masks.{member}
 use Rattle.runs.specs.Worklist.{reach, Grew}
 use Rattle.runs.specs.Worklist.Growth.{grew-none, grew-on}
