@@ -8,7 +8,7 @@ use printing::stdout::BUFFERED;
 use printing::{at_most, say};
 
 // A decimal, or none.
-#[derive(Drop)]
+#[derive(Clone, Copy)]
 pub struct Decimal {
     pub ok: bool,
     pub value: usize,

@@ -7,14 +7,14 @@ use printing::say;
 use printing::stdout::BUFFERED;
 
 // So many bytes were read, or a line said why not.
-#[derive(Drop)]
+#[derive(Clone, Copy)]
 pub struct Loaded {
     pub ok: bool,
     pub length: usize,
 }
 
 // The same of two files.
-#[derive(Drop)]
+#[derive(Clone, Copy)]
 pub struct LoadedTwo {
     pub ok: bool,
     pub first: usize,

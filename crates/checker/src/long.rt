@@ -15,7 +15,7 @@ use printing::stdout::BUFFERED;
 // in `rt try`, it has the buffer three times, and these commands do not fit.
 const LONGEST: usize = Lengths::FILE;
 
-#[derive(Drop)]
+#[derive(Clone, Copy)]
 enum Long {
     Assemble,
     Judge,

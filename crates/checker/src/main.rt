@@ -1,4 +1,5 @@
 // The command-line program: one call of the library on files by name. It holds no rule of its own: what it prints is what the proved calls answer and write.
+#![tactic(auto)]
 use arguments::{is_word, say_argument};
 use help::say_help;
 use printing::stdout::{BUFFERED, flush, stdout};

@@ -7,7 +7,7 @@ use printing::stdout::BUFFERED;
 use printing::{at_most, end_of, say, say_number};
 
 // Where the reading of a listing stands: so many bytes are written, on this line, inside a comment, inside a decimal of this value, and all was right so far.
-#[derive(Drop)]
+#[derive(Clone, Copy)]
 pub struct Packing {
     pub bytes: usize,
     pub line: usize,

@@ -3,6 +3,7 @@
 // `model` name a call on two files, `join` (by its second letter) one on two sides, `show` one on two graphs and a number, `watch` one on three files and a
 // start method, `compose` (by its fifth letter) and `both` one on five, `assemble` one on deliveries and `deliveries` one on them and a property, and the verdict's
 // line is followed by the records or the relation's lines that it wrote.
+#![tactic(auto)]
 use crate::answers::say_checked;
 use crate::deliveries::{assemble_standing, judge_standing};
 use crate::lengths::EXAMPLE;

@@ -1,4 +1,5 @@
 // The C boundary: each call of the library with slices as pointer and length, its answer as six numbers. A call here states what the call it wraps states.
+#![tactic(auto)]
 ghost use Rattle.std.specs.Prelude.{◌≡◌, length};
 ghost use Rattle.files.specs.Limits.{desk};
 ghost use Rattle.files.specs.Refusal.{graph, property, rules, interface};
@@ -33,7 +34,7 @@ use runs::showing::{Place, find_place, record_at};
 
 // Verdict 0 is a refusal: its number, file (first) and record (second). Other verdicts carry their values from first on.
 #[repr(C)]
-#[derive(Drop)]
+#[derive(Clone, Copy)]
 pub struct Answer {
     pub verdict: u32,
     pub number: u32,

@@ -2,7 +2,7 @@
 use crate::refusal::Refusal;
 
 // The standing graph of a file of deliveries, with its nodes and edges counted.
-#[derive(Drop)]
+#[derive(Clone, Copy)]
 pub enum Assembled {
     Written { nodes: usize, edges: usize },
     Refused(Refusal),

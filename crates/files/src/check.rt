@@ -13,7 +13,7 @@ use crate::refusal::Refusal;
 use crate::scan::{count, look_through, name_through};
 
 // Accepted, with the nodes among so many records; or refused.
-#[derive(Drop)]
+#[derive(Clone, Copy)]
 pub enum Checked {
     Accepted { nodes: usize, records: usize },
     Refused(Refusal),

@@ -15,7 +15,7 @@ use crate::refusal::Refusal;
 use crate::scan::lower;
 
 // What an opening reads as. `Wrong`: a field is out of range or an unused byte is not 0.
-#[derive(Drop)]
+#[derive(Clone, Copy)]
 pub enum Opening {
     Of { method: u8, revision: u8 },
     Wrong,

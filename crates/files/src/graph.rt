@@ -9,14 +9,14 @@ ghost use Rattle.files.specs.Access.{GraphFile, node_held, edge_held, first_edge
 use crate::parse::read;
 use crate::record::Record;
 
-#[derive(Drop)]
+#[derive(Clone, Copy)]
 pub struct GraphNode {
     pub method: u8,
     pub returns: bool,
     pub entry: bool,
 }
 
-#[derive(Drop)]
+#[derive(Clone, Copy)]
 pub struct GraphEdge {
     pub from: usize,
     pub label: u8,

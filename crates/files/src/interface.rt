@@ -20,7 +20,7 @@ pub(crate) fn in_set(x: u8, m: u8) -> bool
 }
 
 // The sets of the one record of the file, each a byte.
-#[derive(Drop)]
+#[derive(Clone, Copy)]
 struct MethodSets {
     provided: u8,
     required: u8,

@@ -14,7 +14,7 @@ use crate::record::{Parsed, Record};
 use crate::refusal::Refusal;
 
 // What a file is read as.
-#[derive(Drop)]
+#[derive(Clone, Copy)]
 pub enum FileKind {
     Graph,
     Property,
@@ -23,7 +23,7 @@ pub enum FileKind {
 }
 
 // What was found: nothing, or a refusal.
-#[derive(Drop)]
+#[derive(Clone, Copy)]
 pub enum Found {
     Nothing,
     At(Refusal),

@@ -17,7 +17,7 @@ use crate::refusal::Refusal;
 use crate::scan::{count, lower};
 
 // A delivery: its first record, which is behind its opening, the record after its last, and how many nodes it has.
-#[derive(Drop)]
+#[derive(Clone, Copy)]
 pub struct Part {
     pub start: usize,
     pub end: usize,

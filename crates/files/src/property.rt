@@ -8,7 +8,7 @@ ghost use Rattle.files.specs.Access.{PropertyFile, row_held, looks};
 use crate::parse::read;
 use crate::record::Operator;
 
-#[derive(Drop)]
+#[derive(Clone, Copy)]
 pub struct PropertyRow {
     pub operator: u8,
     pub a: u8,
@@ -16,7 +16,7 @@ pub struct PropertyRow {
 }
 
 // Whether a row looks along a label, and at which row: what it obliges the end of such an edge to.
-#[derive(Drop)]
+#[derive(Clone, Copy)]
 pub struct Looks {
     pub along: bool,
     pub at: u8,

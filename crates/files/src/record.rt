@@ -4,7 +4,7 @@ ghost use Rattle.files.specs.Record.{six, node_record, edge_record};
 ghost use Rattle.files.specs.Limits.{desk};
 
 // The six bytes of a record, in file order.
-#[derive(Drop)]
+#[derive(Clone, Copy)]
 pub struct Record {
     pub kind: u8,
     pub first: u8,
@@ -129,7 +129,7 @@ impl Step {
 }
 
 // How much a file may hold.
-#[derive(Drop)]
+#[derive(Clone, Copy)]
 pub struct Limits {
     pub nodes: usize,
     pub edges: usize,
@@ -162,7 +162,7 @@ impl Limits {
 }
 
 // What the six bytes of a record read as. `Wrong`: a field is out of range or an unused byte is not 0. `Other`: the kind is none of the five.
-#[derive(Drop)]
+#[derive(Clone, Copy)]
 pub enum Parsed {
     Node {
         method: u8,

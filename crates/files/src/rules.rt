@@ -7,7 +7,7 @@ ghost use Rattle.files.specs.Access.{RulesFile, rule_held};
 
 use crate::parse::read;
 
-#[derive(Drop)]
+#[derive(Clone, Copy)]
 pub struct MonitorRule {
     pub state: u8,
     pub event: u8,

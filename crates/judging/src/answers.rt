@@ -2,7 +2,7 @@
 use files::refusal::Refusal;
 
 // Whether a graph satisfies a property; a failure carries the number of records of its fault sheet.
-#[derive(Drop)]
+#[derive(Clone, Copy)]
 pub enum Judged {
     Holds,
     Fails(usize),
@@ -10,7 +10,7 @@ pub enum Judged {
 }
 
 // Whether the second graph simulates the first; a "no" carries the lowest uncovered entry.
-#[derive(Drop)]
+#[derive(Clone, Copy)]
 pub enum Compared {
     Yes,
     No(usize),

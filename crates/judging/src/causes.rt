@@ -16,7 +16,7 @@ use files::property::{PropertyRow, is_box, obliged, row_at};
 use files::record::Operator;
 
 // A pair of a node and a row; row 255 is none.
-#[derive(Drop)]
+#[derive(Clone, Copy)]
 pub struct Cause {
     pub node: usize,
     pub row: usize,
@@ -27,7 +27,7 @@ impl Cause {
 }
 
 // The causes of a pair that is false: a second one only where the row is an "or".
-#[derive(Drop)]
+#[derive(Clone, Copy)]
 pub struct Causes {
     pub first: Cause,
     pub second: Cause,

@@ -11,7 +11,7 @@ use files::cells::{get8, get16, has_bit, put_bit, put8, put16};
 use files::graph::edge_at;
 
 // The node at which the walk stands, how many nodes it has left, and whether it has left the root.
-#[derive(Drop)]
+#[derive(Clone, Copy)]
 struct Place {
     node: usize,
     left: usize,

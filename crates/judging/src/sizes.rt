@@ -3,7 +3,7 @@ use files::encode::LINE;
 use files::record::Limits;
 use files::view::GraphView;
 
-#[derive(Drop)]
+#[derive(Clone, Copy)]
 pub struct Sizes {
     pub first: GraphView,
     pub second: GraphView,

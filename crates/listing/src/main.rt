@@ -1,4 +1,5 @@
 // The model program: reads an interface record and a property on standard input and prints the maximal model, six decimals to a line, or a refusal's number.
+#![tactic(auto)]
 ghost use Rattle.std.specs.Prelude.{◌≡◌, min, length};
 ghost use Rattle.files.specs.Places.{graph_room};
 ghost use Rattle.maximal.specs.Places.{model_room};

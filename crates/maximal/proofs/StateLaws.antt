@@ -80,7 +80,7 @@ module _ (I : Interface) (P : List Row) (c kind set q : ℕ) (hq : q ≤ entries
     where
       at_t : (u : ℕ) → (u ≡ set) ⊎ Memᴰ u [] → (i : ℕ) × (i < c) × (kind_at v i ≡ kind) × (set_at v i ≡ u)
       at_t u (inl z) = (t, ht, kinds t ht ∙ is_kind, sets t ht ∙ is_set ∙ sym z)
-      at_t u (inr i) = absurd (Memᴰ.not_nil i)
+      at_t u (inr i) = absurd (Memᴰ.not-nil i)
 
       beside : Elsewhere w v
       beside b (inl l) = outside b (inl l)

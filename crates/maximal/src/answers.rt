@@ -2,7 +2,7 @@
 use files::refusal::Refusal;
 
 // The model was written, with so many nodes and edges, or the call was refused.
-#[derive(Drop)]
+#[derive(Clone, Copy)]
 pub enum Modelled {
     Written(usize, usize),
     Refused(Refusal),

@@ -1,5 +1,6 @@
 // What the programs print on standard output: words, numbers, and bytes as decimals, a record or a relation's line to a line. What is printed is tested, not proved; it is proved
 // that nothing is read past its end and that every call returns.
+#![tactic(auto)]
 ghost use Rattle.std.specs.Prelude.{◌≡◌, min};
 ghost use Rattle.io.specs.Counts.{IsPrefixLen};
 

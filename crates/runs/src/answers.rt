@@ -3,7 +3,7 @@
 use files::refusal::Refusal;
 
 // The joined graph was written: its nodes and edges counted, and the united interface's two bytes.
-#[derive(Drop)]
+#[derive(Clone, Copy)]
 pub enum Joined {
     Written {
         nodes: usize,
@@ -15,14 +15,14 @@ pub enum Joined {
 }
 
 // A record is shown as a part of the file it came from, or the call was refused.
-#[derive(Drop)]
+#[derive(Clone, Copy)]
 pub enum Shown {
     Part,
     Refused(Refusal),
 }
 
 // No run turns the monitor bad, or some does, with a trail of so many records. Of composed verdicts also: no module can be loaded on a side that is not written.
-#[derive(Drop)]
+#[derive(Clone, Copy)]
 pub enum Verdict {
     Clean,
     Bad(usize),

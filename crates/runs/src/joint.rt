@@ -25,7 +25,7 @@ use files::view::GraphView;
 use judging::sizes::Sizes;
 
 // What became of a join: it stands at the start of `work`; it would be past the limits; or it is not asked for, since nothing can be loaded where one of the graphs stands.
-#[derive(Drop)]
+#[derive(Clone, Copy)]
 pub enum Joint {
     Written,
     TooLarge,

@@ -15,7 +15,7 @@ use files::settle::{Settled, then_graph};
 use files::view::ViewedBoth;
 
 // Where the record of a number stands: its place in the first file or in the second, or why nowhere.
-#[derive(Drop)]
+#[derive(Clone, Copy)]
 pub enum Place {
     First(usize),
     Second(usize),

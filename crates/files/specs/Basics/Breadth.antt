@@ -110,16 +110,16 @@ module _ {X : Type 0} (same : X → X → Bool) (same_e : (x y : X) → T (same 
   in_order = walk_ordered (length ps) (s ∷ []) (s ∷ []) (record {
     sound = at_first same same_e same_refl next s ps met_in;
     has_start = Memᴰ.head refl;
-    seen_order = (λ y m. absurd (Memᴰ.not_nil m), tt);
-    queue_order = (λ y m. absurd (Memᴰ.not_nil m), tt);
+    seen_order = (λ y m. absurd (Memᴰ.not-nil m), tt);
+    queue_order = (λ y m. absurd (Memᴰ.not-nil m), tt);
     exact = λ x m. only x (Memᴰ.cases_cons m);
     close = λ x z m i d w. near z (Memᴰ.cases_cons i) d;
   })
     where
       only : (x : X) → (x ≡ s) ⊎ Memᴰ x [] → (d : ℕ) × Way next s d x × ((k : ℕ) → Way next s k x → d ≤ k)
       only x (inl e) = (0, subst (Way next s 0) (sym e) now, λ k w. omega arith)
-      only x (inr m) = absurd (Memᴰ.not_nil m)
+      only x (inr m) = absurd (Memᴰ.not-nil m)
 
       near : (z : X) → (z ≡ s) ⊎ Memᴰ z [] → (d : ℕ) → (j : ℕ) × (j ≤ suc d) × Way next s j z
       near z (inl e) d = (0, omega arith, subst (Way next s 0) (sym e) now)
-      near z (inr m) d = absurd (Memᴰ.not_nil m)
+      near z (inr m) d = absurd (Memᴰ.not-nil m)

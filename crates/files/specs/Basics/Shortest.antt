@@ -72,7 +72,7 @@ module _ {X R : Type 0} (leaving : X → List R) (end : R → X) (key : R → Li
       where
         go : (x ≡ r) ⊎ Memᴰ x [] → Low r x
         go (inl e) = subst (λ (y : R). Low r y) (sym e) (before_irrefl (key r))
-        go (inr k) = absurd (Memᴰ.not_nil k)
+        go (inr k) = absurd (Memᴰ.not-nil k)
     lowest_low r (s ∷ ss) x m = pick (before (key s) (key r)) refl (λ q y k. lowest_low q ss y k)
       where
         at : (q : R) → Low q r → Low q s → ((y : R) → Memᴰ y (q ∷ ss) → Low (lowest q ss) y) → (x ≡ r) ⊎ Memᴰ x (s ∷ ss) → Low (lowest q ss) x
@@ -120,7 +120,7 @@ module _ {X R : Type 0} (leaving : X → List R) (end : R → X) (key : R → Li
       go : (cs : List R) → ((y : R) → Memᴰ y cs → Memᴰ y (leaving x) × T (ways k (end y))) → (r : R) × Memᴰ r cs
           → ((r : R) → T (ways k (end r)) → To (end r) (walk k (end r)) × (length (walk k (end r)) ≡ k))
           → To x (taking (λ r. walk k (end r)) cs) × (length (taking (λ r. walk k (end r)) cs) ≡ suc k)
-      go [] f c ih = absurd (Memᴰ.not_nil c.1)
+      go [] f c ih = absurd (Memᴰ.not-nil c.1)
       go (r ∷ rs) f c ih =
           let b = lowest r rs in
           let g = f b (lowest_in r rs) in
@@ -142,7 +142,7 @@ module _ {X R : Type 0} (leaving : X → List R) (end : R → X) (key : R → Li
       where
         go : (cs : List R) → ((y : R) → Memᴰ y cs → Memᴰ y (leaving x)) → Memᴰ r cs → UpTo (walk k (end r)) ss
             → UpTo (taking (λ r. walk k (end r)) cs) (r ∷ ss)
-        go [] f c ih = absurd (Memᴰ.not_nil c)
+        go [] f c ih = absurd (Memᴰ.not-nil c)
         go (q ∷ qs) f c ih = on (before_total (key r) (key (lowest q qs)) (one_size r (lowest q qs)) (lowest_low one_size q qs r c))
           where
             on : Before (key (lowest q qs)) (key r) ⊎ (key r ≡ key (lowest q qs)) → UpTo (lowest q qs ∷ walk k (end (lowest q qs))) (r ∷ ss)

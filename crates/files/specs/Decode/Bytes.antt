@@ -26,7 +26,7 @@ abbrev Bytes : List ℕ → Type 0
 Bytes l = (x : ℕ) → Memᴰ x l → x < 256
 
 no_bytes : Bytes []
-no_bytes x m = absurd (Memᴰ.not_nil m)
+no_bytes x m = absurd (Memᴰ.not-nil m)
 
 more_bytes : (y : ℕ) (ys : List ℕ) → y < 256 → Bytes ys → Bytes (y ∷ ys)
 more_bytes y ys h f x m = go (Memᴰ.cases_cons m)

@@ -123,7 +123,7 @@ module _ (G : Graph) (P : List Row) where
     unseen = sym (x.marks g r hg hr) ∙ new
 
     once_more : Once (listed w tail ++ (g, r) ∷ [])
-    once_more = once_append (listed w tail) ((g, r) ∷ []) x.once ((λ m. Memᴰ.not_nil m), tt) (λ y m n. no y m (Memᴰ.eq_of_singleton n))
+    once_more = once_append (listed w tail) ((g, r) ∷ []) x.once ((λ m. Memᴰ.not-nil m), tt) (λ y m n. no y m (Memᴰ.eq_of_singleton n))
       where
         no : (y : ℕ × ℕ) → Memᴰ y (listed w tail) → y ≡ (g, r) → ⊥
         no y m e = subst T unseen (any_i (same_pair (g, r)) (listed w tail) (g, r) (subst (λ (z : ℕ × ℕ). Memᴰ z (listed w tail)) e m) (same_pair_refl (g, r)))

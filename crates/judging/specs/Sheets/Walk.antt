@@ -70,7 +70,7 @@ module _ (G : Graph) (P : List Row) where
     settled = s;
     marks = λ g r hg hr. z (pair g r) (omega arith) ∙ ap (any (same_pair (g, r))) (sym (listed_none w));
     once = subst Once (sym (listed_none w)) tt;
-    inside = λ y m. absurd (Memᴰ.not_nil (subst (Memᴰ y) (listed_none w) m));
+    inside = λ y m. absurd (Memᴰ.not-nil (subst (Memᴰ y) (listed_none w) m));
   }
 
   -- the pair at a place of the list is a pair

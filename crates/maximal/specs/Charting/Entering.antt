@@ -38,7 +38,7 @@ module _ (I : Interface) (P : List Row) where
     more = more;
     kinds_kept = kinds;
     sets_kept = sets;
-    there = λ u i. absurd (Memᴰ.not_nil i);
+    there = λ u i. absurd (Memᴰ.not-nil i);
     marked = λ t l. bits q t hq l ∙ sym (or_none (target w q t) (ltb t c') (eqb (kind_at w' t) kind));
     others_kept = λ p t a b d. bits p t a b;
     elsewhere = rest;

@@ -56,7 +56,7 @@ module _ (P : List Row) where
     -- the rows taken are those that are worked ..
     pub taken_are : (s d : ℕ) (w : WorkedFrom P o s d) (r : ℕ) → Memᴰ r (rows_taken s d w) ↔ T (member d r)
     unfolding rows_taken
-    taken_are s d unworked r = (λ m. absurd (Memᴰ.not_nil m), λ t. absurd (subst T (member_none r) t))
+    taken_are s d unworked r = (λ m. absurd (Memᴰ.not-nil m), λ t. absurd (subst T (member_none r) t))
     taken_are s d (onward {s = u} {d = e} w x) r =
         let i = taken_are u e w r in
         let k = worked_on u e s d x r in (

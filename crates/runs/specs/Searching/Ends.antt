@@ -122,7 +122,7 @@ module _ (G : Graph) (mon : Monitor) (m : ℕ) where
     turn_first tail w' l =
         let s = l.searching_on [] start_may.ascends start_may.searching in
         record {
-          searching = next_turn 0 tail [] w' s (omega (arith, l.longer)) (λ t k n. Memᴰ.not_nil n);
+          searching = next_turn 0 tail [] w' s (omega (arith, l.longer)) (λ t k n. Memᴰ.not-nil n);
           behind = l.longer;
           past_start = omega arith;
           good = λ i h t. first_good i (omega arith) t;
@@ -147,7 +147,7 @@ module _ (G : Graph) (mon : Monitor) (m : ℕ) where
     pub turn_return : (x : Place) → item_end w head ≡ here x → T (node G x.at).ret → Turn G mon m (suc head) tail w
     turn_return x e r = record {
       searching = next_turn head tail (leaving G mon m (item_end w head)) w turn.searching h
-          (λ t k n. Memᴰ.not_nil (subst (λ (rs : List Rec). Memᴰ t rs) (ap (leaving G mon m) e ∙ leaving_return G mon m x r) k));
+          (λ t k n. Memᴰ.not-nil (subst (λ (rs : List Rec). Memᴰ t rs) (ap (leaving G mon m) e ∙ leaving_return G mon m x r) k));
       behind = h;
       past_start = omega arith;
       good = good_on tail w (λ i l. refl);
@@ -177,7 +177,7 @@ module _ (G : Graph) (mon : Monitor) (m : ℕ) where
       pub turn_next : (tail' : ℕ) (w' : List ℕ) → Looked G mon m head (outgoing G mon x) tail tail' w w' → Turn G mon m (suc head) tail' w'
       unfolding may_outgoing
       turn_next tail' w' l = record {
-        searching = next_turn head tail' [] w' (l.searching_on [] may_outgoing.ascends may_outgoing.searching) (omega (arith, l.longer)) (λ t k n. Memᴰ.not_nil n);
+        searching = next_turn head tail' [] w' (l.searching_on [] may_outgoing.ascends may_outgoing.searching) (omega (arith, l.longer)) (λ t k n. Memᴰ.not-nil n);
         behind = omega (arith, l.longer);
         past_start = omega arith;
         good = good_on tail' w' l.ends_kept;

@@ -32,7 +32,7 @@ use Rattle.runs.specs.Worklist.Unions.{union_e, union_i}
 
 -- what stands before another in a list that ascends is sooner
 sooner_in : (rs more : List Rec) (r t : Rec) → Ascends Sooner (rs ++ more) → Memᴰ r rs → Memᴰ t more → Sooner r t
-sooner_in [] more r t a k n = absurd (Memᴰ.not_nil k)
+sooner_in [] more r t a k n = absurd (Memᴰ.not-nil k)
 sooner_in (x ∷ rs) more r t a k n = go (Memᴰ.cases_cons k) (λ j. sooner_in rs more r t a.1 j n)
   where
     go : (r ≡ x) ⊎ Memᴰ r rs → (Memᴰ r rs → Sooner r t) → Sooner r t

@@ -48,7 +48,7 @@ module _ (G : Graph) (mon : Monitor) (m : ℕ) where
             → Memᴰ t (cond b (record { at = x.at; state = x.now; step = 1; label = 0; to = (edge_at G mon j).to; now = x.now } ∷ []) [])
             → ((edge_at G mon j).label ≡ 0) × (t ≡ record { at = x.at; state = x.now; step = 1; label = 0; to = (edge_at G mon j).to; now = x.now })
         go true e n = (eqb→eq _ 0 (subst T (sym e) tt), Memᴰ.eq_of_singleton n)
-        go false e n = absurd (Memᴰ.not_nil n)
+        go false e n = absurd (Memᴰ.not-nil n)
 
     abbrev entry_rec : ℕ → ℕ → Rec
     entry_rec l n = record { at = x.at; state = x.now; step = 2; label = l; to = n; now = mon x.now (calls (meth G x.at) l) }
@@ -62,7 +62,7 @@ module _ (G : Graph) (mon : Monitor) (m : ℕ) where
             let a = Memᴰ.of_map (entry_rec l) (keep (is_entry_of G mon l) (span 0 (size G))) n in
             let b = keep_e (is_entry_of G mon l) (span 0 (size G)) a.0 a.1 in
             (tt, (a.0, omega (arith, span_e (size G) 0 a.0 b.0), b.1, sym a.2))
-        go false n = absurd (Memᴰ.not_nil n)
+        go false n = absurd (Memᴰ.not-nil n)
 
     abbrev passing : ℕ → ℕ → Rec
     passing j q = record { at = x.at; state = x.now; step = 3; label = (edge_at G mon j).label; to = (edge_at G mon j).to; now = q }
@@ -76,7 +76,7 @@ module _ (G : Graph) (mon : Monitor) (m : ℕ) where
 
         go : (b : Bool) → eqb (edge_at G mon j).label 0 ≡ b → Memᴰ t (cond b [] (passed_recs G mon x j (span 0 8)))
             → (0 < (edge_at G mon j).label) × ((q : ℕ) × (q < 8) × T (ends_in G mon (edge_at G mon j) x.now q) × (t ≡ passing j q))
-        go true e n = absurd (Memᴰ.not_nil n)
+        go true e n = absurd (Memᴰ.not-nil n)
         go false e n =
             let a = Memᴰ.of_map (passing j) (keep (ends_in G mon (edge_at G mon j) x.now) (span 0 8)) n in
             let b = keep_e (ends_in G mon (edge_at G mon j) x.now) (span 0 8) a.0 a.1 in
@@ -118,7 +118,7 @@ module _ (G : Graph) (mon : Monitor) (m : ℕ) where
           one i = go (eqb (edge_at G mon i).label 0)
             where
               go : (b : Bool) → Ascends Sooner (cond b (record { at = x.at; state = x.now; step = 1; label = 0; to = (edge_at G mon i).to; now = x.now } ∷ []) [])
-              go true = (λ y k. absurd (Memᴰ.not_nil k), tt)
+              go true = (λ y k. absurd (Memᴰ.not-nil k), tt)
               go false = tt
 
           two : (i k : ℕ) → (i < k) × Own i × Own k → (r t : Rec) → Memᴰ r (internal_at G mon x i) → Memᴰ t (internal_at G mon x k) → Sooner r t

@@ -1,0 +1,341 @@
+#!/usr/bin/env python3
+"""Turns the proofs of functions that walk the code's places (Proof.antt) into Invariants.antt and Answers.antt.
+
+usage: python3 tools/answers.py NAMES CRATE [FUNCTION..]      at the top of the repository
+
+NAMES is the names.json that `rt check --generated DIR --old-names` writes in the crate. A place of the older form, `c.before.before.put8.new.0`, becomes the step's own
+name, `c.put8.new.work`; an answer that is only a search goes, since the check makes it by itself. What it cannot turn it names in a line `left:`, and leaves that
+proof as it is. It was used once, for the port.
+"""
+
+import glob
+import json
+import os
+import re
+import shutil
+import sys
+
+FIELD = r"[^\s(){}\[\];,.@\"]+"
+PATH = re.compile(rf"(?<![\w.'_-])([A-Za-z_][\w'₀-₉-]*)((?:\.{FIELD})+)")
+PATH_END = "→λ"
+
+
+def norm(word):
+    return word.replace("_", "-")
+
+
+def signatures():
+    """For each function of the repository, its parameters' names by its last path word and by its whole path."""
+    found = {}
+    for p in glob.glob("crates/*/src/*.rt"):
+        crate, mod = p.split("/")[1], os.path.basename(p)[:-3]
+        with open(p, encoding="utf-8") as f:
+            text = f.read()
+        impl = None
+        for m in re.finditer(r"^impl (\w+)|^\s*(?:pub(?:\(crate\))? )?(?:extern \"C\" )?(?:unsafe )?fn (\w+)(?:<[^>]*>)?\(([^)]*)\)", text, re.M):
+            if m.group(1):
+                impl = m.group(1)
+                continue
+            names = re.findall(r"(?:^|,)\s*(?:mut )?(\w+)\s*:", m.group(3))
+            found.setdefault(m.group(2), names)
+            found[f"{crate}::{mod}::{m.group(2)}"] = names
+            if mod in ("lib", "main"):
+                found[f"{crate}::{m.group(2)}"] = names
+    return found
+
+
+class Left(Exception):
+    pass
+
+
+class Function:
+    def __init__(self, of, params):
+        self.of = of
+        self.params = params
+        self.places = {}
+        for i, (name, parent, step, callee, fields) in enumerate(of["places"]):
+            self.places[name] = (i, parent, step, callee, dict(map(tuple, fields)) if fields else {})
+
+    def nested(self, fields):
+        """`1.1.1.0` is place 3, `0` place 0."""
+        k, i = 0, 0
+        while i < len(fields) and fields[i] == "1":
+            k, i = k + 1, i + 1
+        if i < len(fields) and fields[i] == "0":
+            return k, fields[i + 1:]
+        raise Left("places " + ".".join(fields))
+
+    def step(self, place, fields):
+        """The new path of a step's fields at a place."""
+        i, parent, step, callee, renamed = self.places[place]
+        rest = fields[1:]
+        arm = self.of["arms"][i]
+        if arm:
+            for new, old, path in sorted(arm[2], key=lambda it: -len(it[2])):
+                if norm(old) == norm(fields[0]) and rest[: len(path)] == path:
+                    if path or new.endswith("-own"):
+                        if new.endswith("-own"):
+                            continue
+                        return [arm[0], new] + rest[len(path):]
+        for t in self.of["typed"][i]:
+            if norm(t[1]) == norm(fields[0]) and rest[:1] == ["given"]:
+                return ["type_inv", t[0]] + rest[1:]
+        if norm(step[0]) != norm(fields[0]):
+            raise Left(f"{place} has step {step[0]}, not {fields[0]}")
+        out = [step[1]]
+        if rest and rest[0] in ("taken",):
+            rest = ["true"] + rest[1:]
+        if rest and rest[0] in ("new", "last") and callee is not None:
+            k, more = self.nested(rest[1:])
+            rest = ["new", self.param(callee, k)] + more
+        elif rest and rest[0] in ("auto", "kept") and callee is not None:
+            k, more = self.nested(rest[1:])
+            rest = ["auto", self.param(callee, k)] + more
+        elif rest and rest[0] == "left":
+            rest = ["false"] + rest[1:] if step[0].startswith(("if", "loop-test")) else rest
+        elif rest and rest[0] == "branch":
+            raise Left("branch")
+        return out + rest
+
+    def param(self, callee, k):
+        names = self.of["params"].get(callee) or self.params.get(callee) or self.params.get(callee.split("::")[-1])
+        if not names or k >= len(names):
+            raise Left(f"parameter {k} of {callee}")
+        return names[k]
+
+    def path(self, var, fields, env):
+        """Returns ('place', name) or ('path', text, place or None)."""
+        kind, at = env[var]
+        if kind == "step":
+            place = at
+            _, _, step, _, _ = self.places[place]
+            new = self.step(place, [step[0]] + fields)
+            if new[0] == step[1]:
+                return "path", ".".join([var] + new[1:]), None
+            return "path", ".".join(["c"] + new), None
+        place = at
+        while fields and fields[0] == "before":
+            place = self.places[place][1]
+            fields = fields[1:]
+            if place is None:
+                raise Left("before the start")
+        if not fields:
+            return "place", place
+        if self.places[place][1] is None:
+            if fields[0] in ("args", "requires", "pre", "ranges", "utf8"):
+                fields = (["requires"] if fields[0] == "pre" else [fields[0]]) + fields[1:]
+                return "path", ".".join(["c"] + fields), None
+            raise Left(f"{fields[0]} at the start")
+        new = self.step(place, fields)
+        return "path", ".".join(["c"] + new), place if len(fields) == 1 else None
+
+    def body(self, text, place):
+        env = {"c": ("place", place)}
+        out, at = [], 0
+        while True:
+            m = PATH.search(text, at)
+            if not m:
+                out.append(text[at:])
+                break
+            var = m.group(1)
+            if var not in env:
+                out.append(text[at:m.end(1)])
+                at = m.end(1)
+                # a bare path of something else: its fields stay
+                more = re.compile(rf"(?:\.{FIELD})+").match(text, at)
+                if more:
+                    out.append(more.group(0))
+                    at = more.end()
+                continue
+            fields = m.group(2)[1:].split(".")
+            before = text[at:m.start()]
+            made = self.path(var, fields, env)
+            bound = re.search(r"\blet (\S+) = $", before)
+            after = re.match(r"\s+in\b ?", text[m.end():])
+            if made[0] == "place":
+                if not (bound and after):
+                    raise Left("a place handed on: " + m.group(0))
+                env[bound.group(1)] = ("place", made[1])
+                out.append(before[: bound.start()])
+                at = m.end() + after.end()
+                # the line break that stood behind it goes too
+                gap = re.match(r"\n[ ]*", text[at:])
+                if gap and before[: bound.start()].rstrip(" ").endswith("\n"):
+                    at += gap.end()
+                continue
+            if bound and after:
+                if made[2]:
+                    env[bound.group(1)] = ("step", made[2])
+                else:
+                    env.pop(bound.group(1), None)
+            out.append(before + made[1])
+            at = m.end()
+        text = "".join(out)
+        for var, (kind, _) in env.items():
+            if kind == "place" and var != "c" and re.search(rf"(?<![\w.'-]){re.escape(var)}(?![\w'-])", text):
+                raise Left(f"place {var} handed on")
+        return text
+
+
+NEED = re.compile(r"^((?:--[^\n]*\n)*)([^\s:]+) : tie\.Need-(\S+)[^\n]*\n((?:unfolding[^\n]*\n)?)\2((?: [^\s=]+)*) =(\s[\s\S]*)$")
+INVARIANT = re.compile(r"^((?:--[^\n]*\n)*)abbrev ([^\s:]+) : tie\.(invariant|decreases)-(\S+)\s*\n\2((?: [^\s=]+)*) =(\s[\s\S]*)$")
+
+
+def subst_vars(text, names):
+    return re.sub(r"(?<![\w.'₀-₉-])([A-Za-z_][\w'₀-₉]*)(?![\w'₀-₉-])", lambda m: names.get(m.group(1), m.group(1)), text)
+
+
+def turn(crate, path, of, params, folder):
+    with open(os.path.join(folder, "Proof.antt"), encoding="utf-8") as f:
+        text = f.read()
+    fn = Function(of, params)
+    name = path.split(".")[-1]
+    head, uses, blocks = [], [], []
+    text = re.sub(r"\npub \S+[-_]spec : [\s\S]*$", "\n", text)
+    lines = text.split("\n")
+    i = 0
+    while i < len(lines) and (lines[i].startswith(("--", "use ")) or not lines[i]):
+        if lines[i].startswith("use "):
+            if not re.search(r"\.(Statement|Tie)\b", lines[i]):
+                uses.append(lines[i])
+        elif lines[i]:
+            head.append(lines[i])
+        i += 1
+    # what starts at the margin starts a block, and a comment belongs to what follows it
+    cur = []
+    for l in lines[i:]:
+        if l == "" and cur and all(x.startswith("--") for x in cur):
+            blocks.append("\n".join(cur)); cur = []
+        elif l == "":
+            if cur:
+                blocks.append("\n".join(cur)); cur = []
+        else:
+            cur.append(l)
+    if cur:
+        blocks.append("\n".join(cur))
+    needs = [b for b in blocks if NEED.match(b)]
+    old = {norm(o): (o, n) for o, n in of["needs"]}
+    invariants, answers, local = [], [], []
+    used_goals = set()
+    for b in blocks:
+        m = INVARIANT.match(b)
+        if m:
+            comment, _, kind, loop, args, body = m.groups()
+            which = [k for k, l in enumerate(of["loops"]) if norm(l[0][0]) == norm(loop)]
+            if not which:
+                raise Left("loop " + loop)
+            k = which[0]
+            goal, vars_, changed = of["loops"][k][0][1], of["loops"][k][1], of["changed"][k]
+            args = args.split()
+            still = [v for v, c in zip(vars_, changed) if not c]
+            moved = [v for v, c in zip(vars_, changed) if c]
+            want = [f"l.{v}" for v in still] + [f"l.initial.{v}" for v in moved] + [f"l.{v}" for v in moved]
+            if len(args) != len(want):
+                raise Left(f"loop {loop}: {args} for {want}")
+            names = {}
+            for a, w in zip(args, want):
+                if a != "_":
+                    names[a] = w
+            kindname = f"{kind}-{goal}"
+            invariants.append(f"{comment}abbrev pub {kindname} : goal.{kindname}\n{kindname} l ={subst_vars(body, names)}")
+            continue
+        m = NEED.match(b)
+        if m:
+            comment, _, need, unfolding, args, body = m.groups()
+            key = norm(need)
+            cands = [key, re.sub("^overflow-", "", key), re.sub("^(overflow|slice)-", "", key)]
+            hit = next((old[k] for k in cands if k in old), None)
+            if hit is None:
+                raise Left(f"need {need} of {[o for o, _ in of['needs']]}")
+            if re.fullmatch(r"\s*search rules\s*", body):
+                continue
+            at = of["asked_at"][[o for o, _ in of["needs"]].index(hit[0])][0]
+            new = fn.body(body, at)
+            goal = hit[1]
+            if goal.startswith("shape_of-"):
+                continue
+            answers.append(f"{comment}pub {goal} : goal.{goal}\n{unfolding}{goal} c ={new}")
+            used_goals.add(goal)
+            continue
+        if "tie." in b or "module _" in b:
+            raise Left("a block over places: " + b.split("\n")[0])
+        local.append(b)
+    proofs = f"Rattle.{crate}.proofs.{path}"
+
+    def imports(body):
+        out = []
+        for u in uses:
+            m = re.match(r"use (\S+?)\.\{([^}]*)\}$", u)
+            if not m:
+                word = u.split(" as ")[-1] if " as " in u else u.split(".")[-1]
+                if re.search(rf"(?<![\w.]){re.escape(word.strip())}\.", body):
+                    out.append(u)
+                continue
+            keep = []
+            for it in m.group(2).split(","):
+                it = it.strip()
+                w = it.split(" as ")[-1]
+                sym = w.strip("◌")
+                core = re.escape(sym) if not re.match(r"\w", sym) else rf"(?<![\w.'-]){re.escape(sym)}(?![\w'-])"
+                if "◌" in w:
+                    parts = [x for x in w.split("◌") if x]
+                    if all(x in body for x in parts):
+                        keep.append(it)
+                elif re.search(core, body):
+                    keep.append(it)
+            if keep:
+                out.append(f"use {m.group(1)}.{{{', '.join(keep)}}}")
+        return out
+
+    # local lemmas: with the invariants if those use them
+    inv_text = "\n\n".join(invariants)
+    local_names = [re.match(r"(?:--[^\n]*\n)*(?:abbrev )?([^\s:]+)", b).group(1) for b in local]
+    in_inv = [b for b, n in zip(local, local_names) if re.search(rf"(?<![\w.'-]){re.escape(n)}(?![\w'-])", inv_text)]
+    if in_inv:
+        raise Left("an invariant uses a lemma of the file")
+    wrote = []
+    comment = "\n".join(head)
+    if invariants:
+        t = (comment + "\n" if comment else "") + "\n".join(imports(inv_text) + [f"use {proofs}.Given as goal"]) + "\n\n" + inv_text + "\n"
+        wrote.append(("Invariants.antt", t))
+        comment = ""
+    if answers:
+        a_text = "\n\n".join(local + answers)
+        t = (comment + "\n" if comment else "") + "\n".join(imports(a_text) + [f"use {proofs}.Goals as goal"]) + "\n\n" + a_text + "\n"
+        wrote.append(("Answers.antt", t))
+    return wrote
+
+
+def main(argv):
+    names, crate, only = argv[0], argv[1], argv[2:]
+    with open(names, encoding="utf-8") as f:
+        listed = json.load(f)
+    params = signatures()
+    done = 0
+    for p in sorted(glob.glob(f"crates/{crate}/proofs/**/Proof.antt", recursive=True)):
+        folder = os.path.dirname(p)
+        path = ".".join(folder.split("/")[3:])
+        if only and path not in only:
+            continue
+        of = listed.get(f"Rattle-{crate}-proofs.{path}.Lts")
+        if of is None:
+            print(f"left: {path}: no names")
+            continue
+        try:
+            wrote = turn(crate, path, of, params, folder)
+        except Left as e:
+            print(f"left: {path}: {e}")
+            continue
+        os.remove(p)
+        for name, text in wrote:
+            with open(os.path.join(folder, name), "w", encoding="utf-8") as f:
+                f.write(text)
+        if not wrote:
+            os.rmdir(folder)
+        done += 1
+    print(f"answers: {done} proofs turned in {crate}")
+    return 0
+
+
+if __name__ == "__main__":
+    raise SystemExit(main(sys.argv[1:]))
