@@ -65,6 +65,15 @@ class Function:
             return k, fields[i + 1:]
         raise Left("places " + ".".join(fields))
 
+    def has(self, place, fields):
+        i, _, step, _, _ = self.places[place]
+        arm = self.of["arms"][i]
+        return (
+            norm(step[0]) == norm(fields[0])
+            or any(norm(t[1]) == norm(fields[0]) and fields[1:2] == ["given"] for t in self.of["typed"][i])
+            or bool(arm) and any(norm(o) == norm(fields[0]) and fields[1 : 1 + len(p)] == p for n, o, p in arm[2])
+        )
+
     def step(self, place, fields):
         """The new path of a step's fields at a place."""
         i, parent, step, callee, renamed = self.places[place]
@@ -73,26 +82,28 @@ class Function:
         if arm:
             for new, old, path in sorted(arm[2], key=lambda it: -len(it[2])):
                 if norm(old) == norm(fields[0]) and rest[: len(path)] == path:
-                    if path or new.endswith("-own"):
-                        if new.endswith("-own"):
-                            continue
-                        return [arm[0], new] + rest[len(path):]
+                    return [arm[0], new] + rest[len(path):]
         for t in self.of["typed"][i]:
             if norm(t[1]) == norm(fields[0]) and rest[:1] == ["given"]:
                 return ["type_inv", t[0]] + rest[1:]
         if norm(step[0]) != norm(fields[0]):
             raise Left(f"{place} has step {step[0]}, not {fields[0]}")
         out = [step[1]]
-        if rest and rest[0] in ("taken",):
+        loop = next((vars_ for (o, _), vars_ in self.of["loops"] if norm(o) == norm(step[0])), [])
+        if rest and rest[0] == "auto" and "kept" in loop:
+            return out + ["kept"] + rest[1:]
+        if rest and rest[0] == "taken":
             rest = ["true"] + rest[1:]
+        if rest and rest[0] == "left" and (step[0].startswith(("if", "loop-test"))):
+            rest = ["false"] + rest[1:]
+        if rest and rest[0] in self.places[place][4]:
+            rest = [self.places[place][4][rest[0]]] + rest[1:]
         if rest and rest[0] in ("new", "last") and callee is not None:
             k, more = self.nested(rest[1:])
             rest = ["new", self.param(callee, k)] + more
         elif rest and rest[0] in ("auto", "kept") and callee is not None:
             k, more = self.nested(rest[1:])
             rest = ["auto", self.param(callee, k)] + more
-        elif rest and rest[0] == "left":
-            rest = ["false"] + rest[1:] if step[0].startswith(("if", "loop-test")) else rest
         elif rest and rest[0] == "branch":
             raise Left("branch")
         return out + rest
@@ -114,11 +125,23 @@ class Function:
                 return "path", ".".join([var] + new[1:]), None
             return "path", ".".join(["c"] + new), None
         place = at
+        chain = [place]
+        while self.places[chain[-1]][1] is not None:
+            chain.append(self.places[chain[-1]][1])
+        depth = 0
         while fields and fields[0] == "before":
-            place = self.places[place][1]
-            fields = fields[1:]
-            if place is None:
-                raise Left("before the start")
+            depth, fields = depth + 1, fields[1:]
+        if fields and fields[0] in ("args", "requires", "pre", "ranges", "utf8"):
+            return "path", ".".join(["c"] + (["requires"] if fields[0] == "pre" else [fields[0]]) + fields[1:]), None
+        if fields:
+            # the places may be more or fewer than the older kit's: the step of that name that is nearest
+            fits = [d for d, p in enumerate(chain) if self.has(p, fields)]
+            if not fits:
+                raise Left(f"no step {fields[0]} above {at}")
+            depth = min(fits, key=lambda d: abs(d - depth))
+        elif depth >= len(chain):
+            depth = len(chain) - 1
+        place = chain[depth]
         if not fields:
             return "place", place
         if self.places[place][1] is None:
@@ -234,7 +257,10 @@ def turn(crate, path, of, params, folder):
                 raise Left(f"loop {loop}: {args} for {want}")
             names = {}
             for a, w in zip(args, want):
-                if a != "_":
+                base = a[:-1] if a.endswith("₀") else a
+                if base in vars_:
+                    names[a] = f"l.initial.{base}" if a != base else f"l.{base}"
+                elif a != "_":
                     names[a] = w
             kindname = f"{kind}-{goal}"
             invariants.append(f"{comment}abbrev pub {kindname} : goal.{kindname}\n{kindname} l ={subst_vars(body, names)}")
@@ -243,7 +269,7 @@ def turn(crate, path, of, params, folder):
         if m:
             comment, _, need, unfolding, args, body = m.groups()
             key = norm(need)
-            cands = [key, re.sub("^overflow-", "", key), re.sub("^(overflow|slice)-", "", key)]
+            cands = [key, re.sub("^overflow-", "", key), re.sub("^(overflow|slice)-", "", key), re.sub("^slice-bounds-", "part-", key)]
             hit = next((old[k] for k in cands if k in old), None)
             if hit is None:
                 raise Left(f"need {need} of {[o for o, _ in of['needs']]}")
@@ -254,7 +280,8 @@ def turn(crate, path, of, params, folder):
             goal = hit[1]
             if goal.startswith("shape_of-"):
                 continue
-            answers.append(f"{comment}pub {goal} : goal.{goal}\n{unfolding}{goal} c ={new}")
+            more = args.split()[2 if goal.split("-")[-1] == "requires" or "-requires-" in goal else 1:]
+            answers.append(f"{comment}pub {goal} : goal.{goal}\n{unfolding}{goal} {' '.join(['c'] + more)} ={new}")
             used_goals.add(goal)
             continue
         if "tie." in b or "module _" in b:
@@ -264,6 +291,7 @@ def turn(crate, path, of, params, folder):
 
     def imports(body):
         out = []
+        ours = {w.strip() for u in uses if u.startswith("use Rattle.") for w in re.findall(r"\{([^}]*)\}", u + "{}")[0].split(",")}
         for u in uses:
             m = re.match(r"use (\S+?)\.\{([^}]*)\}$", u)
             if not m:
@@ -274,6 +302,8 @@ def turn(crate, path, of, params, folder):
             keep = []
             for it in m.group(2).split(","):
                 it = it.strip()
+                if it == "rules" and m.group(1) == "borrow.Author.Rules" and "rules" in ours:
+                    it = "rules as search_rules"
                 w = it.split(" as ")[-1]
                 sym = w.strip("◌")
                 core = re.escape(sym) if not re.match(r"\w", sym) else rf"(?<![\w.'-]){re.escape(sym)}(?![\w'-])"
@@ -301,6 +331,8 @@ def turn(crate, path, of, params, folder):
         comment = ""
     if answers:
         a_text = "\n\n".join(local + answers)
+        if any(re.search(r"use Rattle\..*[{ ]rules[,}]", u) for u in uses):
+            a_text = a_text.replace("search rules", "search search_rules").replace("search (rules", "search (search_rules")
         t = (comment + "\n" if comment else "") + "\n".join(imports(a_text) + [f"use {proofs}.Goals as goal"]) + "\n\n" + a_text + "\n"
         wrote.append(("Answers.antt", t))
     return wrote

@@ -1,0 +1,10 @@
+use native.Mathlib.Omega.{arith}
+use lib.ListN.{length-set}
+use Rattle.files.specs.Cells.Laws.{put_cell_two}
+use Rattle.files.proofs.cells.put16.Goals as goal
+
+pub bounds-work-p-2 : goal.bounds-work-p-2
+bounds-work-p-2 c = simp length-set (omega arith)
+
+pub returns : goal.returns
+returns c = rw put_cell_two
