@@ -114,7 +114,7 @@ class Function:
             raise Left(f"parameter {k} of {callee}")
         return names[k]
 
-    def path(self, var, fields, env):
+    def path(self, var, fields, env, base):
         """Returns ('place', name) or ('path', text, place or None)."""
         kind, at = env[var]
         if kind == "step":
@@ -123,7 +123,7 @@ class Function:
             new = self.step(place, [step[0]] + fields)
             if new[0] == step[1]:
                 return "path", ".".join([var] + new[1:]), None
-            return "path", ".".join(["c"] + new), None
+            return "path", ".".join([base] + new), None
         place = at
         chain = [place]
         while self.places[chain[-1]][1] is not None:
@@ -132,7 +132,7 @@ class Function:
         while fields and fields[0] == "before":
             depth, fields = depth + 1, fields[1:]
         if fields and fields[0] in ("args", "requires", "pre", "ranges", "utf8"):
-            return "path", ".".join(["c"] + (["requires"] if fields[0] == "pre" else [fields[0]]) + fields[1:]), None
+            return "path", ".".join([base] + (["requires"] if fields[0] == "pre" else [fields[0]]) + fields[1:]), None
         if fields:
             # the places may be more or fewer than the older kit's: the step of that name that is nearest
             fits = [d for d, p in enumerate(chain) if self.has(p, fields)]
@@ -144,16 +144,22 @@ class Function:
         place = chain[depth]
         if not fields:
             return "place", place
-        if self.places[place][1] is None:
-            if fields[0] in ("args", "requires", "pre", "ranges", "utf8"):
-                fields = (["requires"] if fields[0] == "pre" else [fields[0]]) + fields[1:]
-                return "path", ".".join(["c"] + fields), None
-            raise Left(f"{fields[0]} at the start")
         new = self.step(place, fields)
-        return "path", ".".join(["c"] + new), place if len(fields) == 1 else None
+        return "path", ".".join([base] + new), place if len(fields) == 1 else None
 
-    def body(self, text, place):
-        env = {"c": ("place", place)}
+    def named(self, place):
+        """The new name of a place."""
+        return self.of["places_by_name"][self.places[place][0]]
+
+    def body(self, text, place, goal=None, env=None):
+        """Turns a text over the places of `c`, or of the variables in env; a place that is handed on is `(goal.at.GOAL c).PLACE`."""
+        env = dict(env) if env else {"c": ("place", place)}
+        own = set(env)
+
+        def handed(name):
+            if goal is None:
+                raise Left("a place handed on in a lemma")
+            return f"(goal.at.{goal} c).{self.named(name)}"
         out, at = [], 0
         while True:
             m = PATH.search(text, at)
@@ -172,12 +178,14 @@ class Function:
                 continue
             fields = m.group(2)[1:].split(".")
             before = text[at:m.start()]
-            made = self.path(var, fields, env)
+            made = self.path(var, fields, env, next(iter(own)))
             bound = re.search(r"\blet (\S+) = $", before)
             after = re.match(r"\s+in\b ?", text[m.end():])
             if made[0] == "place":
                 if not (bound and after):
-                    raise Left("a place handed on: " + m.group(0))
+                    out.append(before + handed(made[1]))
+                    at = m.end()
+                    continue
                 env[bound.group(1)] = ("place", made[1])
                 out.append(before[: bound.start()])
                 at = m.end() + after.end()
@@ -194,10 +202,25 @@ class Function:
             out.append(before + made[1])
             at = m.end()
         text = "".join(out)
-        for var, (kind, _) in env.items():
-            if kind == "place" and var != "c" and re.search(rf"(?<![\w.'-]){re.escape(var)}(?![\w'-])", text):
-                raise Left(f"place {var} handed on")
+        for var, (kind, at) in env.items():
+            if kind == "place" and var not in own:
+                text = re.sub(rf"(?<![\w.'-]){re.escape(var)}(?![\w'-])", lambda m: handed(at), text)
         return text
+
+    def lemma(self, block):
+        """A lemma of the file over one place of the code."""
+        found = re.findall(r"\((\S+) : tie\.(\S+?)\)", block)
+        if not found:
+            m = re.search(r": tie\.(\S+) →[\s\S]*?\n(\S+) (\S+)", block)
+            found = [(m.group(3), m.group(1))] if m else []
+        if len(found) != 1 or "module _" in block:
+            raise Left("a block over places: " + block.split("\n")[0])
+        var, old = found[0]
+        place = next((p for p in self.places if norm(p) == norm(old)), None)
+        if place is None:
+            raise Left("place " + old)
+        block = re.sub(r"tie\.\S+?(?=\)| )", self.named(place), block, count=1)
+        return self.body(block, place, None, {var: ("place", place)})
 
 
 NEED = re.compile(r"^((?:--[^\n]*\n)*)([^\s:]+) : tie\.Need-(\S+)[^\n]*\n((?:unfolding[^\n]*\n)?)\2((?: [^\s=]+)*) =(\s[\s\S]*)$")
@@ -205,7 +228,13 @@ INVARIANT = re.compile(r"^((?:--[^\n]*\n)*)abbrev ([^\s:]+) : tie\.(invariant|de
 
 
 def subst_vars(text, names):
-    return re.sub(r"(?<![\w.'₀-₉-])([A-Za-z_][\w'₀-₉]*)(?![\w'₀-₉-])", lambda m: names.get(m.group(1), m.group(1)), text)
+    def other(m):
+        # the name of a record's field stays
+        if re.match(r" = ", text[m.end():]) and re.search(r"[{;]\s*$", text[: m.start()]):
+            return m.group(0)
+        return names.get(m.group(1), m.group(1))
+
+    return re.sub(r"(?<![\w.'₀-₉-])([A-Za-z_][\w'₀-₉]*)(?![\w'₀-₉-])", other, text)
 
 
 def turn(crate, path, of, params, folder):
@@ -276,17 +305,15 @@ def turn(crate, path, of, params, folder):
             if re.fullmatch(r"\s*search rules\s*", body):
                 continue
             at = of["asked_at"][[o for o, _ in of["needs"]].index(hit[0])][0]
-            new = fn.body(body, at)
             goal = hit[1]
+            new = fn.body(body, at, goal)
             if goal.startswith("shape_of-"):
                 continue
             more = args.split()[2 if goal.split("-")[-1] == "requires" or "-requires-" in goal else 1:]
             answers.append(f"{comment}pub {goal} : goal.{goal}\n{unfolding}{goal} {' '.join(['c'] + more)} ={new}")
             used_goals.add(goal)
             continue
-        if "tie." in b or "module _" in b:
-            raise Left("a block over places: " + b.split("\n")[0])
-        local.append(b)
+        local.append(fn.lemma(b) if "tie." in b or "module _" in b else b)
     proofs = f"Rattle.{crate}.proofs.{path}"
 
     def imports(body):
@@ -333,7 +360,9 @@ def turn(crate, path, of, params, folder):
         a_text = "\n\n".join(local + answers)
         if any(re.search(r"use Rattle\..*[{ ]rules[,}]", u) for u in uses):
             a_text = a_text.replace("search rules", "search search_rules").replace("search (rules", "search (search_rules")
-        t = (comment + "\n" if comment else "") + "\n".join(imports(a_text) + [f"use {proofs}.Goals as goal"]) + "\n\n" + a_text + "\n"
+        shared = sorted({w for w in of["places_by_name"] if re.search(rf": {re.escape(w)}[) ]", a_text)})
+        more = [f"use {proofs}.Goals.{{{', '.join(shared)}}}"] if shared else []
+        t = (comment + "\n" if comment else "") + "\n".join(imports(a_text) + [f"use {proofs}.Goals as goal"] + more) + "\n\n" + a_text + "\n"
         wrote.append(("Answers.antt", t))
     return wrote
 

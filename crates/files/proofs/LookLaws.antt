@@ -8,8 +8,6 @@ use Prim.Native.Nat.{ℕ, zero, suc, ◌+◌, ◌-◌, ◌≤◌, ◌<◌}
 use native.Mathlib.Decide.{ℕ_discrete, dec_lt}
 use native.Mathlib.Omega.{arith}
 use lib.Dec.{T, leb, ltb, eqb}
-use types.Run.{OneOf}
-use denote.Enum.Declared.{tag_of}
 use borrow.Author.Tests.{eq-eqb, ne_eqb, le-leb, lt-leb, lt-ltb}
 use Rattle.files.specs.Basics.Lexical.{before}
 use Rattle.files.specs.Checking.{test, found_at, unread_number, names_past, Sound}
@@ -24,8 +22,7 @@ use Rattle.files.specs.declared.record.Parsed.{Parsed}
 use Rattle.files.specs.declared.record.Parsed.TheVariants.{Node, Edge, Row, Wrong, Other}
 use Rattle.files.specs.declared.record.Record.{Record}
 use Rattle.files.specs.declared.refusal.Refusal.{Refusal}
-use Rattle.files.proofs.Tags.{but, never}
-use Rattle.files.specs.contracts.record.Parsed
+use Rattle.files.proofs.Tags.{never}
 
 -- ---- 2 to 4
 
@@ -48,7 +45,7 @@ module _ (k : Kind) (l : List ℕ) (first position i : ℕ) where
     abbrev numbered : Parsed → Refusal
     numbered q = refusal_at (unread_number 2 q) position (first + i)
 
-    pub unread_found : OneOf (but n) (tag_of Parsed.the_type p) → (x : Refusal) → x ≡ numbered p → At x ≡ found_at 3 2 (test k l) first position i
+    pub unread_found : (kind_read p ≡ n → ⊥) → (x : Refusal) → x ≡ numbered p → At x ≡ found_at 3 2 (test k l) first position i
     unread_found o x d = go (ℕ_discrete (kind_at l i) n) (wrong (record_at l i)) refl
       where
         go : Dec (kind_at l i ≡ n) → (b : Bool) → wrong (record_at l i) ≡ b → At x ≡ found_at 3 2 (test k l) first position i
@@ -112,7 +109,7 @@ not_nothing : (q : Parsed) (m : ℕ) (r e : Bool) → q ≡ Node m r e → kind_
 not_nothing q m r e d z = let f : ◌≡◌ {A = ℕ} 1 0 = sym (ap kind_read d) ∙ z in omega arith
 
 module _ (l : List ℕ) (sound : Sound graph l) (first position i : ℕ) (h : i < count l) where
-  pub node_names_none : (p : Parsed) → p ≡ parsed_as 2 (record_at l i) → OneOf (but 2) (tag_of Parsed.the_type p) → Nothing ≡ found_at 2 7 (test graph l) first position i
+  pub node_names_none : (p : Parsed) → p ≡ parsed_as 2 (record_at l i) → (kind_read p ≡ 2 → ⊥) → Nothing ≡ found_at 2 7 (test graph l) first position i
   node_names_none p is o = go (node_or_edge l sound i h)
     where
       go : (kind_at l i ≡ 1) ⊎ (kind_at l i ≡ 2) → Nothing ≡ found_at 2 7 (test graph l) first position i
@@ -146,7 +143,7 @@ module _ (l : List ℕ) (sound : Sound graph l) (first position i : ℕ) (h : i 
       from_read : from < N → q ≡ Node (method_at l from) (eqb (record_at l from).second 1) (eqb (record_at l from).third 1)
       from_read b = q_is ∙ ap (λ (t : Bool). cond t Other (parsed_as 1 (record_at l from))) (lt-leb N from b) ∙ sound_at from b
 
-      pub from_past : OneOf (but 1) (tag_of Parsed.the_type q) → (x : Refusal) → x ≡ refusal_at 7 position (first + i) → At x ≡ found_at 2 7 (test graph l) first position i
+      pub from_past : (kind_read q ≡ 1 → ⊥) → (x : Refusal) → x ≡ refusal_at 7 position (first + i) → At x ≡ found_at 2 7 (test graph l) first position i
       from_past o x d = go (dec_lt from N)
         where
           go : Dec (from < N) → At x ≡ found_at 2 7 (test graph l) first position i
@@ -182,7 +179,7 @@ module _ (l : List ℕ) (sound : Sound graph l) (first position i : ℕ) (h : i 
       beside : to < N → method_at l to ≡ m → b ≡ parsed_as 1 (record_at l to)
       beside t d = b_is ∙ (rw (lt-leb N to t, eq-eqb (method_at l to) m d) refl)
 
-      pub to_missing : OneOf (but 1) (tag_of Parsed.the_type b) → (x : Refusal) → x ≡ past_or_apart b → At x ≡ found_at 2 7 (test graph l) first position i
+      pub to_missing : (kind_read b ≡ 1 → ⊥) → (x : Refusal) → x ≡ past_or_apart b → At x ≡ found_at 2 7 (test graph l) first position i
       to_missing o x d = go (dec_lt to N) (ℕ_discrete (method_at l to) m)
         where
           go : Dec (to < N) → Dec (method_at l to ≡ m) → At x ≡ found_at 2 7 (test graph l) first position i
@@ -206,7 +203,7 @@ module _ (l : List ℕ) (sound : Sound property l) (first position i : ℕ) (h :
   past_row : past property l i ≡ names_past N (record_at l i)
   past_row = rw N_is refl
 
-  pub row_past : OneOf (but 3) (tag_of Parsed.the_type p) → (x : Refusal) → x ≡ refusal_at 7 position (first + i) → At x ≡ found_at 2 7 (test property l) first position i
+  pub row_past : (kind_read p ≡ 3 → ⊥) → (x : Refusal) → x ≡ refusal_at 7 position (first + i) → At x ≡ found_at 2 7 (test property l) first position i
   row_past o x d = go (names_past N (record_at l i)) refl
     where
       go : (b : Bool) → names_past N (record_at l i) ≡ b → At x ≡ found_at 2 7 (test property l) first position i

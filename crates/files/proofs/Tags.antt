@@ -1,12 +1,9 @@
--- A record that does not read as the kind looked for: a test that asks for that kind only says of it what it says of Other. The tags are those of the enum's variants, in order.
+-- A record that does not read as the kind looked for: a test that asks for that kind only says of it what it says of Other.
 use mathlib.Core.Path.{◌≡◌, refl, sym, ap, subst, ◌∙◌}
 use mathlib.Core.Bool.{Bool, cond}
-use mathlib.Core.List.{List, [], ◌∷◌}
 use Prim.Native.Nat.{ℕ, ◌≤◌}
 use native.Mathlib.Omega.{arith}
 use lib.Dec.{eqb}
-use types.Run.{OneOf, miss}
-use denote.Enum.Declared.{tag_of}
 use borrow.Author.Tests.{ne_eqb}
 use Rattle.files.specs.declared.record.Record.{Record}
 use Rattle.files.specs.declared.record.Parsed.{Parsed}
@@ -16,31 +13,57 @@ use Rattle.files.specs.Record.Laws.{kind_read, as_same}
 use Rattle.files.specs.Interface.{Interface as Sets}
 use Rattle.files.specs.Sides.{foreign_node, foreign_call}
 use Rattle.files.specs.Checking.{unread_number}
-use Rattle.files.specs.contracts.record.Parsed
 
--- ---- the tags of the records that do not read as kind k
+-- ---- the records that do not read as kind k, from what the code's arm for any other variant knows
 
-abbrev but_tag : Bool → ℕ → List ℕ → List ℕ
-but_tag b t l = cond b l (t ∷ l)
+pub not_node : (x : Parsed) → ((m : ℕ) (r e : Bool) → x ≡ Node m r e → ⊥) → kind_read x ≡ 1 → ⊥
+not_node (Node m r e) h k = h m r e refl
+not_node (Edge f l t) h k = omega arith
+not_node (Row o a b) h k = omega arith
+not_node (Rule q v m n s) h k = omega arith
+not_node (Interface p q) h k = omega arith
+not_node Wrong h k = omega arith
+not_node Other h k = omega arith
 
-abbrev pub but : ℕ → List ℕ
-but k = but_tag (eqb k 1) 0 (but_tag (eqb k 2) 1 (but_tag (eqb k 3) 2 (but_tag (eqb k 4) 3 (but_tag (eqb k 5) 4 (but_tag (eqb k 0) 5 (but_tag (eqb k 0) 6 []))))))
+pub not_edge : (x : Parsed) → ((f l t : ℕ) → x ≡ Edge f l t → ⊥) → kind_read x ≡ 2 → ⊥
+not_edge (Node m r e) h k = omega arith
+not_edge (Edge f l t) h k = h f l t refl
+not_edge (Row o a b) h k = omega arith
+not_edge (Rule q v m n s) h k = omega arith
+not_edge (Interface p q) h k = omega arith
+not_edge Wrong h k = omega arith
+not_edge Other h k = omega arith
 
-missed : (k t : ℕ) (n : ℕ) → (OneOf (but n) t → ⊥) → OneOf (but k) t → n ≡ k → ⊥
-missed k t n h o e = h (subst (λ (i : ℕ). OneOf (but i) t) (sym e) o)
+pub not_row : (x : Parsed) → ((o a b : ℕ) → x ≡ Row o a b → ⊥) → kind_read x ≡ 3 → ⊥
+not_row (Node m r e) h k = omega arith
+not_row (Edge f l t) h k = omega arith
+not_row (Row o a b) h k = h o a b refl
+not_row (Rule q v m n s) h k = omega arith
+not_row (Interface p q) h k = omega arith
+not_row Wrong h k = omega arith
+not_row Other h k = omega arith
 
-not_kind : (k : ℕ) (x : Parsed) → OneOf (but k) (tag_of Parsed.the_type x) → kind_read x ≡ k → ⊥
-not_kind k (Node m r e) o = missed k 0 1 (miss (but 1) 0 tt) o
-not_kind k (Edge f l t) o = missed k 1 2 (miss (but 2) 1 tt) o
-not_kind k (Row x a b) o = missed k 2 3 (miss (but 3) 2 tt) o
-not_kind k (Rule q v m n s) o = missed k 3 4 (miss (but 4) 3 tt) o
-not_kind k (Interface p q) o = missed k 4 5 (miss (but 5) 4 tt) o
-not_kind k Wrong o = missed k 5 0 (miss (but 0) 5 tt) o
-not_kind k Other o = missed k 6 0 (miss (but 0) 6 tt) o
+pub not_rule : (x : Parsed) → ((q v m n s : ℕ) → x ≡ Rule q v m n s → ⊥) → kind_read x ≡ 4 → ⊥
+not_rule (Node m r e) h k = omega arith
+not_rule (Edge f l t) h k = omega arith
+not_rule (Row o a b) h k = omega arith
+not_rule (Rule q v m n s) h k = h q v m n s refl
+not_rule (Interface p q) h k = omega arith
+not_rule Wrong h k = omega arith
+not_rule Other h k = omega arith
+
+pub not_interface : (x : Parsed) → ((p q : ℕ) → x ≡ Interface p q → ⊥) → kind_read x ≡ 5 → ⊥
+not_interface (Node m r e) h k = omega arith
+not_interface (Edge f l t) h k = omega arith
+not_interface (Row o a b) h k = omega arith
+not_interface (Rule q v m n s) h k = omega arith
+not_interface (Interface p q) h k = h p q refl
+not_interface Wrong h k = omega arith
+not_interface Other h k = omega arith
 
 -- a record that is known to read as one kind does not read as another
-pub never : (k : ℕ) (x y : Parsed) → x ≡ y → kind_read y ≡ k → OneOf (but k) (tag_of Parsed.the_type x) → ⊥
-never k x y p e o = not_kind k x o (ap kind_read p ∙ e)
+pub never : (k : ℕ) (x y : Parsed) → x ≡ y → kind_read y ≡ k → (kind_read x ≡ k → ⊥) → ⊥
+never k x y p e h = h (ap kind_read p ∙ e)
 
 -- ---- a test that asks for kind k only
 
@@ -79,27 +102,20 @@ elsewhere {A} k f a (Interface p q) h = kept k 5 _ _ h (ap (λ (s : Said A). s.i
 elsewhere {A} k f a Wrong h = sym (ap (λ (s : Said A). s.wrong) a)
 elsewhere {A} k f a Other h = refl
 
--- the same by the record's tag
-pub not_read : {A : Type 0} (k : ℕ) (f : Parsed → A) → Asks k f → (x : Parsed) → OneOf (but k) (tag_of Parsed.the_type x) → f Other ≡ f x
-not_read k f a x o = elsewhere k f a x (not_kind k x o)
-
 -- the same of a record that is parsed as kind k only
 pub asked_as : {A : Type 0} (k : ℕ) (f : Parsed → A) → Asks k f → 1 ≤ k → (r : Record) → f (parsed_as k r) ≡ f (parsed r)
 asked_as k f a h r = as_same k r f h (elsewhere k f a)
 
 -- ---- the tests
 
-abbrev pub but_wrong : List ℕ
-but_wrong = 0 ∷ 1 ∷ 2 ∷ 3 ∷ 4 ∷ 6 ∷ []
-
-pub not_wrong : (low : ℕ) (x : Parsed) → OneOf but_wrong (tag_of Parsed.the_type x) → low ≡ unread_number low x
-not_wrong low (Node m r e) k = refl
-not_wrong low (Edge f l t) k = refl
-not_wrong low (Row o a b) k = refl
-not_wrong low (Rule q v m n p) k = refl
-not_wrong low (Interface p q) k = refl
-not_wrong low Wrong k = absurd (miss but_wrong 5 tt k)
-not_wrong low Other k = refl
+pub not_wrong : (low : ℕ) (x : Parsed) → (x ≡ Wrong → ⊥) → low ≡ unread_number low x
+not_wrong low (Node m r e) h = refl
+not_wrong low (Edge f l t) h = refl
+not_wrong low (Row o a b) h = refl
+not_wrong low (Rule q v m n p) h = refl
+not_wrong low (Interface p q) h = refl
+not_wrong low Wrong h = absurd (h refl)
+not_wrong low Other h = refl
 
 pub foreign_node_as : (I : Sets) (r : Record) → foreign_node I (parsed_as 1 r) ≡ foreign_node I (parsed r)
 foreign_node_as I = asked_as 1 (foreign_node I) refl (omega arith)

@@ -3,13 +3,14 @@ use native.Mathlib.Omega.{arith}
 use Rattle.files.specs.Refusal.{graph}
 use Rattle.files.specs.Record.Laws.{kind_read}
 use Rattle.files.proofs.LookLaws.{edge_place, unread_found, read_found, four_found, nothing_found}
+use Rattle.files.proofs.Tags.{not_edge}
 use Rattle.files.proofs.offence.look_edge.Goals as goal
 
 pub returns-in_default : goal.returns-in_default
 returns-in_default c =
     let a = c.args in
     let p = c.parse_edge-p in
-    unread_found graph a.records.now a.first a.position a.i 2 (omega arith) (omega arith) (edge_place a.records.now a.i c.requires.1.1) p.result p.ensures c.in_default.in_default-own.keys2 c.unread.result
+    unread_found graph a.records.now a.first a.position a.i 2 (omega arith) (omega arith) (edge_place a.records.now a.i c.requires.1.1) p.result p.ensures (not_edge p.result c.in_default.not-Edge) c.unread.result
     c.unread.ensures
 
 pub returns-then-edge_disordered : goal.returns-then-edge_disordered

@@ -3,6 +3,7 @@ use native.Mathlib.Omega.{arith}
 use Rattle.files.specs.Refusal.{graph}
 use Rattle.files.specs.Record.Laws.{kind_read}
 use Rattle.files.proofs.LookLaws.{after_edge, node_place, node_ordered, two_found, unread_found, read_found, nothing_found}
+use Rattle.files.proofs.Tags.{not_node}
 use Rattle.files.proofs.offence.look_node.Goals as goal
 
 pub returns-then-edge_before : goal.returns-then-edge_before
@@ -15,7 +16,7 @@ returns-in_default c =
     let a = c.args in
     let p = c.parse_node-p in
     let place = node_place a.records.now a.i c.requires.1.1 (sym c.edge_before.ensures ∙ c.if-edge_before.false) in
-    unread_found graph a.records.now a.first a.position a.i 1 (omega arith) (omega arith) place p.result p.ensures c.in_default.in_default-own.keys2 c.unread.result c.unread.ensures
+    unread_found graph a.records.now a.first a.position a.i 1 (omega arith) (omega arith) place p.result p.ensures (not_node p.result c.in_default.not-Node) c.unread.result c.unread.ensures
 
 pub returns : goal.returns
 returns c =

@@ -3,13 +3,14 @@ use native.Mathlib.Omega.{arith}
 use Rattle.files.specs.Refusal.{rules}
 use Rattle.files.specs.Record.Laws.{kind_read}
 use Rattle.files.proofs.LookLaws.{unread_found, read_found, four_found, nothing_found}
+use Rattle.files.proofs.Tags.{not_rule}
 use Rattle.files.proofs.offence.look_rule.Goals as goal
 
 pub returns-in_default : goal.returns-in_default
 returns-in_default c =
     let a = c.args in
     let p = c.parse_rule-p in
-    unread_found rules a.records.now a.first a.position a.i 4 (omega arith) (omega arith) refl p.result p.ensures c.in_default.in_default-own.keys2 c.unread.result c.unread.ensures
+    unread_found rules a.records.now a.first a.position a.i 4 (omega arith) (omega arith) refl p.result p.ensures (not_rule p.result c.in_default.not-Rule) c.unread.result c.unread.ensures
 
 pub returns-then-rule_disordered : goal.returns-then-rule_disordered
 returns-then-rule_disordered c =

@@ -7,7 +7,7 @@ use Rattle.files.proofs.offence.unread.Goals as goal
 pub returns-in_default : goal.returns-in_default
 returns-in_default c =
     let a = c.args in
-    c.at.ensures ∙ ap (λ (n : ℕ). refusal_at n a.position a.«record») (not_wrong a.low a.p c.in_default.in_default-own.keys2)
+    c.at.ensures ∙ ap (λ (n : ℕ). refusal_at n a.position a.«record») (not_wrong a.low a.p c.in_default.not-Wrong)
 
 pub returns : goal.returns
 returns c = rw c.in-Wrong.is c.at-2.ensures

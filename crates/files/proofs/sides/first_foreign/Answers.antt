@@ -23,7 +23,6 @@ foreign-requires c = omega arith
 
 pub returns-then-foreign : goal.returns-then-foreign
 returns-then-foreign c =
-    
     sym (foreign_at _ c.args.graph.now c.requires.0 c.loop-i.i c.loop-i-test.true c.loop-i.invariant.1 (sym c.foreign.ensures ∙ c.if-foreign.true))
     ∙ ap (λ (I : Interface). first_foreign_record I c.args.graph.now) (of_sets _ _ _ c.provided_methods-provided.ensures c.required_methods-required.ensures)
 
@@ -38,7 +37,6 @@ loop-i-preserved c = (omega arith, scan_on _ c.loop-i.i c.loop-i.invariant.1 (sy
 
 pub returns : goal.returns
 returns c =
-    
     let e : c.loop-i.i ≡ count c.args.graph.now = omega arith in
     sym (foreign_never _ c.args.graph.now c.requires.0 (rw (← e) c.loop-i.invariant.1))
     ∙ ap (λ (I : Interface). first_foreign_record I c.args.graph.now) (of_sets _ _ _ c.provided_methods-provided.ensures c.required_methods-required.ensures)

@@ -7,7 +7,7 @@ use Rattle.files.specs.Sides.{foreign_of}
 use Rattle.files.proofs.sides.first_foreign.Given as goal
 
 abbrev pub invariant-loop-i : goal.invariant-loop-i
-invariant-loop-i l = (l.i ≤ l.n) × (first_where (λ j. foreign_of (record { l.provided = l.provided; l.required = l.required }) (parsed_at l.graph j)) l.i ≡ none)
+invariant-loop-i l = (l.i ≤ l.n) × (first_where (λ j. foreign_of (record { provided = l.provided; required = l.required }) (parsed_at l.graph j)) l.i ≡ none)
 
 abbrev pub decreases-loop-i : goal.decreases-loop-i
 decreases-loop-i l = l.n - l.i

@@ -7,7 +7,7 @@ use Rattle.files.specs.Sides.Looks.{some_from}
 use Rattle.files.proofs.sides.lacks.Given as goal
 
 abbrev pub invariant-loop-m : goal.invariant-loop-m
-invariant-loop-m l = (l.m ≤ 9) × (sides.lacks (record { l.provided = l.provided; l.required = l.required }) ≡ some_from (λ (k : ℕ). in_set l.required k && not (in_set l.provided k)) l.m)
+invariant-loop-m l = (l.m ≤ 9) × (sides.lacks (record { provided = l.provided; required = l.required }) ≡ some_from (λ (k : ℕ). in_set l.required k && not (in_set l.provided k)) l.m)
 
 abbrev pub decreases-loop-m : goal.decreases-loop-m
 decreases-loop-m l = 9 - l.m
