@@ -15,7 +15,7 @@ use Rattle.files.specs.Deliveries.Layout.{body_at, nodes_at, nodes_among, edges_
 use Rattle.files.specs.Graph.{Graph, size}
 use Rattle.files.specs.Join.{moved}
 use Rattle.files.specs.Places.{record_len}
-use Rattle.files.specs.Record.{part, write}
+use Rattle.files.specs.Record.{write}
 use Rattle.files.specs.View.{Views}
 use Rattle.files.specs.declared.parts.Part.{Part}
 use Rattle.files.specs.declared.record.Record.{Record}

@@ -1,4 +1,4 @@
-use Prim.Native.Nat.{◌<◌, ◌+◌, ◌-◌, ◌*◌}
+use Prim.Native.Nat.{◌<◌, ◌+◌, ◌*◌}
 use native.Mathlib.Omega.{arith}
 use lib.ListN.{length-set, get_or}
 use lib.Seq.{paste-zero}

@@ -1,5 +1,4 @@
 use mathlib.Core.Path.{sym, ◌∙◌}
-use Prim.Native.Nat.{◌-◌}
 use native.Mathlib.Omega.{arith}
 use Rattle.files.specs.Deliveries.Names.{end_is, none_more}
 use Rattle.files.proofs.parts.part_end.Goals as goal

@@ -1,4 +1,3 @@
-use Prim.Native.Nat.{◌-◌}
 use native.Mathlib.Omega.{arith}
 use Rattle.files.proofs.PlainLaws.{node_turn}
 use Rattle.files.proofs.plain.leading_nodes.Goals as goal

@@ -1,4 +1,3 @@
-use Prim.Native.Nat.{◌-◌}
 use native.Mathlib.Omega.{arith}
 use Rattle.files.proofs.PlainLaws.{edge_turn, no_edges, edges_to}
 use Rattle.files.proofs.plain.plain_edges.Goals as goal

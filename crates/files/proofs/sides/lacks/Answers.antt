@@ -1,6 +1,5 @@
 use mathlib.Core.Path.{sym, ap₂, ◌∙◌}
 use mathlib.Core.Bool.{Bool, not, ◌&&◌}
-use Prim.Native.Nat.{◌-◌}
 use native.Mathlib.Omega.{arith}
 use Rattle.files.specs.Sides.Looks.{method_passes, method_fails, methods_end, lacks_looks}
 use Rattle.files.proofs.sides.lacks.Goals as goal

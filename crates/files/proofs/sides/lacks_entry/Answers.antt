@@ -1,6 +1,5 @@
 use mathlib.Core.Path.{sym, ap₂, ◌∙◌}
 use mathlib.Core.Bool.{Bool, not, ◌&&◌}
-use Prim.Native.Nat.{◌-◌}
 use native.Mathlib.Omega.{arith}
 use Rattle.files.specs.Decode.{decode_graph, decode_interface}
 use Rattle.files.specs.Sides.Entries.{lacks_entry_looks}

@@ -1,6 +1,6 @@
 use mathlib.Core.Path.{◌≡◌, sym, subst, ◌∙◌}
 use mathlib.Core.List.{List}
-use Prim.Native.Nat.{ℕ, ◌+◌, ◌-◌}
+use Prim.Native.Nat.{ℕ, ◌+◌}
 use native.Mathlib.Omega.{arith}
 use Rattle.files.specs.Record.{count}
 use Rattle.files.specs.Deliveries.Met.{Met, met_none, met_on, met_stop, met_all}
