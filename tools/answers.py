@@ -52,6 +52,8 @@ class Function:
     def __init__(self, of, params):
         self.of = of
         self.params = params
+        self.lemmas = {}
+        self.arms_used = set()
         self.places = {}
         for i, (name, parent, step, callee, fields) in enumerate(of["places"]):
             self.places[name] = (i, parent, step, callee, dict(map(tuple, fields)) if fields else {})
@@ -104,8 +106,6 @@ class Function:
         elif rest and rest[0] in ("auto", "kept") and callee is not None:
             k, more = self.nested(rest[1:])
             rest = ["auto", self.param(callee, k)] + more
-        elif rest and rest[0] == "branch":
-            raise Left("branch")
         return out + rest
 
     def param(self, callee, k):
@@ -137,6 +137,9 @@ class Function:
             # the places may be more or fewer than the older kit's: the step of that name that is nearest
             fits = [d for d, p in enumerate(chain) if self.has(p, fields)]
             if not fits:
+                # turned already
+                if any(fields[0] == self.places[p][2][1] for p in chain):
+                    return "path", ".".join([base] + fields), None
                 raise Left(f"no step {fields[0]} above {at}")
             depth = min(fits, key=lambda d: abs(d - depth))
         elif depth >= len(chain):
@@ -156,7 +159,11 @@ class Function:
         env = dict(env) if env else {"c": ("place", place)}
         own = set(env)
 
-        def handed(name):
+        def handed(name, before=""):
+            # a lemma of the file says which place it is over
+            m = re.search(r"([^\s(]+) $", before)
+            if m and m.group(1) in self.lemmas:
+                name = self.lemmas[m.group(1)]
             if goal is None:
                 raise Left("a place handed on in a lemma")
             return f"(goal.at.{goal} c).{self.named(name)}"
@@ -183,7 +190,7 @@ class Function:
             after = re.match(r"\s+in\b ?", text[m.end():])
             if made[0] == "place":
                 if not (bound and after):
-                    out.append(before + handed(made[1]))
+                    out.append(before + handed(made[1], before))
                     at = m.end()
                     continue
                 env[bound.group(1)] = ("place", made[1])
@@ -204,7 +211,72 @@ class Function:
         text = "".join(out)
         for var, (kind, at) in env.items():
             if kind == "place" and var not in own:
-                text = re.sub(rf"(?<![\w.'-]){re.escape(var)}(?![\w'-])", lambda m: handed(at), text)
+                text = re.sub(rf"(?<![\w.'-]){re.escape(var)}(?![\w'-])", lambda m: handed(at, text[: m.start()]), text)
+        return text
+
+    def calls_in(self, step, kind):
+        """The calls within one branch of a test."""
+        found = []
+        for name, (_, parent, new, callee, _) in self.places.items():
+            up = name
+            while callee and up is not None:
+                _, above, s, _, _ = self.places[up]
+                if up.startswith(kind) and norm(s[0]) == norm(step):
+                    found.append((new[1], callee))
+                    break
+                up = above
+        return found
+
+    def branches(self, text, place):
+        """`⊎_elim (λ u. A) (λ u. B) c.if2.branch` by the names of the branches; which variable an equation is of is a guess."""
+
+        def closed(at):
+            depth = 0
+            for i in range(at, len(text)):
+                depth += {"(": 1, ")": -1}.get(text[i], 0)
+                if depth == 0:
+                    return i + 1
+            raise Left("branch")
+
+        while "⊎_elim" in text:
+            at = text.index("⊎_elim")
+            a = text.index("(", at)
+            a_end = closed(a)
+            b = text.index("(", a_end)
+            b_end = closed(b)
+            m = re.compile(r"\s+(\S+?)\.branch").match(text, b_end)
+            if not m:
+                raise Left("branch")
+            path = m.group(1).split(".")
+            if path[0] != "c":
+                raise Left("branch of " + m.group(1))
+            made = self.path("c", path[1:], {"c": ("place", place)}, "c")
+            old = path[-1]
+            new = made[1].split(".")[-1]
+            moved = [v for (_, vars_), ch in zip(self.of["loops"], self.of["changed"]) for v, c in zip(vars_, ch) if c] or ["x"]
+            arms = []
+            for kind, word, (s, e), test in (("Then", "then", (a, a_end), "true"), ("Else", "else", (b, b_end), "false")):
+                it = re.match(r"\(λ (\w+)\. ([\s\S]*)\)$", text[s:e])
+                if not it:
+                    raise Left("branch")
+                u, body = it.groups()
+                calls = self.calls_in(old, kind)
+                body = re.sub(rf"(?<![\w.]){u}\.0\.(taken|left|true|false)(?![\w'-])", f"w.{new}.{test}", body)
+
+                def call(m):
+                    if len(calls) != 1:
+                        raise Left(f"branch with {len(calls)} calls")
+                    step, callee = calls[0]
+                    if m.group(1) in ("kept", "auto", "last", "new"):
+                        k, more = self.nested(re.findall(r"\.([01])(?=\.|$)", m.group(2)) or m.group(2).strip(".").split("."))
+                        return f"w.{step}.{'auto' if m.group(1) in ('kept', 'auto') else 'new'}.{self.param(callee, k)}" + "".join("." + x for x in more)
+                    return f"w.{step}.{m.group(1)}{m.group(2)}"
+
+                body = re.sub(rf"(?<![\w.]){u}\.\d+\.(kept|auto|last|new|ensures|result)((?:\.[01])*)", call, body)
+                body = re.sub(rf"(?<![\w.]){u}\.\d+(?![\w.])", f"w.{moved[0]}-is", body)
+                arms.append(f"{word}-{new[3:]} w ↦ {body}")
+                self.arms_used.add(f"{word}-{new[3:]}")
+            text = text[:at] + f"elim {made[1]}.branch [ {arms[0]} | {arms[1]} ]" + text[m.end():]
         return text
 
     def lemma(self, block):
@@ -219,6 +291,7 @@ class Function:
         place = next((p for p in self.places if norm(p) == norm(old)), None)
         if place is None:
             raise Left("place " + old)
+        self.lemmas[re.match(r"(?:--[^\n]*\n)*(?:abbrev )?([^\s:]+)", block).group(1)] = place
         block = re.sub(r"tie\.\S+?(?=\)| )", self.named(place), block, count=1)
         return self.body(block, place, None, {var: ("place", place)})
 
@@ -285,14 +358,17 @@ def turn(crate, path, of, params, folder):
             if len(args) != len(want):
                 raise Left(f"loop {loop}: {args} for {want}")
             names = {}
+            # a binder of the invariant may have the name
+            live = "l" if not re.search(r"(?<![\w.'-])l(?![\w'₀-₉-])", body) or "l" in args else "loop"
+            want = [live + w[1:] for w in want]
             for a, w in zip(args, want):
                 base = a[:-1] if a.endswith("₀") else a
                 if base in vars_:
-                    names[a] = f"l.initial.{base}" if a != base else f"l.{base}"
+                    names[a] = f"{live}.initial.{base}" if a != base else f"{live}.{base}"
                 elif a != "_":
                     names[a] = w
             kindname = f"{kind}-{goal}"
-            invariants.append(f"{comment}abbrev pub {kindname} : goal.{kindname}\n{kindname} l ={subst_vars(body, names)}")
+            invariants.append(f"{comment}abbrev pub {kindname} : goal.{kindname}\n{kindname} {live} ={subst_vars(body, names)}")
             continue
         m = NEED.match(b)
         if m:
@@ -306,7 +382,7 @@ def turn(crate, path, of, params, folder):
                 continue
             at = of["asked_at"][[o for o, _ in of["needs"]].index(hit[0])][0]
             goal = hit[1]
-            new = fn.body(body, at, goal)
+            new = fn.body(fn.branches(body, at), at, goal)
             if goal.startswith("shape_of-"):
                 continue
             more = args.split()[2 if goal.split("-")[-1] == "requires" or "-requires-" in goal else 1:]
@@ -360,7 +436,7 @@ def turn(crate, path, of, params, folder):
         a_text = "\n\n".join(local + answers)
         if any(re.search(r"use Rattle\..*[{ ]rules[,}]", u) for u in uses):
             a_text = a_text.replace("search rules", "search search_rules").replace("search (rules", "search (search_rules")
-        shared = sorted({w for w in of["places_by_name"] if re.search(rf": {re.escape(w)}[) ]", a_text)})
+        shared = sorted(fn.arms_used | {w for w in of["places_by_name"] if re.search(rf": {re.escape(w)}[) ]", a_text)})
         more = [f"use {proofs}.Goals.{{{', '.join(shared)}}}"] if shared else []
         t = (comment + "\n" if comment else "") + "\n".join(imports(a_text) + [f"use {proofs}.Goals as goal"] + more) + "\n\n" + a_text + "\n"
         wrote.append(("Answers.antt", t))

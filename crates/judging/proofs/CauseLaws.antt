@@ -22,7 +22,7 @@ use Rattle.files.specs.Cells.Laws.{cells_on, cell_apart}
 use Rattle.files.specs.Decode.{decode_graph, decode_property, row_of, Filed}
 use Rattle.files.specs.Decode.Graphs.{decoded_filed}
 use Rattle.files.specs.Decode.Values.{row_written}
-use Rattle.files.specs.Graph.{Graph, size, node, no_edge}
+use Rattle.files.specs.Graph.{Graph, size, no_edge}
 use Rattle.files.specs.Places.{max_edges}
 use Rattle.files.specs.Property.{Row, both, either, row, names, obliged, Boxed, is_box, aims, box_row}
 use Rattle.files.specs.declared.graph.GraphEdge.{GraphEdge}

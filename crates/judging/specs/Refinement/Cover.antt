@@ -1,5 +1,5 @@
 -- Laws of the largest simulation once it stands in a lent buffer: what a bit says, what a row of bits says, and the lines written from the rows, one more at a time.
-use Rattle.std.specs.Prelude.{◌≡◌, Bool, List, [], ◌++◌, ℕ, suc, ◌+◌, ◌*◌, ◌<◌, length, drop}
+use Rattle.std.specs.Prelude.{◌≡◌, Bool, List, [], ◌++◌, ℕ, suc, ◌*◌, ◌<◌, length, drop}
 use Rattle.std.proofs.Common.{sym, ap, ap₂, ◌∙◌, arith}
 use Rattle.files.specs.Basics.Binary.{value}
 use Rattle.files.specs.Basics.Lists.{each, span, each_more, length_each}

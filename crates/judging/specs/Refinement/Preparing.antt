@@ -4,7 +4,7 @@ use Rattle.std.proofs.Common.{sym, ap, ap₂, subst, ◌∙◌, inl, inr, arith,
 use mathlib.Core.List.{List, Memᴰ}
 use Rattle.std.proofs.Math.Decide.{ℕ_discrete, dec_lt}
 use Rattle.files.specs.Basics.Lists.{index_i, index_e}
-use Rattle.files.specs.Basics.Tests.{and_l, and_r, and_i, any_i, any_e, same_test, one, eq-eqb as T_eqb}
+use Rattle.files.specs.Basics.Tests.{and_l, and_r, and_i, any_i, any_e, same_test, one, eq_eqb as T_eqb}
 use Rattle.files.specs.Cells.{has_bit, put_bit}
 use Rattle.files.specs.Cells.Laws.{bit_byte, bit_same, bit_other, bit_outside, length_put_bit}
 use Rattle.files.specs.Graph.{Graph, Node, Edge, node, no_edge}

@@ -2,7 +2,6 @@ use mathlib.Core.Path.{◌≡◌, sym, subst, ◌∙◌}
 use native.Mathlib.Omega.{arith}
 use Rattle.files.specs.Basics.Below.{none_on}
 use Rattle.files.specs.Decode.{decode_graph, decode_property}
-use Prim.Native.Nat.{◌-◌}
 use lib.Dec.{T}
 use Rattle.files.specs.Graph.{size}
 use Rattle.judging.specs.Ranking.Files.{size_is}
@@ -17,7 +16,7 @@ pub fails_at-requires : goal.fails_at-requires
 fails_at-requires c = (c.requires.0, (c.loop-g-test.true, (c.requires.1.0, c.requires.1.1)))
 
 pub returns-then-fails_at : goal.returns-then-fails_at
-returns-then-fails_at c = 
+returns-then-fails_at c =
     let a = c.args in
     let l = c.loop-g in
     sym (failing_at (decode_graph a.graph.now) (decode_property a.property.now) l.g (omega (arith, c.loop-g-test.true, size_is a.s a.graph.now a.property.now c.requires.0)) l.invariant.1 (subst T (sym (sym c.fails_at.ensures ∙ c.if-fails_at.true)) tt))
@@ -29,13 +28,13 @@ pub loop-g-smaller : goal.loop-g-smaller
 loop-g-smaller c = omega (arith, c.loop-g-test.true)
 
 pub loop-g-preserved : goal.loop-g-preserved
-loop-g-preserved c = 
+loop-g-preserved c =
     let a = c.args in
     let l = c.loop-g in
     (omega (arith, c.loop-g-test.true), none_on (fails_at (decode_graph a.graph.now) (decode_property a.property.now)) l.g l.invariant.1 (sym c.fails_at.ensures ∙ c.if-fails_at.false))
 
 pub returns : goal.returns
-returns c = 
+returns c =
     let a = c.args in
     let l = c.loop-g in
     let e : l.g ≡ size (decode_graph a.graph.now) = omega (arith, c.loop-g-test.false, l.invariant.0, size_is a.s a.graph.now a.property.now c.requires.0) in

@@ -3,7 +3,7 @@ use native.Mathlib.Omega.{arith}
 use Rattle.files.specs.Decode.{decode_graph, decode_property}
 use Rattle.files.specs.Property.{aims, box_row}
 use Rattle.judging.proofs.CauseLaws.{few_first, edges_start, edge_there, best_start, best_le, best_turn, best_end}
-use Prim.Native.Nat.{ℕ, ◌+◌, ◌-◌}
+use Prim.Native.Nat.{ℕ, ◌+◌}
 use Rattle.files.specs.Access.{first_edge}
 use Rattle.files.specs.Basics.First.{first_or}
 use Rattle.judging.specs.Ranking.Files.{size_is}
@@ -20,7 +20,7 @@ pub get16-j-requires : goal.get16-j-requires
 get16-j-requires c = omega (arith, c.requires.1.0, c.requires.0.held.few_nodes, c.requires.1.1.1.room)
 
 pub loop-j-init : goal.loop-j-init
-loop-j-init c = 
+loop-j-init c =
     let a = c.args in
     let n = size_is a.s a.graph.now a.property.now c.requires.0 in
     let e : c.get16-end.result ≡ first_edge (decode_graph a.graph.now) (a.g + 1) = c.get16-end.ensures ∙ c.requires.1.1.1.firsts (a.g + 1) (omega (arith, c.requires.1.0, n)) in
@@ -28,13 +28,13 @@ loop-j-init c =
     (omega (arith, d), omega (arith, d, e, edges_start a.s a.graph.now a.property.now c.requires.0 a.g (aims a.x.operator a.x.a) (box_row a.x.operator a.x.a a.x.b)), e, best_start a.s a.graph.now a.property.now c.requires.0 a.g (aims a.x.operator a.x.a) (box_row a.x.operator a.x.a a.x.b) ∙ ap (λ (i : ℕ). first_or (best_target (decode_graph a.graph.now) (decode_property a.property.now) a.g (aims a.x.operator a.x.a) (box_row a.x.operator a.x.a a.x.b) i) a.s.graph.nodes) (sym d))
 
 pub better-best-requires : goal.better-best-requires
-better-best-requires c = 
+better-best-requires c =
     let a = c.args in
     let l = c.loop-j in
     (c.requires.0, (c.requires.1.1.0, (best_le a.s a.graph.now a.property.now c.requires.0 a.g (aims a.x.operator a.x.a) (box_row a.x.operator a.x.a a.x.b) l.j l.best l.invariant.3 (omega (arith, l.invariant.1, l.invariant.2)), (edge_there a.s a.graph.now a.property.now c.requires.0 a.g (aims a.x.operator a.x.a) (box_row a.x.operator a.x.a a.x.b) l.j (omega (arith, c.loop-j-test.true, l.invariant.2)), c.requires.1.1.1))))
 
 pub overflow_add-j : goal.overflow_add-j
-overflow_add-j c = 
+overflow_add-j c =
     let a = c.args in
     let l = c.loop-j in
     omega (arith, c.loop-j-test.true, l.invariant.2, few_first a.s a.graph.now a.property.now c.requires.0 (a.g + 1))
@@ -43,13 +43,13 @@ pub loop-j-smaller : goal.loop-j-smaller
 loop-j-smaller c = omega (arith, c.loop-j-test.true)
 
 pub loop-j-preserved : goal.loop-j-preserved
-loop-j-preserved c = 
+loop-j-preserved c =
     let a = c.args in
     let l = c.loop-j in
     (omega (arith, l.invariant.0), omega (arith, c.loop-j-test.true), l.invariant.2, best_turn a.s a.graph.now a.property.now c.requires.0 a.g (aims a.x.operator a.x.a) (box_row a.x.operator a.x.a a.x.b) l.j l.best l.invariant.3 c.better-best.result l.invariant.0 (omega (arith, c.loop-j-test.true, l.invariant.2)) c.better-best.ensures)
 
 pub returns : goal.returns
-returns c = 
+returns c =
     let a = c.args in
     let l = c.loop-j in
     best_end a.s a.graph.now a.property.now c.requires.0 a.g (aims a.x.operator a.x.a) (box_row a.x.operator a.x.a a.x.b) l.j l.best l.invariant.3 (omega (arith, c.loop-j-test.false, l.invariant.1, l.invariant.2))

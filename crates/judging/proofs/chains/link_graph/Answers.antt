@@ -1,7 +1,6 @@
 use mathlib.Core.Path.{◌≡◌, refl, subst, ◌∙◌}
 use native.Mathlib.Omega.{arith}
 use Rattle.files.specs.Decode.{decode_graph}
-use Prim.Native.Nat.{◌-◌}
 use lib.ListN.{length}
 use Rattle.files.specs.Graph.{size}
 use Rattle.judging.specs.Chains.{Chained, into}
@@ -24,14 +23,14 @@ pub loop-e-smaller : goal.loop-e-smaller
 loop-e-smaller c = omega (arith, c.loop-e-test.true)
 
 pub loop-e-preserved : goal.loop-e-preserved
-loop-e-preserved c = 
+loop-e-preserved c =
     let a = c.args in
     let l = c.loop-e in
     let r = edge_on a.graph.now c.requires.0 a.nodes a.edges c.requires.1.0 c.requires.1.1.0 a.heads a.nexts c.requires.1.1.1.1.0 c.requires.1.1.1.0 l.work (omega (arith, l.invariant.1, c.requires.1.1.1.1.1.0)) l.e c.edge_target-to.result c.edge_target-to.ensures c.loop-e-test.true a.work.now _ l.invariant.2 l.invariant.3 c.link.ensures in
     (omega (arith, c.loop-e-test.true), c.link.auto.work ∙ l.invariant.1, r.0, r.1)
 
 pub returns : goal.returns
-returns c = 
+returns c =
     let a = c.args in
     let l = c.loop-e in
     let n : l.e ≡ length (decode_graph a.graph.now).edges = omega (arith, c.loop-e-test.false, l.invariant.0, edge_count a.graph.now c.requires.0 a.nodes a.edges c.requires.1.0 c.requires.1.1.0) in

@@ -2,7 +2,6 @@ use mathlib.Core.Path.{refl, ◌∙◌}
 use native.Mathlib.Omega.{arith}
 use Rattle.files.specs.Decode.{decode_graph}
 use Rattle.judging.proofs.CoverLaws.{line_on, line_end}
-use Prim.Native.Nat.{◌-◌}
 use Rattle.judging.specs.Refinement.Cover.{lines_none}
 use Rattle.judging.proofs.cover.write_relation.Goals as goal
 

@@ -3,7 +3,7 @@ use Rattle.judging.proofs.DecideLaws.{answers_clean}
 use Rattle.judging.proofs.decide.decide.Goals as goal
 
 pub fail-requires : goal.fail-requires
-fail-requires c = 
+fail-requires c =
     (c.requires.0, (omega (arith, c.find_ranks.auto.work, c.requires.1), (c.find_ranks.ensures, (c.first_failing-g.ensures, c.if-g-s.true))))
 
 pub returns : goal.returns

@@ -4,7 +4,7 @@ use Rattle.judging.proofs.SheetLaws.{listed_few}
 use Rattle.judging.proofs.decide.fail.Goals as goal
 
 pub walk-n-requires : goal.walk-n-requires
-walk-n-requires c = 
+walk-n-requires c =
     (c.requires.0, (still_settled c.first_edges.new.work c.clear.new.work c.first_edges.ensures.room c.clear.ensures c.args.s c.args.graph.now c.args.property.now c.requires.0 c.first_edges.ensures, (no_marks c.first_edges.new.work c.clear.new.work c.first_edges.ensures.room c.clear.ensures, (c.requires.1.1.1.0, not_satisfied c.args.s c.args.graph.now c.args.property.now c.requires.0 c.args.g c.requires.1.1.1.0 c.requires.1.1.1.1))))
 
 pub overflow_mul-n : goal.overflow_mul-n

@@ -27,13 +27,13 @@ pub get16-at-requires-in-loop-at : goal.get16-at-requires-in-loop-at
 get16-at-requires-in-loop-at c = let i = slot_item c.args.s c.args.first.now c.args.second.now c.requires.1.0 c.args.slot c.requires.1.1.0 c.loop-at.at _ c.loop-at.invariant.2 c.loop-at-test.true in omega (arith, i.0, c.requires.1.0.first_held.few_edges, c.drop_row.auto.work, c.loop-at.invariant.1.refining.room)
 
 pub loop-at-smaller : goal.loop-at-smaller
-loop-at-smaller c = 
+loop-at-smaller c =
     let l = c.loop-at in
     let r = source_dropped c.args.s c.args.first.now c.args.second.now c.requires.1.0 c.args.slot c.requires.1.1.0 c.args.work.now l.work c.drop_row.new.work c.args.gone.now l.at c.get16-at-in-loop-at.result c.source_of-u.result l.invariant.1 l.invariant.2 c.loop-at-test.true c.get16-at-in-loop-at.ensures c.source_of-u.ensures c.drop_row.ensures.0 c.drop_row.ensures.1 c.drop_row.auto.work c.requires.1.1.1.1 in
     slot_less c.args.s c.args.first.now c.args.second.now c.requires.1.0 c.args.slot c.requires.1.1.0 c.drop_row.new.work l.at c.get16-at-in-loop-at.result _ r.0.refining l.invariant.2 c.loop-at-test.true c.get16-at-in-loop-at.ensures
 
 pub loop-at-preserved : goal.loop-at-preserved
-loop-at-preserved c = 
+loop-at-preserved c =
     let l = c.loop-at in
     let r = source_dropped c.args.s c.args.first.now c.args.second.now c.requires.1.0 c.args.slot c.requires.1.1.0 c.args.work.now l.work c.drop_row.new.work c.args.gone.now l.at c.get16-at-in-loop-at.result c.source_of-u.result l.invariant.1 l.invariant.2 c.loop-at-test.true c.get16-at-in-loop-at.ensures c.source_of-u.ensures c.drop_row.ensures.0 c.drop_row.ensures.1 c.drop_row.auto.work c.requires.1.1.1.1 in
     (c.drop_row.auto.work ∙ l.invariant.0, r.0, r.1)

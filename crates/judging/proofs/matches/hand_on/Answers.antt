@@ -1,5 +1,4 @@
 use mathlib.Core.Path.{refl, ◌∙◌}
-use Prim.Native.Nat.{◌-◌}
 use native.Mathlib.Omega.{arith}
 use lib.ListN.{replicate}
 use Rattle.files.specs.Decode.{decode_graph}
@@ -27,7 +26,7 @@ pub loop-label-init : goal.loop-label-init
 loop-label-init c = (omega arith, refl, shrank_none (decode_graph c.args.first.now) (decode_graph c.args.second.now) c.args.work.now c.requires.1.1.1.0, λ l h. absurd (omega (arith, h)))
 
 pub hand_on_by-requires : goal.hand_on_by-requires
-hand_on_by-requires c = 
+hand_on_by-requires c =
     let l = c.loop-label in
     let q = c.nodes_near-near in
     let p = c.predecessors-met in
@@ -43,7 +42,7 @@ pub loop-label-smaller : goal.loop-label-smaller
 loop-label-smaller c = omega (arith, c.loop-label-test.true)
 
 pub loop-label-preserved : goal.loop-label-preserved
-loop-label-preserved c = 
+loop-label-preserved c =
     let l = c.loop-label in
     let p = c.hand_on_by in
     (omega (arith, c.loop-label-test.true), p.auto.work ∙ l.invariant.1, shrank_on (decode_graph c.args.first.now) (decode_graph c.args.second.now) c.args.work.now l.work p.new.work l.invariant.2 p.ensures.0, labels_kept c.args.s c.args.first.now c.args.second.now c.requires.1.0 l.work p.new.work c.args.v c.args.row.now l.label p.ensures.0 l.invariant.3 p.ensures.1)

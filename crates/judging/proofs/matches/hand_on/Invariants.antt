@@ -6,7 +6,7 @@ use Rattle.judging.specs.Refinement.{Shrank, LabelMatched}
 use Rattle.judging.proofs.matches.hand_on.Given as goal
 
 abbrev pub invariant-loop-label : goal.invariant-loop-label
-invariant-loop-label l = (l.label ≤ 9) × (length l.work ≡ length l.initial.work) × Shrank (decode_graph l.first) (decode_graph l.second) l.initial.work l.work × ((l : ℕ) → l < l.label → LabelMatched (decode_graph l.first) (decode_graph l.second) l.work l.v l l.row)
+invariant-loop-label loop = (loop.label ≤ 9) × (length loop.work ≡ length loop.initial.work) × Shrank (decode_graph loop.first) (decode_graph loop.second) loop.initial.work loop.work × ((l : ℕ) → l < loop.label → LabelMatched (decode_graph loop.first) (decode_graph loop.second) loop.work loop.v l loop.row)
 
 abbrev pub decreases-loop-label : goal.decreases-loop-label
 decreases-loop-label l = 9 - l.label

@@ -13,7 +13,7 @@ pub sift-requires : goal.sift-requires
 sift-requires c = ((c.requires.0.0, (omega (arith, c.common-asked.ensures.0), omega (arith, c.row_without-gone.ensures.0))), (c.requires.1.1.1.1.0.room, c.requires.1.1.1.0))
 
 pub returns-then-not-any_at : goal.returns-then-not-any_at
-returns-then-not-any_at c = 
+returns-then-not-any_at c =
     let a = c.related_to_sources-related in
     let p = c.common-found in
     let o = c.row_without-gone in
@@ -25,7 +25,7 @@ returns-then-not-any_at c =
     (z, label_done c.args.s c.args.first.now c.args.second.now c.requires.1.0 c.args.work.now c.requires.1.1.1.1.0 c.args.v c.args.label c.requires.1.1.0 c.requires.1.1.1.0 c.args.row.now p.result y.new.gone c.args.work.now c.requires.1.1.1.1.1.1 candidates sifted z (λ e h he t l u i. subst T (c.any_at.ensures.1 (subst T (sym c.if-not-any_at.true-raw) tt) h l) i))
 
 pub drop_from-requires : goal.drop_from-requires
-drop_from-requires c = 
+drop_from-requires c =
     let a = c.related_to_sources-related in
     let p = c.common-found in
     let o = c.row_without-gone in
@@ -36,7 +36,7 @@ drop_from-requires c =
     (omega (arith, y.auto.gone, o.ensures.0), (c.requires.1.0, (omega (arith, c.requires.1.1.0, c.requires.1.1.1.0), (c.requires.1.1.1.1.0, may_drop c.args.s c.args.first.now c.args.second.now c.requires.1.0 c.args.work.now c.requires.1.1.1.1.0 c.args.v c.args.label c.requires.1.1.0 c.requires.1.1.1.0 c.args.row.now p.result y.new.gone c.requires.1.1.1.1.1.1 sifted))))
 
 pub returns : goal.returns
-returns c = 
+returns c =
     let a = c.related_to_sources-related in
     let p = c.common-found in
     let o = c.row_without-gone in

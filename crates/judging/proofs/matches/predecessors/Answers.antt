@@ -1,5 +1,5 @@
 use mathlib.Core.Path.{◌≡◌, refl, subst}
-use Prim.Native.Nat.{◌+◌, ◌*◌, ◌-◌}
+use Prim.Native.Nat.{◌+◌, ◌*◌}
 use native.Mathlib.Omega.{arith}
 use lib.ListN.{replicate}
 use Rattle.files.specs.Places.{line_bytes}
@@ -20,14 +20,14 @@ pub loop-k-smaller : goal.loop-k-smaller
 loop-k-smaller c = omega (arith, c.loop-k-test.true)
 
 pub loop-k-preserved : goal.loop-k-preserved
-loop-k-preserved c = 
+loop-k-preserved c =
     let l = c.loop-k in
     let p = c.with_predecessors-met in
     let e : 32 * l.k + 32 ≡ 32 * (l.k + 1) = omega arith in
     (omega (arith, c.loop-k-test.true), p.ensures.0, subst (Preceded c.args.work.now c.args.nodes.now (replicate line_bytes 0) p.result 0) e (preceded_on c.args.work.now c.args.nodes.now (replicate line_bytes 0) l.met p.result 0 (32 * l.k) (32 * l.k + 32) l.invariant.2 p.ensures.1))
 
 pub returns : goal.returns
-returns c = 
+returns c =
     let l = c.loop-k in
     let e : 32 * l.k ≡ 256 = omega (arith, c.loop-k-test.false, l.invariant.0) in
     (l.invariant.1, subst (Preceded c.args.work.now c.args.nodes.now (replicate line_bytes 0) l.met 0) e l.invariant.2)

@@ -28,7 +28,7 @@ pub loop-at-smaller : goal.loop-at-smaller
 loop-at-smaller c = let l = c.loop-at in slot_less c.args.s c.args.first.now c.args.second.now c.requires.0 c.args.slot c.requires.1.0 c.args.work.now l.at c.get16-at-in-loop-at.result _ c.requires.1.1 l.invariant.2 c.loop-at-test.true c.get16-at-in-loop-at.ensures
 
 pub loop-at-preserved : goal.loop-at-preserved
-loop-at-preserved c = 
+loop-at-preserved c =
     let l = c.loop-at in
     let u = c.source_of-u in
     let p = c.row_with-found in

@@ -30,7 +30,7 @@ pub loop-rest-smaller : goal.loop-rest-smaller
 loop-rest-smaller c = let l = c.loop-rest in omega (arith, and_le_r l.rest (l.rest - 1), c.loop-rest-test.true)
 
 pub loop-rest-preserved : goal.loop-rest-preserved
-loop-rest-preserved c = 
+loop-rest-preserved c =
     let l = c.loop-rest in
     let p = c.sift_at in
     (p.auto.gone ∙ l.invariant.0, sifting_turn c.args.work.now c.args.label c.args.row.now c.args.found.now c.args.k c.args.gone.now l.gone p.new.gone l.rest _ _ c.requires.1.1.1 c.loop-rest-test.true refl refl p.ensures l.invariant.1)

@@ -1,5 +1,4 @@
 use mathlib.Core.Path.{◌≡◌}
-use Prim.Native.Nat.{◌-◌}
 use lib.ListN.{length}
 use Rattle.judging.proofs.MatchLaws.{Sifting}
 use Rattle.judging.proofs.matches.sift_word.Given as goal

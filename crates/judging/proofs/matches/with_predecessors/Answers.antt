@@ -42,7 +42,7 @@ pub loop-rest-smaller : goal.loop-rest-smaller
 loop-rest-smaller c = let l = c.loop-rest in omega (arith, and_le_r l.rest (l.rest - 1), c.loop-rest-test.true)
 
 pub loop-rest-preserved : goal.loop-rest-preserved
-loop-rest-preserved c = 
+loop-rest-preserved c =
     let l = c.loop-rest in
     let p = c.row_with-met in
     let r = before_turn c.args.work.now c.args.nodes.now c.args.k c.args.row.now l.met p.result l.rest _ _ c.loop-rest-test.true refl refl p.ensures.1 l.invariant.1 l.invariant.2 in

@@ -25,7 +25,7 @@ pub loop-left-smaller : goal.loop-left-smaller
 loop-left-smaller c = omega (arith, c.loop-left-test.true)
 
 pub loop-left-preserved : goal.loop-left-preserved
-loop-left-preserved c = 
+loop-left-preserved c =
     let l = c.loop-left in
     let p = c.put16 in
     let b = first_edge_in c.args.s c.args.first.now c.args.second.now c.requires.0 (l.left - 1) (omega (arith, c.loop-left-test.true, l.invariant.1)) in

@@ -1,6 +1,5 @@
 use Rattle.judging.proofs.OrderLaws.{outside_on}
 use mathlib.Core.Path.{refl, ◌∙◌}
-use Prim.Native.Nat.{◌-◌}
 use native.Mathlib.Omega.{arith}
 use Rattle.judging.specs.Places.{cursors_base, neighbours_base}
 use Rattle.judging.proofs.order.put_in_order.Goals as goal

@@ -23,7 +23,7 @@ pub put8-requires : goal.put8-requires
 put8-requires c = omega (arith, (ap (λ (z : GraphEdge). z.to) c.edge_at-x.ensures), (first_edge_in c.args.s c.args.first.now c.args.second.now c.requires.0 c.get16-e.result (omega (arith, c.if-s-e.false))).1, c.requires.0.first_held.few_nodes, c.put16.auto.work, c.put_bit.auto.work, c.requires.1.1)
 
 pub returns : goal.returns
-returns c = 
+returns c =
     let to_low : c.edge_at-x.result.to < c.args.s.first.nodes = omega (arith, (ap (λ (z : GraphEdge). z.to) c.edge_at-x.ensures), (first_edge_in c.args.s c.args.first.now c.args.second.now c.requires.0 c.get16-e.result (omega (arith, c.if-s-e.false))).1) in (
       to_low,
       outside_on cursors_base neighbours_base c.args.work.now c.put16.new.work c.put8.new.work (pair_put c.args.work.now c.put16.new.work cursors_base c.args.w.node _ cursors_base neighbours_base c.put16.ensures (omega arith) (omega (arith, c.requires.1.0, c.requires.0.first_held.few_nodes)))

@@ -1,5 +1,4 @@
 use mathlib.Core.Path.{refl, ◌∙◌}
-use Prim.Native.Nat.{◌-◌}
 use native.Mathlib.Omega.{arith}
 use Rattle.files.specs.Decode.{decode_graph}
 use Rattle.judging.specs.Refinement.Handing.{shrank_none, shrank_on}
@@ -19,7 +18,7 @@ pub loop-label-smaller : goal.loop-label-smaller
 loop-label-smaller c = omega (arith, c.loop-label-test.true)
 
 pub loop-label-preserved : goal.loop-label-preserved
-loop-label-preserved c = 
+loop-label-preserved c =
     let l = c.loop-label in
     let p = c.drop_lacking_by in
     (omega (arith, c.loop-label-test.true), p.auto.work ∙ l.invariant.1, shrank_on (decode_graph c.args.first.now) (decode_graph c.args.second.now) c.args.work.now l.work p.new.work l.invariant.2 p.ensures.0, leadings_kept c.args.s c.args.first.now c.args.second.now c.requires.0 l.work p.new.work l.label p.ensures.0 l.invariant.3 p.ensures.1)

@@ -6,7 +6,7 @@ use Rattle.judging.specs.Refinement.{Shrank, Leading}
 use Rattle.judging.proofs.refine.drop_lacking.Given as goal
 
 abbrev pub invariant-loop-label : goal.invariant-loop-label
-invariant-loop-label l = (l.label ≤ 9) × (length l.work ≡ length l.initial.work) × Shrank (decode_graph l.first) (decode_graph l.second) l.initial.work l.work × ((l : ℕ) → l < l.label → Leading (decode_graph l.first) (decode_graph l.second) l.work l)
+invariant-loop-label l = (l.label ≤ 9) × (length l.work ≡ length l.initial.work) × Shrank (decode_graph l.first) (decode_graph l.second) l.initial.work l.work × ((k : ℕ) → k < l.label → Leading (decode_graph l.first) (decode_graph l.second) l.work k)
 
 abbrev pub decreases-loop-label : goal.decreases-loop-label
 decreases-loop-label l = 9 - l.label

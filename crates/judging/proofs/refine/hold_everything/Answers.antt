@@ -1,5 +1,4 @@
 use mathlib.Core.Path.{◌≡◌, refl, ◌∙◌}
-use Prim.Native.Nat.{◌-◌}
 use native.Mathlib.Omega.{arith}
 use Rattle.judging.proofs.MatchLaws.{held_turn}
 use Rattle.judging.proofs.refine.hold_everything.Goals as goal
@@ -14,7 +13,7 @@ pub put_row-requires : goal.put_row-requires
 put_row-requires c = (omega (arith, c.loop-v-test.true, c.requires.0.first_held.few_nodes, c.loop-v.invariant.1, c.requires.1), omega (arith, c.everything-row.ensures.0))
 
 pub loop-v-preserved : goal.loop-v-preserved
-loop-v-preserved c = 
+loop-v-preserved c =
     let l = c.loop-v in
     let p = c.put_row in
     let r = held_turn c.args.work.now l.work p.new.work c.everything-row.result c.args.s.second.nodes l.v (omega (arith, c.loop-v-test.true, c.requires.0.first_held.few_nodes)) c.everything-row.ensures.1 p.ensures.0 p.ensures.1 l.invariant.2 l.invariant.3 in

@@ -1,4 +1,3 @@
-use Prim.Native.Nat.{◌-◌}
 use Rattle.judging.proofs.MatchLaws.{ordered, held_beside, matched_first}
 use Rattle.judging.proofs.refine.refine.Goals as goal
 

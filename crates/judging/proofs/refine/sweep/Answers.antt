@@ -1,5 +1,4 @@
 use mathlib.Core.Path.{refl, ◌∙◌}
-use Prim.Native.Nat.{◌-◌}
 use native.Mathlib.Omega.{arith}
 use Rattle.judging.specs.Refinement.{load}
 use native.Mathlib.Nat.{le_refl, le_trans}

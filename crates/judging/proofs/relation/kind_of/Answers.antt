@@ -1,4 +1,3 @@
-use Prim.Native.Nat.{◌-◌}
 use Rattle.judging.proofs.RelationLaws.{kind_returns, kind_goes_on}
 use Rattle.judging.proofs.relation.kind_of.Goals as goal
 

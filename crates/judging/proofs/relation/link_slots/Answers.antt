@@ -1,5 +1,5 @@
 use mathlib.Core.Path.{◌≡◌, refl, subst, ◌∙◌}
-use Prim.Native.Nat.{◌*◌, ◌-◌}
+use Prim.Native.Nat.{◌*◌}
 use native.Mathlib.Omega.{arith}
 use Rattle.files.specs.Decode.{decode_graph}
 use Rattle.judging.specs.Chains.{Chained}
@@ -24,7 +24,7 @@ pub loop-e-smaller : goal.loop-e-smaller
 loop-e-smaller c = omega (arith, c.loop-e-test.true)
 
 pub loop-e-preserved : goal.loop-e-preserved
-loop-e-preserved c = 
+loop-e-preserved c =
     let l = c.loop-e in
     let p = c.link in
     let r = slots_turn c.args.s c.args.first.now c.args.second.now c.requires.0 c.args.work.now l.work p.new.work l.e c.slot_of-slot.result c.loop-e-test.true (omega (arith, l.invariant.1, c.requires.1.0)) c.slot_of-slot.ensures l.invariant.2 l.invariant.3 p.ensures in

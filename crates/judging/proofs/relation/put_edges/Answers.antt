@@ -1,5 +1,4 @@
 use mathlib.Core.Path.{refl, ◌∙◌}
-use Prim.Native.Nat.{◌-◌}
 use native.Mathlib.Omega.{arith}
 use Rattle.judging.proofs.RelationLaws.{putting_start, putting_turn, putting_all}
 use Rattle.judging.proofs.relation.put_edges.Goals as goal
@@ -17,7 +16,7 @@ pub loop-j-smaller : goal.loop-j-smaller
 loop-j-smaller c = omega (arith, c.loop-j-test.true)
 
 pub loop-j-preserved : goal.loop-j-preserved
-loop-j-preserved c = 
+loop-j-preserved c =
     let l = c.loop-j in
     let p = c.put_edge in
     let r = putting_turn c.args.s c.args.first.now c.args.second.now c.requires.0 c.args.work.now l.work p.new.work l.j c.loop-j-test.true (omega (arith, l.invariant.1, c.requires.1.0)) l.invariant.2 l.invariant.3 p.ensures in

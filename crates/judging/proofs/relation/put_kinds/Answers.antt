@@ -1,5 +1,5 @@
 use mathlib.Core.Path.{◌≡◌, refl, subst, ◌∙◌}
-use Prim.Native.Nat.{ℕ, ◌-◌}
+use Prim.Native.Nat.{ℕ}
 use native.Mathlib.Omega.{arith}
 use Rattle.files.specs.Decode.{decode_graph}
 use Rattle.judging.specs.Refinement.{KindRows}
@@ -28,7 +28,7 @@ pub loop-h-smaller : goal.loop-h-smaller
 loop-h-smaller c = omega (arith, c.loop-h-test.true)
 
 pub loop-h-preserved : goal.loop-h-preserved
-loop-h-preserved c = 
+loop-h-preserved c =
     let l = c.loop-h in
     let p = c.put_bit in
     let r = kinds_turn c.args.s c.args.first.now c.args.second.now c.requires.0 c.args.work.now l.work p.new.work l.h c.kind_of-k.result c.loop-h-test.true (omega (arith, l.invariant.1, c.requires.1.0)) c.kind_of-k.ensures p.ensures l.invariant.2 l.invariant.3 in

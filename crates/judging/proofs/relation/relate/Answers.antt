@@ -1,5 +1,4 @@
 use mathlib.Core.Path.{◌≡◌, refl, ◌∙◌}
-use Prim.Native.Nat.{◌-◌}
 use native.Mathlib.Omega.{arith}
 use Rattle.judging.proofs.RelationLaws.{related_turn}
 use Rattle.judging.proofs.relation.relate.Goals as goal
@@ -35,7 +34,7 @@ pub loop-g-smaller : goal.loop-g-smaller
 loop-g-smaller c = omega (arith, c.loop-g-test.true)
 
 pub loop-g-preserved : goal.loop-g-preserved
-loop-g-preserved c = 
+loop-g-preserved c =
     let l = c.loop-g in
     let p = c.put_row in
     let r = related_turn c.args.s c.args.first.now c.args.second.now c.requires.0 c.args.work.now l.work p.new.work c.row_at-row.result l.g c.kind_of-k.result c.loop-g-test.true c.requires.1.1 l.invariant.3 l.invariant.2 c.kind_of-k.ensures c.row_at-row.ensures.1 p.ensures.0 p.ensures.1 in

@@ -29,15 +29,14 @@ second-told y =
 
 pub visit-tail-requires : goal.visit-tail-requires
 visit-tail-requires c =
-    (c.requires.0, (c.requires.1.1.1, first-told (goal.at.visit-tail-requires c).After-visit-arg-1))
+    (c.requires.0, (c.requires.1.1.1, first-told (goal.at.visit-tail-requires c).After-causes_of-c))
 
 pub visit-requires : goal.visit-requires
 visit-requires c =
-    (c.requires.0, (c.visit-tail.ensures.0, second-told (goal.at.visit-requires c).After-visit-arg-2-1))
+    (c.requires.0, (c.visit-tail.ensures.0, second-told (goal.at.visit-requires c).After-causes_of-c))
 
 pub returns : goal.returns
 returns c =
-    
     let a = c.args in
     let v = c.visit-tail in
     let w = c.visit in

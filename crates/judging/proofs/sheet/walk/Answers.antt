@@ -4,7 +4,6 @@ use Rattle.files.specs.Decode.{decode_graph, decode_property}
 use Rattle.judging.proofs.SheetLaws.{nothing_listed, start_in, first_turn, next_turn, listed_few, place_in}
 use Rattle.judging.specs.Sheets.Walk.{walk_all}
 use mathlib.Core.Logic.{inr}
-use Prim.Native.Nat.{◌-◌}
 use Rattle.judging.proofs.sheet.walk.Goals as goal
 
 pub visit-tail-requires : goal.visit-tail-requires
