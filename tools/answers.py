@@ -281,6 +281,7 @@ class Function:
 
     def lemma(self, block):
         """A lemma of the file over one place of the code."""
+        block = re.sub(r"(tie\.[^\s()]+)(?: (?:invariant|decreases)-[^\s()]+)+", r"\1", block)
         found = re.findall(r"\((\S+) : tie\.(\S+?)\)", block)
         if not found:
             m = re.search(r": tie\.(\S+) →[\s\S]*?\n(\S+) (\S+)", block)

@@ -1,5 +1,6 @@
 // The maximal model of a property: the public call.
 #![tactic(auto)]
+
 ghost use Rattle.files.specs.Limits.{desk};
 ghost use Rattle.files.specs.Outcome.{Does};
 ghost use Rattle.std.specs.Prelude.{length};

@@ -10,7 +10,7 @@ use Rattle.files.specs.Property.{Row, Property}
 use Rattle.maximal.specs.Collected.{or_count, supports_of}
 use Rattle.maximal.specs.Charting.{flag_of, kind_at, set_at, state_of, stored, target, Admitted, Followed, Charting, Asking}
 use Rattle.maximal.specs.Charting.States.{kind_of, state_of_is, next_is, next_collected}
-use Rattle.maximal.specs.Masks.{rows, asked_of}
+use Rattle.maximal.specs.Masks.{asked_of}
 use Rattle.maximal.specs.Masks.Laws.{value_lt}
 use Rattle.maximal.specs.Model.{State, Entry, Next, is_entry, is_next}
 use Rattle.maximal.specs.Charting.Entering.{still_there, method_kept, asked_kept, followed_kept, entry_bits_kept}

@@ -12,7 +12,7 @@ use Rattle.maximal.specs.Collected.{or_count, supports_of}
 use Rattle.maximal.specs.Charting.{flag_of, kind_at, set_at, state_of, stored, method_at, asked_at, target, Followed, Charting, Asking, Charted}
 use Rattle.maximal.specs.Charting.Kept.{off, holds_same, stored_same, tested_same, there_same, followed_same, row_kinds, row_sets, row_methods, row_asked, row_others}
 use Rattle.maximal.specs.Charting.States.{kind_of, state_of_is, next_is}
-use Rattle.maximal.specs.Masks.{member, rows, asked_of}
+use Rattle.maximal.specs.Masks.{member, asked_of}
 use Rattle.maximal.specs.Masks.Laws.{value_lt}
 use Rattle.maximal.specs.Model.{State, Next, Reached, at_entry, at_next, is_entry, is_label, is_next}
 use Rattle.maximal.specs.Model.Computed.{next_e, next_i, label_i}

@@ -1,7 +1,7 @@
 use mathlib.Core.Path.{◌≡◌, refl, sym, ap, subst, ◌∙◌}
 use mathlib.Core.Bool.{Bool, not}
 use mathlib.Core.List.{List}
-use Prim.Native.Nat.{ℕ, ◌+◌, ◌-◌}
+use Prim.Native.Nat.{ℕ, ◌+◌}
 use native.Mathlib.Omega.{arith}
 use lib.ListN.{length}
 use Rattle.files.specs.Basics.Lists.{keep}
@@ -39,15 +39,18 @@ loop-i-preserved c =
     let g = c.get32-u in
     let i = c.is_within in
     let p : ℕ → Bool = λ u. not (within a.s u) in
-    elim c.if-not-is_within.branch [ then-not-is_within w ↦ (
-      omega arith,
-      ap length w.work-is ∙ w.put32.auto.work ∙ l.invariant.1,
-      subst (Kept p a.work.now c.if-not-is_within.work (l.i + 1)) (sym w.work-is) (kept_with p a.work.now l.work l.i l.left g.result l.invariant.2 g.ensures c.if-not-is_within.work (omega arith) (omega (arith, l.invariant.1)) (omega arith) (w.work-is ∙ w.put32.ensures) (ap not (sym i.ensures) ∙ w.if-not-is_within.true)),
-    ) | else-not-is_within w ↦ (
-      omega arith,
-      ap length w.work-is ∙ l.invariant.1,
-      subst (λ (w : List ℕ). Kept p a.work.now w (l.i + 1) c.if-not-is_within.false) (sym w.work-is) (subst (Kept p a.work.now l.work (l.i + 1)) (sym w.work-is) (kept_without p a.work.now l.work l.i l.left g.result l.invariant.2 g.ensures (ap not (sym i.ensures) ∙ w.if-not-is_within.false))),
-    ) ]
+    elim c.if-not-is_within.branch [
+      | then-not-is_within w ↦ (
+        omega arith,
+        ap length w.work-is ∙ w.put32.auto.work ∙ l.invariant.1,
+        subst (Kept p a.work.now c.if-not-is_within.work (l.i + 1)) (sym w.left-is) (kept_with p a.work.now l.work l.i l.left g.result l.invariant.2 g.ensures c.if-not-is_within.work (omega arith) (omega (arith, l.invariant.1)) (omega arith) (w.work-is ∙ w.put32.ensures) (ap not (sym i.ensures ∙ w.if-not-is_within.true))),
+      )
+      | else-not-is_within w ↦ (
+        omega arith,
+        ap length w.work-is ∙ l.invariant.1,
+        subst (λ (w : List ℕ). Kept p a.work.now w (l.i + 1) c.if-not-is_within.left) (sym w.work-is) (subst (Kept p a.work.now l.work (l.i + 1)) (sym w.left-is) (kept_without p a.work.now l.work l.i l.left g.result l.invariant.2 g.ensures (ap not (sym i.ensures ∙ w.if-not-is_within.false)))),
+      )
+    ]
 
 pub returns : goal.returns
 returns c =

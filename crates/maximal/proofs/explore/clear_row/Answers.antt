@@ -1,5 +1,5 @@
 use mathlib.Core.Path.{refl, ◌∙◌}
-use Prim.Native.Nat.{ℕ, ◌-◌}
+use Prim.Native.Nat.{ℕ}
 use native.Mathlib.Omega.{arith}
 use Rattle.maximal.proofs.SlotLaws.{filled_on, cleared_all}
 use Rattle.maximal.proofs.explore.clear_row.Goals as goal

@@ -1,5 +1,4 @@
 use mathlib.Core.Path.{refl, ◌∙◌}
-use Prim.Native.Nat.{◌-◌}
 use native.Mathlib.Omega.{arith}
 use Rattle.maximal.proofs.SlotLaws.{row_bytes, filled_on, copied_byte, copied_all}
 use Rattle.maximal.proofs.explore.copy_row.Goals as goal

@@ -1,12 +1,12 @@
 use mathlib.Core.Path.{◌≡◌, sym, subst, subst₂}
-use Prim.Native.Nat.{ℕ, ◌+◌, ◌-◌}
+use Prim.Native.Nat.{ℕ, ◌+◌}
 use native.Mathlib.Omega.{arith}
 use lib.ListN.{length}
 use Rattle.files.specs.Decode.{decode_interface, decode_property}
 use Rattle.maximal.specs.Charting.Entries.{EntriesBelow, entries_all}
 use Rattle.maximal.proofs.EntryLaws.{KindsEntered, kinds_none, root_fits, entry_known, kinds_with, kinds_without}
 use Rattle.maximal.proofs.explore.enter_entries.Goals as goal
-use Rattle.maximal.proofs.explore.enter_entries.Goals.{else-provides, then-provides}
+use Rattle.maximal.proofs.explore.enter_entries.Goals.{else-provides, then-provides+else-s-c}
 
 pub clear_row-requires : goal.clear_row-requires
 clear_row-requires c = (omega arith, c.requires.1.1.0)
@@ -63,8 +63,11 @@ loop-kind-preserved c =
     let x = c.provides in
     let long = length c.clear_row.new.work in (
       omega (arith, c.loop-kind-test.true),
-      elim c.if-provides.branch [ then-provides w ↦ subst₂ (KindsEntered a.s (decode_interface a.interface.now) (decode_property a.property.now) long (l.kind + 1)) (sym w.work-is) (sym w.work-is)
-          (kinds_with a.s (decode_interface a.interface.now) a.property.now c.requires.1.0 l.kind x.result x.ensures long l.c l.work l.invariant.1 w.if-provides.true w.admit-c.result w.admit-c.new.work w.admit-c.auto.work (omega (arith, u.6.left)) w.admit-c.ensures.0) | else-provides w ↦ subst₂ (KindsEntered a.s (decode_interface a.interface.now) (decode_property a.property.now) long (l.kind + 1)) (sym w.work-is) (sym w.work-is) (kinds_without a.s (decode_interface a.interface.now) a.property.now c.requires.1.0 l.kind x.result x.ensures long l.c l.work l.invariant.1 w.if-provides.false) ],
+      elim c.if-provides.branch [
+        | then-provides+else-s-c w ↦ subst₂ (KindsEntered a.s (decode_interface a.interface.now) (decode_property a.property.now) long (l.kind + 1)) (sym w.c-is) (sym w.work-is)
+            (kinds_with a.s (decode_interface a.interface.now) a.property.now c.requires.1.0 l.kind x.result x.ensures long l.c l.work l.invariant.1 w.if-provides.true w.admit-c.result w.admit-c.new.work w.admit-c.auto.work (omega (arith, w.if-s-c.false)) w.admit-c.ensures.0)
+        | else-provides w ↦ subst₂ (KindsEntered a.s (decode_interface a.interface.now) (decode_property a.property.now) long (l.kind + 1)) (sym w.c-is) (sym w.work-is) (kinds_without a.s (decode_interface a.interface.now) a.property.now c.requires.1.0 l.kind x.result x.ensures long l.c l.work l.invariant.1 w.if-provides.false)
+      ],
     )
 
 pub returns : goal.returns

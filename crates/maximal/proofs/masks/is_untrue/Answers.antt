@@ -5,5 +5,4 @@ use Rattle.maximal.proofs.masks.is_untrue.Goals as goal
 
 pub returns : goal.returns
 returns c =
-    
     untrue_read _ (row (decode_property c.args.property.now) c.args.r) c.row_at-x.ensures c.args.method c.args.flag

@@ -9,7 +9,6 @@ use Rattle.maximal.proofs.masks.obliged_rows.Goals as goal
 
 pub one_row-requires : goal.one_row-requires
 one_row-requires c =
-    
     let a = c.args in
     let on = c.obliged-on in
     let below = looked_below a.property.now c.requires.0 a.n c.requires.1.0 a.r c.requires.1.1.1 in

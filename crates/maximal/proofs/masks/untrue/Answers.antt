@@ -1,5 +1,4 @@
 use mathlib.Core.Path.{◌≡◌, refl, sym, ◌∙◌}
-use Prim.Native.Nat.{◌-◌}
 use native.Mathlib.Omega.{arith}
 use lib.ListN.{length}
 use Rattle.files.specs.Decode.{decode_property}
@@ -30,7 +29,7 @@ loop-r-preserved c =
     let i = c.is_untrue in
     let v = untrue_row (decode_property a.property.now) a.method a.flag in (
       omega arith,
-      elim c.if-is_untrue.branch [ then-is_untrue w ↦ w.r-is ∙ mask_with v l.r l.set w.one_row-set.result l.invariant.1 w.one_row-set.ensures (sym i.ensures ∙ w.if-is_untrue.true) | else-is_untrue w ↦ w.r-is ∙ mask_without v l.r l.set l.invariant.1 (sym i.ensures ∙ w.if-is_untrue.false) ],
+      elim c.if-is_untrue.branch [ then-is_untrue w ↦ w.set-is ∙ mask_with v l.r l.set w.one_row-set.result l.invariant.1 w.one_row-set.ensures (sym i.ensures ∙ w.if-is_untrue.true) | else-is_untrue w ↦ w.set-is ∙ mask_without v l.r l.set l.invariant.1 (sym i.ensures ∙ w.if-is_untrue.false) ],
     )
 
 pub returns : goal.returns

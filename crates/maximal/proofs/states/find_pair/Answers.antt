@@ -1,4 +1,3 @@
-use Prim.Native.Nat.{◌-◌}
 use native.Mathlib.Omega.{arith}
 use Rattle.maximal.specs.Charting.{is_pair}
 use Rattle.maximal.proofs.StateLaws.{none_of_four}

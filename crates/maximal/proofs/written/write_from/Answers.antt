@@ -1,5 +1,5 @@
 use mathlib.Core.Path.{◌≡◌, subst}
-use Prim.Native.Nat.{ℕ, ◌-◌}
+use Prim.Native.Nat.{ℕ}
 use native.Mathlib.Omega.{arith}
 use Rattle.maximal.specs.Listing.{from_bytes}
 use Rattle.files.specs.Cells.Wrote.{Wrote, wrote_none}
