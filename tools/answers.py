@@ -263,10 +263,12 @@ class Function:
                 calls = self.calls_in(old, kind)
                 body = re.sub(rf"(?<![\w.]){u}\.0\.(taken|left|true|false)(?![\w'-])", f"w.{new}.{test}", body)
 
+                used = sorted({int(x) for x in re.findall(rf"(?<![\w.]){u}\.(\d+)\.(?:kept|auto|last|new|ensures|result)", body)})
+
                 def call(m):
-                    if len(calls) != 1:
+                    if len(calls) != 1 and len(calls) != len(used):
                         raise Left(f"branch with {len(calls)} calls")
-                    step, callee = calls[0]
+                    step, callee = calls[0] if len(calls) == 1 else calls[used.index(int(m.group(0).split(".")[1]))]
                     if m.group(1) in ("kept", "auto", "last", "new"):
                         k, more = self.nested(re.findall(r"\.([01])(?=\.|$)", m.group(2)) or m.group(2).strip(".").split("."))
                         return f"w.{step}.{'auto' if m.group(1) in ('kept', 'auto') else 'new'}.{self.param(callee, k)}" + "".join("." + x for x in more)
@@ -335,6 +337,8 @@ def turn(crate, path, of, params, folder):
         elif l == "":
             if cur:
                 blocks.append("\n".join(cur)); cur = []
+        elif l.startswith(" ") and not cur and blocks and "module _" in blocks[-1]:
+            cur = [blocks.pop(), "", l]
         else:
             cur.append(l)
     if cur:
@@ -373,9 +377,9 @@ def turn(crate, path, of, params, folder):
             continue
         m = NEED.match(b)
         if m:
-            comment, _, need, unfolding, args, body = m.groups()
+            comment, name, need, unfolding, args, body = m.groups()
             key = norm(need)
-            cands = [key, re.sub("^overflow-", "", key), re.sub("^(overflow|slice)-", "", key), re.sub("^slice-bounds-", "part-", key)]
+            cands = [key, norm(name), re.sub("^overflow-", "", key), re.sub("^(overflow|slice)-", "", key), re.sub("^slice-bounds-", "part-", key)]
             hit = next((old[k] for k in cands if k in old), None)
             if hit is None:
                 raise Left(f"need {need} of {[o for o, _ in of['needs']]}")
@@ -390,7 +394,7 @@ def turn(crate, path, of, params, folder):
             answers.append(f"{comment}pub {goal} : goal.{goal}\n{unfolding}{goal} {' '.join(['c'] + more)} ={new}")
             used_goals.add(goal)
             continue
-        local.append(fn.lemma(b) if "tie." in b or "module _" in b else b)
+        local.append(fn.lemma(b) if "tie." in b else b)
     proofs = f"Rattle.{crate}.proofs.{path}"
 
     def imports(body):

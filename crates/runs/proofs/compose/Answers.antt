@@ -14,5 +14,5 @@ returns c =
     let a = c.args in
     let j = c.compose_within in
     let d = c.desk in
-    both_desk (λ (M : Limits). composed M a.known-interface.now a.known-graph.now a.other-interface.now a.property.now a.rules.now a.start
+    both_desk (λ (M : Limits). composed M a.known_interface.now a.known_graph.now a.other_interface.now a.property.now a.rules.now a.start
     (length a.out.now) (length a.store.now) (length a.work.now)) d.result d.ensures j.ensures

@@ -2,7 +2,7 @@
 -- 6, in composed verdicts only: judging, comparing, modelling and watching speak of conforming graphs.
 use Rattle.std.specs.Prelude.{◌≡◌, refl, ◌⊎◌, ◌↔◌, Bool, true, false, not, cond, ◌||◌, List, [], ℕ, T}
 use Rattle.std.proofs.Common.{sym, ap, subst, ◌∙◌, inl, inr, arith}
-use Rattle.std.proofs.Math.Logic.{Iff·trans}
+use Rattle.std.proofs.Math.Logic.Iff
 use Rattle.std.proofs.Math.Decide.{ℕ_discrete}
 use Rattle.files.specs.Basics.Tests.{decide, or_e, or_l, or_r, not_or}
 use Rattle.files.specs.Graph.{Graph, EntryOf}
@@ -11,7 +11,7 @@ use Rattle.files.specs.Join.{join}
 use Rattle.files.specs.Outcome.{Said}
 use Rattle.files.specs.Property.{Row, Property}
 use Rattle.files.specs.Rules.{Monitor}
-use Rattle.files.specs.Sides.{lacks_entry, Entered}
+use Rattle.files.specs.Sides.{lacks_entry}
 use Rattle.files.specs.Sides.Entries.{says_lacks_entry, entered_i}
 use Rattle.maximal.specs.Model.{model}
 use Rattle.maximal.specs.Modelling.Laws.{model_simulates_iff}
@@ -138,8 +138,8 @@ module _ (A B : Side) (sa : Sound A) (sb : Sound B) (mon : Monitor) (m : ℕ)
       let bad = bad_of_loaded A B sa sb t mon m in
       record {
         impossible_is = (λ q. absurd (watch_no_third (join (gives A) (gives B)) mon m s e q), λ x. absurd (apart (impossible A || impossible B) ((impossible_of_sides A B sa sb).1 x) t));
-        clean_is = Iff·trans w.clean_iff clean;
-        bad_is = Iff·trans w.bad_iff bad;
+        clean_is = Iff.trans w.clean_iff clean;
+        bad_is = Iff.trans w.bad_iff bad;
         clean_without_entries = λ q. (clean_of_sides A B sa sb mon m).0 (w.clean_iff.0 q);
         given_loads = λ q. given A B sa sb t mon m;
         impossible_writes = λ q. absurd (watch_no_third (join (gives A) (gives B)) mon m s e q);

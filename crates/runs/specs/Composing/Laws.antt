@@ -14,7 +14,7 @@ use Rattle.files.specs.Interface.Laws.{labelled_small}
 use Rattle.files.specs.Outcome.{Said, refuses, says, refusal_at, line, whole_line, file_lines, out_line, NoneOf, FirstOf, Matches, NoStart, TooLarge, answered}
 use Rattle.files.specs.Outcome.Calls as calls
 use Rattle.files.specs.Outcome.Laws.{whole_match, scan_match, files_match, out_match, refused_by, accepted_by, verdict_is, file_accepted, whole_none, says_no_start, says_too_large, past_line, past_file, none_e}
-use Rattle.files.specs.Property.{Row, Property}
+use Rattle.files.specs.Property.{Property}
 use Rattle.files.specs.Refusal.{graph, property, rules, interface}
 use Rattle.files.specs.Rules.{watch}
 use Rattle.files.specs.Sides.{ForeignAt, Shares, lacks_entry, LacksEntry, Entered, Unprovided}

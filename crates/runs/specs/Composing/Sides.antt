@@ -1,6 +1,6 @@
 -- Any two sides, each a graph that is known or one that is not written yet: what they give is watched for all that may stand on them. The verdicts with a known graph and
 -- with two unwritten sides are cases of it.
-use Rattle.std.specs.Prelude.{◌≡◌, refl, ◌↔◌, List, ℕ}
+use Rattle.std.specs.Prelude.{refl, ◌↔◌, List, ℕ}
 use Rattle.std.proofs.Common.{sym, subst}
 use Rattle.files.specs.Graph.{Graph, Flow}
 use Rattle.files.specs.Interface.{Interface}

@@ -1,5 +1,5 @@
 -- Looking at records one after another, as the loops of the code do: the start, one list more, and one record.
-use Rattle.std.specs.Prelude.{◌≡◌, refl, not, ℕ, ◌+◌, ◌≤◌, ◌<◌, T, length}
+use Rattle.std.specs.Prelude.{◌≡◌, refl, not, ℕ, ◌≤◌, ◌<◌, T, length}
 use Rattle.std.proofs.Common.{sym, subst, ◌∙◌, arith}
 use mathlib.Core.List.{List, [], ◌∷◌, ◌++◌, Memᴰ, append_assoc}
 use Rattle.files.specs.Basics.Order.{Ascends}

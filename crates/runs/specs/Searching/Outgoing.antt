@@ -1,5 +1,5 @@
 -- The records that leave a place, in the order of their bytes: they ascend, and they are those that the trail's definition lets leave it.
-use Rattle.std.specs.Prelude.{◌≡◌, ◌⊎◌, Bool, not, cond, ℕ, zero, suc, ◌+◌, ◌-◌, ◌≤◌, ◌<◌, T, eqb, length}
+use Rattle.std.specs.Prelude.{◌≡◌, ◌⊎◌, Bool, not, cond, ℕ, zero, suc, ◌-◌, ◌≤◌, ◌<◌, T, eqb, length}
 use Rattle.std.proofs.Math.Path.{refl, ap, subst}
 use Rattle.std.proofs.Common.{sym, ap₂, ◌∙◌, arith, eqb→eq, ne_eqb}
 use Rattle.std.proofs.Math.Logic.{inl, inr}

@@ -94,8 +94,12 @@ module _ (G : Graph) (mon : Monitor) where
         more e (called y m h a n q w) = called y (f y m) h a n q w
 
     pub trail_moves : (g q p : ℕ) (e : Edge) → Trail G mon k g q → Memᴰ e G.edges → g ≡ e.from → T (not (node G e.from).ret) → Moves G mon e q p → Trail G mon k e.to p
-    trail_moves g q p e t m h n (by_step z) = steps e.from q e (subst (λ (i : ℕ). Trail G mon k i q) h t) (record { edge = m; leaves = refl; no_return = n }) z
-    trail_moves g q p e t m h n (by_call r s z j b) = passes e.from q e r s (subst (λ (i : ℕ). Trail G mon k i q) h t) (record { edge = m; leaves = refl; no_return = n }) z j b
+    trail_moves g q p e t m h n v = go e p m h n v
+      where
+        go : (e : Edge) (p : ℕ) → Memᴰ e G.edges → g ≡ e.from → T (not (node G e.from).ret) → Moves G mon e q p → Trail G mon k e.to p
+        go e p m h n (by_step z) = steps e.from q e (subst (λ (i : ℕ). Trail G mon k i q) h t) (record { edge = m; leaves = refl; no_return = n }) z
+        go e p m h n (by_call r s z j b) =
+            passes e.from q e r s (subst (λ (i : ℕ). Trail G mon k i q) h t) (record { edge = m; leaves = refl; no_return = n }) z j b
 
     -- ---- sound
 

@@ -65,10 +65,13 @@ module _ (G : Graph) (mon : Monitor) where
 
   inside_moves : (m p g q p' : ℕ) (e : Edge) → Inside G mon m p g q → Memᴰ e G.edges → g ≡ e.from → T (not (node G e.from).ret) → Moves G mon e q p'
       → Inside G mon m p e.to p'
-  inside_moves m p g q p' e i k h n (by_step z) =
-      inner m p e.from q e (subst (λ (x : ℕ). Inside G mon m p x q) h i) (record { edge = k; leaves = refl; no_return = n }) z
-  inside_moves m p g q p' e i k h n (by_call r s z j b) =
-      over m p e.from q e r s (subst (λ (x : ℕ). Inside G mon m p x q) h i) (record { edge = k; leaves = refl; no_return = n }) z j b
+  inside_moves m p g q p' e i k h n v = go e p' k h n v
+    where
+      go : (e : Edge) (p' : ℕ) → Memᴰ e G.edges → g ≡ e.from → T (not (node G e.from).ret) → Moves G mon e q p' → Inside G mon m p e.to p'
+      go e p' k h n (by_step z) =
+          inner m p e.from q e (subst (λ (x : ℕ). Inside G mon m p x q) h i) (record { edge = k; leaves = refl; no_return = n }) z
+      go e p' k h n (by_call r s z j b) =
+          over m p e.from q e r s (subst (λ (x : ℕ). Inside G mon m p x q) h i) (record { edge = k; leaves = refl; no_return = n }) z j b
 
   spot_sound : (ys : List Spot) → ((y : Spot) → Memᴰ y ys → Sound G mon y) → (x : Spot) → Memᴰ x (all_spots G mon) → T (spot_rule G mon ys x) → Sound G mon x
   unfolding spot_rule

@@ -10,7 +10,6 @@ use Rattle.files.specs.Join.Laws.{join_flow, join_labels}
 use Rattle.files.specs.Outcome.{Said, refuses, says, refusal_at, NoneOf, FirstOf, Matches, published, answered}
 use Rattle.files.specs.Outcome.Calls as calls
 use Rattle.files.specs.Outcome.Laws.{whole_match, files_match, out_match, refused_by, accepted_by, verdict_is, file_accepted, whole_none, says_no_start, says_too_large}
-use Rattle.files.specs.Property.{Row, Property}
 use Rattle.files.specs.Refusal.{property, rules, interface}
 use Rattle.files.specs.Rules.{watch}
 use Rattle.files.specs.Sides.Laws.{says_shares, says_unprovided}

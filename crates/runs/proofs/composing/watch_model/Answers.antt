@@ -17,25 +17,23 @@ pub bars-barred-requires : goal.bars-barred-requires
 bars-barred-requires c =
     let a = c.args in
     let x = c.model_within in
-    let d = c.nodes-1.given in
     let other = c.requires.1.1.0 in
     let room = c.requires.1.1.1.1 in
     let h = model_held a.limits a.other.now a.property.now a.store.now a.work.now other room.strides (omega (arith, room.store_long)) room.work_long
-    x.new.out x.new.work x.result x.ensures d.0.0 d.0.1.0 d.1 in
+    x.new.out x.new.work x.result x.ensures c.in-Written.nodes c.in-Written.edges c.in-Written.is in
     (record { limits = a.limits; accepted = other.interface_within }, (h, omega (arith, h.few_nodes, h.few_edges, room.store_long, x.auto.out)))
 
 pub watch_joined-requires : goal.watch_joined-requires
 watch_joined-requires c =
     let a = c.args in
     let x = c.model_within in
-    let d = c.nodes-1.given in
     let other = c.requires.1.1.0 in
     let room = c.requires.1.1.1.1 in (
       record {
         first_held = view_held a.limits room.strides.nodes_fit room.strides.edges_fit c.requires.0 c.requires.1.0;
         second_held =
             model_held a.limits a.other.now a.property.now a.store.now a.work.now other room.strides (omega (arith, room.store_long)) room.work_long
-            x.new.out x.new.work x.result x.ensures d.0.0 d.0.1.0 d.1;
+            x.new.out x.new.work x.result x.ensures c.in-Written.nodes c.in-Written.edges c.in-Written.is;
       },
       (c.requires.1.1.1.0, (room.strides, (omega (arith, room.store_long, x.auto.out), omega (arith, room.work_long, x.auto.work)))),
     )
@@ -44,21 +42,19 @@ pub returns-in-Refused : goal.returns-in-Refused
 returns-in-Refused c =
     let a = c.args in
     let x = c.model_within in
-    let d = c.refusal-1.given in
     let large = model_refused a.limits a.other.now a.property.now a.store.now a.work.now c.requires.1.1.0 c.requires.1.1.1.1.strides (omega (arith, c.requires.1.1.1.1.store_long)) c.requires.1.1.1.1.work_long x.new.out
-    x.new.work x.result x.ensures d.0.0 d.1 in
-    model_large a.limits false a.graph.now a.other.now a.property.now a.rules.now a.start a.out.now large.0 d.0.0 large.1
+    x.new.work x.result x.ensures c.in-Refused.refusal c.in-Refused.is in
+    model_large a.limits false a.graph.now a.other.now a.property.now a.rules.now a.start a.out.now large.0 c.in-Refused.refusal large.1
 
 pub returns-in-Written : goal.returns-in-Written
 returns-in-Written c =
     let a = c.args in
     let x = c.model_within in
-    let d = c.nodes-1.given in
     let t = c.watch_joined in
     let other = c.requires.1.1.0 in
     let room = c.requires.1.1.1.1 in
     model_small a.limits false a.graph.now a.other.now a.property.now a.rules.now a.start a.out.now
     (model_within a.limits a.other.now a.property.now a.store.now a.work.now other room.strides (omega (arith, room.store_long)) room.work_long x.new.out x.new.work x.result
-    x.ensures d.0.0 d.0.1.0 d.1) (decode_graph (take (record_len * (d.0.0 + d.0.1.0)) x.new.out))
+    x.ensures c.in-Written.nodes c.in-Written.edges c.in-Written.is) (decode_graph (take (record_len * (c.in-Written.nodes + c.in-Written.edges)) x.new.out))
     (model_decoded a.limits a.other.now a.property.now a.store.now a.work.now other room.strides (omega (arith, room.store_long)) room.work_long x.new.out x.new.work x.result
-    x.ensures d.0.0 d.0.1.0 d.1) c.bars-barred.result c.bars-barred.ensures t.new.out (watched_answer t.result) t.ensures
+    x.ensures c.in-Written.nodes c.in-Written.edges c.in-Written.is) c.bars-barred.result c.bars-barred.ensures t.new.out (watched_answer t.result) t.ensures

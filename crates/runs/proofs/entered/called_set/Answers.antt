@@ -1,5 +1,5 @@
 use mathlib.Core.Path.{sym, subst}
-use Prim.Native.Nat.{◌+◌, ◌-◌}
+use Prim.Native.Nat.{◌+◌}
 use native.Mathlib.Omega.{arith}
 use lib.ListN.{get_or}
 use Rattle.files.specs.Decode.{decode_graph, decode_rules}
@@ -80,9 +80,12 @@ loop-j-preserved c =
     let lab = label_is a.s a.graph.now a.rules.now c.requires.0 l.j d.0 _ h in (
       omega (arith, l.invariant.0),
       omega (arith, c.loop-j-test.true),
-      elim c.if-e-gt0.branch [ then-e-gt0 w ↦ subst (CalledTo (decode_graph a.graph.now) (watch (decode_rules a.rules.now)) a.g (l.j + 1)) (sym w.j-is)
-          (called_more (decode_graph a.graph.now) (watch (decode_rules a.rules.now)) a.g l.j l.set l.invariant.0 l.invariant.2 _ w.one_state-set.result lab w.if-e-gt0.true w.one_state-set.ensures) | else-e-gt0 w ↦ subst (CalledTo (decode_graph a.graph.now) (watch (decode_rules a.rules.now)) a.g (l.j + 1)) (sym w.j-is)
-          (called_same (decode_graph a.graph.now) (watch (decode_rules a.rules.now)) a.g l.j l.set l.invariant.0 l.invariant.2 _ lab (omega (arith, w.if-e-gt0.false))) ],
+      elim c.if-e-gt0.branch [
+        | then-e-gt0 w ↦ subst (CalledTo (decode_graph a.graph.now) (watch (decode_rules a.rules.now)) a.g (l.j + 1)) (sym w.set-is)
+            (called_more (decode_graph a.graph.now) (watch (decode_rules a.rules.now)) a.g l.j l.set l.invariant.0 l.invariant.2 _ w.one_state-set.result lab w.if-e-gt0.true w.one_state-set.ensures)
+        | else-e-gt0 w ↦ subst (CalledTo (decode_graph a.graph.now) (watch (decode_rules a.rules.now)) a.g (l.j + 1)) (sym w.set-is)
+            (called_same (decode_graph a.graph.now) (watch (decode_rules a.rules.now)) a.g l.j l.set l.invariant.0 l.invariant.2 _ lab (omega (arith, w.if-e-gt0.false)))
+      ],
     )
 
 pub returns : goal.returns

@@ -1,5 +1,5 @@
 use mathlib.Core.Path.{refl, sym, subst₂}
-use Prim.Native.Nat.{◌+◌, ◌-◌}
+use Prim.Native.Nat.{◌+◌}
 use native.Mathlib.Omega.{arith}
 use Rattle.files.specs.Basics.Lists.{span}
 use Rattle.files.specs.Decode.{decode_graph, decode_rules}
@@ -68,8 +68,11 @@ loop-l-preserved c =
     let to = Upto (decode_graph a.graph.now) (watch (decode_rules a.rules.now)) a.start a.head (the_entereds (decode_graph a.graph.now) (watch (decode_rules a.rules.now)) a.start (place a.g a.q)) (l.l + 1) a.tail a.work.now in (
       omega (arith, l.invariant.0),
       omega (arith, h),
-      elim c.if-has_state.branch [ then-has_state w ↦ subst₂ to (sym w.work-is) (sym w.work-is) (on w.enter-end.result w.enter-end.new.work w.enter-end.auto.work
-          (looked_named (decode_graph a.graph.now) (watch (decode_rules a.rules.now)) a.start a.head (entered_at (decode_graph a.graph.now) (watch (decode_rules a.rules.now)) (place a.g a.q) l.l) (entry_recs (decode_graph a.graph.now) (watch (decode_rules a.rules.now)) (place a.g a.q) l.l (span 0 (size (decode_graph a.graph.now)))) l.end w.enter-end.result l.work w.enter-end.new.work (entered_list (decode_graph a.graph.now) (watch (decode_rules a.rules.now)) a.g a.q l.l a.set c.requires.1.0 l.invariant.0 h b.result b.ensures w.if-has_state.true) w.enter-end.ensures)) | else-has_state w ↦ subst₂ to (sym w.work-is) (sym w.work-is) (on l.end l.work refl (looked_none (decode_graph a.graph.now) (watch (decode_rules a.rules.now)) a.start a.head (entered_at (decode_graph a.graph.now) (watch (decode_rules a.rules.now)) (place a.g a.q) l.l) l.end l.work (entered_none (decode_graph a.graph.now) (watch (decode_rules a.rules.now)) a.g a.q l.l a.set c.requires.1.0 l.invariant.0 h b.result b.ensures w.if-has_state.false))) ],
+      elim c.if-has_state.branch [
+        | then-has_state w ↦ subst₂ to (sym w.work-is) (sym w.end-is) (on w.enter-end.result w.enter-end.new.work w.enter-end.auto.work
+            (looked_named (decode_graph a.graph.now) (watch (decode_rules a.rules.now)) a.start a.head (entered_at (decode_graph a.graph.now) (watch (decode_rules a.rules.now)) (place a.g a.q) l.l) (entry_recs (decode_graph a.graph.now) (watch (decode_rules a.rules.now)) (place a.g a.q) l.l (span 0 (size (decode_graph a.graph.now)))) l.end w.enter-end.result l.work w.enter-end.new.work (entered_list (decode_graph a.graph.now) (watch (decode_rules a.rules.now)) a.g a.q l.l a.set c.requires.1.0 l.invariant.0 h b.result b.ensures w.if-has_state.true) w.enter-end.ensures))
+        | else-has_state w ↦ subst₂ to (sym w.work-is) (sym w.end-is) (on l.end l.work refl (looked_none (decode_graph a.graph.now) (watch (decode_rules a.rules.now)) a.start a.head (entered_at (decode_graph a.graph.now) (watch (decode_rules a.rules.now)) (place a.g a.q) l.l) l.end l.work (entered_none (decode_graph a.graph.now) (watch (decode_rules a.rules.now)) a.g a.q l.l a.set c.requires.1.0 l.invariant.0 h b.result b.ensures w.if-has_state.false)))
+      ],
     )
 
 pub returns : goal.returns

@@ -1,4 +1,3 @@
-use Prim.Native.Nat.{◌-◌}
 use native.Mathlib.Omega.{arith}
 use Rattle.files.specs.Decode.{decode_graph, decode_rules}
 use Rattle.files.specs.Rules.{watch}

@@ -33,7 +33,6 @@ overflow_add-end-2 c =
 
 pub write_all_moved-requires : goal.write_all_moved-requires
 write_all_moved-requires c =
-    
     let b = c.requires.0 in
     let c1 = c.copy_at in
     let c2 = c.copy_at-2 in
@@ -42,7 +41,6 @@ write_all_moved-requires c =
 
 pub returns : goal.returns
 returns c =
-    
     let s = c.args.s in
     let f = c.args.graph1.now in
     let c1 = c.copy_at in

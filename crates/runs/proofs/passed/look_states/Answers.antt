@@ -1,5 +1,5 @@
 use mathlib.Core.Path.{refl, sym, subst₂}
-use Prim.Native.Nat.{◌+◌, ◌-◌}
+use Prim.Native.Nat.{◌+◌}
 use native.Mathlib.Omega.{arith}
 use Rattle.files.specs.Decode.{decode_graph, decode_rules}
 use Rattle.files.specs.Rules.{watch}
@@ -47,9 +47,12 @@ loop-r-preserved c =
     let on = one_looked (decode_graph a.graph.now) (watch (decode_rules a.rules.now)) a.start a.head (the_states (decode_graph a.graph.now) (watch (decode_rules a.rules.now)) a.start (place a.g a.q) a.j) a.tail a.work.now l.r l.work l.end l.invariant o in
     let h = c.loop-r-test.true in
     let b = c.has_state in
-    elim c.if-has_state.branch [ then-has_state w ↦ subst₂ to (sym w.work-is) (sym w.work-is) (on w.push-end.result w.push-end.new.work w.push-end.auto.work
-    (did_pass a.s a.graph.now a.rules.now c.requires.0 a.start a.head l.end l.work a.g a.q at a.j c.requires.1.0 c.requires.1.1.0 a.label a.to a.ends c.requires.1.1.1.0 c.requires.1.1.1.1.0 c.requires.1.1.1.1.1.0 c.requires.1.1.1.1.1.1.0 l.r h b.result b.ensures w.if-has_state.true may w.push-end.result w.push-end.new.work w.push-end.ensures)) | else-has_state w ↦ subst₂ to (sym w.work-is) (sym w.work-is) (on l.end l.work refl
-    (no_state a.s a.graph.now a.rules.now c.requires.0 a.start a.head l.end l.work a.g a.q at a.j c.requires.1.0 c.requires.1.1.0 a.label a.to a.ends c.requires.1.1.1.0 c.requires.1.1.1.1.0 c.requires.1.1.1.1.1.0 c.requires.1.1.1.1.1.1.0 l.r h b.result b.ensures w.if-has_state.false)) ]
+    elim c.if-has_state.branch [
+      | then-has_state w ↦ subst₂ to (sym w.work-is) (sym w.end-is) (on w.push-end.result w.push-end.new.work w.push-end.auto.work
+          (did_pass a.s a.graph.now a.rules.now c.requires.0 a.start a.head l.end l.work a.g a.q at a.j c.requires.1.0 c.requires.1.1.0 a.label a.to a.ends c.requires.1.1.1.0 c.requires.1.1.1.1.0 c.requires.1.1.1.1.1.0 c.requires.1.1.1.1.1.1.0 l.r h b.result b.ensures w.if-has_state.true may w.push-end.result w.push-end.new.work w.push-end.ensures))
+      | else-has_state w ↦ subst₂ to (sym w.work-is) (sym w.end-is) (on l.end l.work refl
+          (no_state a.s a.graph.now a.rules.now c.requires.0 a.start a.head l.end l.work a.g a.q at a.j c.requires.1.0 c.requires.1.1.0 a.label a.to a.ends c.requires.1.1.1.0 c.requires.1.1.1.1.0 c.requires.1.1.1.1.1.0 c.requires.1.1.1.1.1.1.0 l.r h b.result b.ensures w.if-has_state.false))
+    ]
 
 pub returns : goal.returns
 returns c =

@@ -1,5 +1,4 @@
 -- The edge is the first of all, or it is compared with the one before it.
-use Prim.Native.Nat.{◌-◌}
 use mathlib.Core.Bool.{true, false}
 use Rattle.files.specs.Decode.{decode_graph}
 use Rattle.runs.proofs.PrepareLaws.{opening_first, opening_next}

@@ -1,5 +1,5 @@
 use mathlib.Core.Path.{refl, ◌∙◌}
-use Prim.Native.Nat.{◌-◌, ◌%◌}
+use Prim.Native.Nat.{◌%◌}
 use native.Mathlib.Omega.{arith}
 use Rattle.files.specs.Cells.Laws.{cells_on}
 use Rattle.runs.proofs.PrepareLaws.{put_outside, steps_none}

@@ -1,5 +1,5 @@
 use mathlib.Core.Path.{sym, subst, ◌∙◌}
-use Prim.Native.Nat.{ℕ, ◌+◌, ◌-◌}
+use Prim.Native.Nat.{ℕ, ◌+◌}
 use native.Mathlib.Omega.{arith}
 use mathlib.Core.Bool.{Bool}
 use lib.Dec.{eqb}
@@ -47,7 +47,7 @@ loop-q-preserved c =
     let held = step_held (watch (decode_rules a.rules.now)) a.work.now c.slot-at.result l.q 1 a.a a.m x.result c.requires.0 test.true (omega arith, (omega arith, c.requires.1.1))
     c.slot-at.ensures.0 x.ensures in (
       omega (arith, test.true),
-      elim c.if-get8-p.branch [ then-get8-p w ↦ subst (λ (y : ℕ). Picked f y (l.q + 1)) (sym w.q-is) (picked_yes f l.y l.q l.invariant.1 w.one_state-y.result w.one_state-y.ensures (eq-eqb _ a.p (sym held ∙ w.if-get8-p.true))) | else-get8-p w ↦ subst (λ (y : ℕ). Picked f y (l.q + 1)) (sym w.q-is) (picked_no f l.y l.q l.invariant.1 (ne_eqb _ a.p (λ e. w.if-get8-p.false (held ∙ e)))) ],
+      elim c.if-get8-p.branch [ then-get8-p w ↦ subst (λ (y : ℕ). Picked f y (l.q + 1)) (sym w.y-is) (picked_yes f l.y l.q l.invariant.1 w.one_state-y.result w.one_state-y.ensures (eq-eqb _ a.p (sym held ∙ w.if-get8-p.true))) | else-get8-p w ↦ subst (λ (y : ℕ). Picked f y (l.q + 1)) (sym w.y-is) (picked_no f l.y l.q l.invariant.1 (ne_eqb _ a.p (λ e. w.if-get8-p.false (held ∙ e)))) ],
     )
 
 pub returns : goal.returns

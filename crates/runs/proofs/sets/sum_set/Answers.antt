@@ -1,5 +1,4 @@
 use mathlib.Core.Path.{◌≡◌, sym, ◌∙◌}
-use Prim.Native.Nat.{◌-◌}
 use native.Mathlib.Omega.{arith}
 use Rattle.runs.specs.Worklist.{sums}
 use Rattle.runs.specs.Worklist.Unions.{union_none}
@@ -25,7 +24,7 @@ loop-p-preserved c =
     let l = c.loop-p in
     let f = sums a.table.now a.m in (
       omega arith,
-      elim c.if-has_state.branch [ then-has_state w ↦ w.p-is ∙ union_with f a.x l.p l.y w.sum_of-y.result l.invariant.1 w.sum_of-y.ensures (omega arith) (sym c.has_state.ensures ∙ w.if-has_state.true) | else-has_state w ↦ w.p-is ∙ union_without f a.x l.p l.y l.invariant.1 (sym c.has_state.ensures ∙ w.if-has_state.false) ],
+      elim c.if-has_state.branch [ then-has_state w ↦ w.y-is ∙ union_with f a.x l.p l.y w.sum_of-y.result l.invariant.1 w.sum_of-y.ensures (omega arith) (sym c.has_state.ensures ∙ w.if-has_state.true) | else-has_state w ↦ w.y-is ∙ union_without f a.x l.p l.y l.invariant.1 (sym c.has_state.ensures ∙ w.if-has_state.false) ],
     )
 
 pub returns : goal.returns

@@ -1,6 +1,6 @@
 use mathlib.Core.Path.{◌≡◌, refl, ap, ◌∙◌}
 use mathlib.Core.Logic.{inl, inr}
-use Prim.Native.Nat.{◌-◌, ◌/◌}
+use Prim.Native.Nat.{◌/◌}
 use native.Mathlib.Omega.{arith}
 use Rattle.files.specs.declared.graph.GraphNode.{GraphNode}
 use Rattle.runs.specs.Worklist.{queue}
@@ -59,7 +59,7 @@ run_point-end-requires c =
     let v = c.node_at-v.ensures in
     let y = c.new_summary-new in
     let z = next_ready a.s a.graph.now a.rules.now c.requires.0 l.table l.head l.end l.work l.invariant.2 some x.result x.ensures.0 x.new.work x.ensures.1 _ v y.result y.ensures c.if-new-gt0.table
-    (elim c.if-new-gt0.branch [ then-new-gt0 w ↦ inl (w.if-new-gt0.true, w.work-is ∙ w.grown-next.ensures) | else-new-gt0 w ↦ inr (omega (arith, w.if-new-gt0.false), w.work-is) ]) in (
+    (elim c.if-new-gt0.branch [ then-new-gt0 w ↦ inl (w.if-new-gt0.true, w.table-is ∙ w.grown-next.ensures) | else-new-gt0 w ↦ inr (omega (arith, w.if-new-gt0.false), w.table-is) ]) in (
       c.requires.0,
       (
         node_of a.s a.graph.now a.rules.now c.requires.0 (x.result / 8) (node_there a.s a.graph.now a.rules.now c.requires.0 l.table l.head l.end l.work l.invariant.2 some x.result x.ensures.0),
@@ -87,7 +87,7 @@ loop-head-preserved c =
     let y = c.new_summary-new in
     let r = c.run_point-end in
     let z = point_ran a.s a.graph.now a.rules.now c.requires.0 l.table l.head l.end l.work l.invariant.2 some x.result x.ensures.0 x.new.work x.ensures.1 _ v y.result y.ensures c.if-new-gt0.table
-    (elim c.if-new-gt0.branch [ then-new-gt0 w ↦ inl (w.if-new-gt0.true, w.work-is ∙ w.grown-next.ensures) | else-new-gt0 w ↦ inr (omega (arith, w.if-new-gt0.false), w.work-is) ]) r.result r.new.work
+    (elim c.if-new-gt0.branch [ then-new-gt0 w ↦ inl (w.if-new-gt0.true, w.table-is ∙ w.grown-next.ensures) | else-new-gt0 w ↦ inr (omega (arith, w.if-new-gt0.false), w.table-is) ]) r.result r.new.work
     r.ensures.0 r.ensures.1 in (
       r.auto.work ∙ x.auto.work ∙ l.invariant.0,
       omega (arith, some, r.ensures.0.longer),

@@ -16,18 +16,16 @@ bars-barred-requires c =
     let a = c.args in
     let room = c.requires.1.1.1 in
     let x = c.model_within in
-    let d = c.nodes-1.given in
     let h = model_held a.limits a.interface1.now a.property1.now a.store.now a.work.now c.requires.0 room.strides (omega (arith, room.store_long)) room.work_long
-    x.new.out x.new.work x.result x.ensures d.0.0 d.0.1.0 d.1 in
+    x.new.out x.new.work x.result x.ensures c.in-Written.nodes c.in-Written.edges c.in-Written.is in
     (record { limits = a.limits; accepted = c.requires.0.interface_within }, (h, omega (arith, h.few_nodes, h.few_edges, room.store_long, x.auto.out)))
 
 pub watch_second-requires : goal.watch_second-requires
 watch_second-requires c =
     let a = c.args in
     let room = c.requires.1.1.1 in
-    let x = c.model_within in
-    let d = c.nodes-1.given in (
-      model_held a.limits a.interface1.now a.property1.now a.store.now a.work.now c.requires.0 room.strides (omega (arith, room.store_long)) room.work_long x.new.out x.new.work x.result x.ensures d.0.0 d.0.1.0 d.1,
+    let x = c.model_within in (
+      model_held a.limits a.interface1.now a.property1.now a.store.now a.work.now c.requires.0 room.strides (omega (arith, room.store_long)) room.work_long x.new.out x.new.work x.result x.ensures c.in-Written.nodes c.in-Written.edges c.in-Written.is,
       (c.requires.1.0, (c.requires.1.1.0, record { strides = room.strides; bounded = room.bounded; store_long = omega (arith, room.store_long, x.auto.out); work_long = omega (arith, room.work_long, x.auto.work) })),
     )
 
@@ -36,17 +34,15 @@ returns-in-Refused c =
     let a = c.args in
     let room = c.requires.1.1.1 in
     let x = c.model_within in
-    let d = c.refusal-1.given in
-    let large = model_refused a.limits a.interface1.now a.property1.now a.store.now a.work.now c.requires.0 room.strides (omega (arith, room.store_long)) room.work_long x.new.out x.new.work x.result x.ensures d.0.0 d.1 in
-    first_large a.limits a.interface1.now a.property1.now a.interface2.now a.property2.now a.rules.now a.start a.out.now large.0 d.0.0 large.1
+    let large = model_refused a.limits a.interface1.now a.property1.now a.store.now a.work.now c.requires.0 room.strides (omega (arith, room.store_long)) room.work_long x.new.out x.new.work x.result x.ensures c.in-Refused.refusal c.in-Refused.is in
+    first_large a.limits a.interface1.now a.property1.now a.interface2.now a.property2.now a.rules.now a.start a.out.now large.0 c.in-Refused.refusal large.1
 
 pub returns-in-Written : goal.returns-in-Written
 returns-in-Written c =
     let a = c.args in
     let room = c.requires.1.1.1 in
     let x = c.model_within in
-    let d = c.nodes-1.given in
     let t = c.watch_second in
     first_small a.limits a.interface1.now a.property1.now a.interface2.now a.property2.now a.rules.now a.start a.out.now
-    (model_within a.limits a.interface1.now a.property1.now a.store.now a.work.now c.requires.0 room.strides (omega (arith, room.store_long)) room.work_long x.new.out x.new.work x.result x.ensures d.0.0 d.0.1.0 d.1) (take (record_len * (d.0.0 + d.0.1.0)) x.new.out)
-    (model_decoded a.limits a.interface1.now a.property1.now a.store.now a.work.now c.requires.0 room.strides (omega (arith, room.store_long)) room.work_long x.new.out x.new.work x.result x.ensures d.0.0 d.0.1.0 d.1) c.bars-barred.result c.bars-barred.ensures t.new.out (watched_answer t.result) t.ensures
+    (model_within a.limits a.interface1.now a.property1.now a.store.now a.work.now c.requires.0 room.strides (omega (arith, room.store_long)) room.work_long x.new.out x.new.work x.result x.ensures c.in-Written.nodes c.in-Written.edges c.in-Written.is) (take (record_len * (c.in-Written.nodes + c.in-Written.edges)) x.new.out)
+    (model_decoded a.limits a.interface1.now a.property1.now a.store.now a.work.now c.requires.0 room.strides (omega (arith, room.store_long)) room.work_long x.new.out x.new.work x.result x.ensures c.in-Written.nodes c.in-Written.edges c.in-Written.is) c.bars-barred.result c.bars-barred.ensures t.new.out (watched_answer t.result) t.ensures

@@ -1,4 +1,5 @@
 -- Each check settles its numbers, in the published order; 9 is asked where the four files are accepted, and each graph's view is handed on.
+-- the four files, one after the other
 use mathlib.Core.Path.{◌≡◌, sym}
 use mathlib.Core.List.{List}
 use Prim.Native.Nat.{ℕ}
@@ -13,11 +14,8 @@ use Rattle.files.specs.declared.record.Limits.{Limits}
 use Rattle.files.specs.declared.settle.Settled.{Settled}
 use Rattle.files.specs.declared.settle.Settled.TheVariants.{Passed}
 use Rattle.runs.specs.Joining.Work.{Joinable, files_known}
-use borrow.Author.Rules.{rules}
-use Rattle.runs.proofs.joining.check_join.Statement.{statement}
-use Rattle.runs.proofs.joining.check_join.Tie as tie
+use Rattle.runs.proofs.joining.check_join.Goals as goal
 
--- the four files, one after the other
 module _ (L : Limits) (i1 g1 i2 g2 : List ℕ) {sided1 drawn1 sided2 drawn2 : Settled} (a : sided1 ≡ file_settled (checked L interface i1 1))
     (b : drawn1 ≡ and_then sided1 (file_settled (checked L graph g1 2))) (c : sided2 ≡ and_then drawn1 (file_settled (checked L interface i2 3)))
     (d : drawn2 ≡ and_then sided2 (file_settled (checked L graph g2 4))) where
@@ -31,64 +29,52 @@ module _ (L : Limits) (i1 g1 i2 g2 : List ℕ) {sided1 drawn1 sided2 drawn2 : Se
   accepted : drawn2 ≡ Passed → Joinable L i1 g1 i2 g2
   accepted e = files_known L i1 g1 i2 g2 (λ cs. cs) (settled_as files-settle (sym e))
 
-then-file-requires : tie.Need-then-file-requires
-then-file-requires c κs = search rules
-
-then-graph-requires : tie.Need-then-graph-requires
-then-graph-requires c κs = search rules
-
-then-file-requires-2 : tie.Need-then-file-requires-2
-then-file-requires-2 c κs = search rules
-
-then-graph-requires-2 : tie.Need-then-graph-requires-2
-then-graph-requires-2 c κs = search rules
-
-then-own-requires : tie.Need-then-own-requires
-then-own-requires c κs =
-    let a = c.before.before.before.before.before.before.before.before.before.before.args in
-    let sided1 = c.before.before.before.before.before.then-file.ensures in
-    let drawn1 = c.before.before.before.before.then-graph.ensures.0 in
-    let sided2 = c.before.before.then-file2.ensures in
-    let drawn2 = c.before.then-graph2.ensures.0 in
+pub then_own-own1-requires : goal.then_own-own1-requires
+then_own-own1-requires c =
+    let a = c.args in
+    let sided1 = c.then_file-sided1.ensures in
+    let drawn1 = c.then_graph-drawn1.ensures.0 in
+    let sided2 = c.then_file-sided2.ensures in
+    let drawn2 = c.then_graph-drawn2.ensures.0 in
     let known = accepted a.limits a.interface1.now a.graph1.now a.interface2.now a.graph2.now sided1 drawn1 sided2 drawn2 in
     λ e. (record { limits = a.limits; accepted = (known e).first_within }, (known e).first_interface)
 
-then-own-requires-2 : tie.Need-then-own-requires-2
-then-own-requires-2 c κs =
-    let a = c.before.before.before.before.before.before.before.before.before.before.before.args in
-    let sided1 = c.before.before.before.before.before.before.then-file.ensures in
-    let drawn1 = c.before.before.before.before.before.then-graph.ensures.0 in
-    let sided2 = c.before.before.before.then-file2.ensures in
-    let drawn2 = c.before.before.then-graph2.ensures.0 in
+pub then_own-own2-requires : goal.then_own-own2-requires
+then_own-own2-requires c =
+    let a = c.args in
+    let sided1 = c.then_file-sided1.ensures in
+    let drawn1 = c.then_graph-drawn1.ensures.0 in
+    let sided2 = c.then_file-sided2.ensures in
+    let drawn2 = c.then_graph-drawn2.ensures.0 in
     let known = accepted a.limits a.interface1.now a.graph1.now a.interface2.now a.graph2.now sided1 drawn1 sided2 drawn2 in
     λ e.
-    let k = known (passed_before _ _ c.then-own.ensures e) in
+    let k = known (passed_before _ _ c.then_own-own1.ensures e) in
     (record { limits = a.limits; accepted = k.second_within }, k.second_interface)
 
-then-apart-requires : tie.Need-then-apart-requires
-then-apart-requires c κs =
-    let a = c.before.before.before.before.before.before.before.before.before.before.before.before.args in
-    let sided1 = c.before.before.before.before.before.before.before.then-file.ensures in
-    let drawn1 = c.before.before.before.before.before.before.then-graph.ensures.0 in
-    let sided2 = c.before.before.before.before.then-file2.ensures in
-    let drawn2 = c.before.before.before.then-graph2.ensures.0 in
+pub then_apart-settled-requires : goal.then_apart-settled-requires
+then_apart-settled-requires c =
+    let a = c.args in
+    let sided1 = c.then_file-sided1.ensures in
+    let drawn1 = c.then_graph-drawn1.ensures.0 in
+    let sided2 = c.then_file-sided2.ensures in
+    let drawn2 = c.then_graph-drawn2.ensures.0 in
     let known = accepted a.limits a.interface1.now a.graph1.now a.interface2.now a.graph2.now sided1 drawn1 sided2 drawn2 in
     λ e.
-    let k = known (passed_before _ _ c.before.then-own.ensures (passed_before _ _ c.then-own2.ensures e)) in
+    let k = known (passed_before _ _ c.then_own-own1.ensures (passed_before _ _ c.then_own-own2.ensures e)) in
     (k.first_interface, k.second_interface)
 
-returns : tie.Need-returns
+pub returns : goal.returns
 returns c =
-    let a = c.before.before.before.before.before.before.before.before.before.before.before.before.before.args in
+    let a = c.args in
     let I = decode_interface a.interface1.now in
     let J = decode_interface a.interface2.now in
-    let sided1 = c.before.before.before.before.before.before.before.before.then-file.ensures in
-    let drawn1 = c.before.before.before.before.before.before.before.then-graph.ensures in
-    let sided2 = c.before.before.before.before.before.then-file2.ensures in
-    let drawn2 = c.before.before.before.before.then-graph2.ensures in
-    let own1 = c.before.before.then-own.ensures in
-    let own2 = c.before.then-own2.ensures in
-    let apart = c.then-apart.ensures in
+    let sided1 = c.then_file-sided1.ensures in
+    let drawn1 = c.then_graph-drawn1.ensures in
+    let sided2 = c.then_file-sided2.ensures in
+    let drawn2 = c.then_graph-drawn2.ensures in
+    let own1 = c.then_own-own1.ensures in
+    let own2 = c.then_own-own2.ensures in
+    let apart = c.then_apart-settled.ensures in
     let s4 = files-settle a.limits a.interface1.now a.graph1.now a.interface2.now a.graph2.now sided1 drawn1.0 sided2 drawn2.0 in
     let s5 = next_settles s4 (found_settles 9 2 (first_foreign I a.graph1.now)) own1 in
     let s6 = next_settles s5 (found_settles 9 4 (first_foreign J a.graph2.now)) own2 in (
@@ -97,16 +83,3 @@ returns c =
           let d = passed_before _ _ own1 (passed_before _ _ own2 (passed_before _ _ apart e)) in
           (drawn1.1 (passed_before _ _ sided2 (passed_before _ _ drawn2.0 d)), drawn2.1 d),
     )
-
-pub check-join-spec : {M : Type 1} → statement M
-check-join-spec =
-    tie.close
-    (tie.spec
-    then-file-requires
-    then-graph-requires
-    then-file-requires-2
-    then-graph-requires-2
-    then-own-requires
-    then-own-requires-2
-    then-apart-requires
-    returns)
