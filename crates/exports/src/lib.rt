@@ -1,5 +1,6 @@
 // The C boundary: each call of the library with slices as pointer and length, its answer as six numbers. A call here states what the call it wraps states.
 #![tactic(auto)]
+
 ghost use Rattle.std.specs.Prelude.{◌≡◌, length};
 ghost use Rattle.files.specs.Limits.{desk};
 ghost use Rattle.files.specs.Refusal.{graph, property, rules, interface};
