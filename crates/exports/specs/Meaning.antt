@@ -12,26 +12,32 @@ use Rattle.files.specs.declared.answers.Assembled.TheVariants as assembled_varia
 use Rattle.judging.specs.Compare.{compared, compared_answer}
 use Rattle.judging.specs.Compare.Meaning.{CompareMeans, compared_of, compare_case, compare_tells}
 use Rattle.judging.specs.Delivered.{delivered}
-use Rattle.judging.specs.Delivered.Meaning.{DeliveredMeans, delivered_case, delivered_tells}
+use Rattle.judging.specs.Delivered.Meaning.{DeliveredMeans, delivered_case}
+use Rattle.judging.proofs.Theorems.Delivered.Meaning.{delivered_tells}
 use Rattle.judging.specs.Judge.{judged, judged_answer}
-use Rattle.judging.specs.Judge.Meaning.{JudgeMeans, judged_of, judge_case, judge_tells}
+use Rattle.judging.specs.Judge.Meaning.{JudgeMeans, judged_of, judge_case}
+use Rattle.judging.proofs.Theorems.Judge.Meaning.{judge_tells}
 use Rattle.judging.specs.declared.answers.Compared.{Compared}
 use Rattle.judging.specs.declared.answers.Compared.TheVariants as compared_variants
 use Rattle.judging.specs.declared.answers.Judged.{Judged}
 use Rattle.judging.specs.declared.answers.Judged.TheVariants as judged_variants
 use Rattle.maximal.specs.Modelling.{modelled, modelled_answer}
-use Rattle.maximal.specs.Modelling.Meaning.{ModelMeans, modelled_of, model_case, model_tells}
+use Rattle.maximal.specs.Modelling.Meaning.{ModelMeans, modelled_of, model_case}
+use Rattle.maximal.proofs.Theorems.Modelling.Meaning.{model_tells}
 use Rattle.maximal.specs.declared.answers.Modelled.{Modelled}
 use Rattle.maximal.specs.declared.answers.Modelled.TheVariants as modelled_variants
 use Rattle.runs.specs.Answer.{watched_answer, verdict_of}
 use Rattle.runs.specs.Composing.{composed}
-use Rattle.runs.specs.Composing.Meaning.{ComposeMeans, compose_case, compose_tells}
+use Rattle.runs.specs.Composing.Meaning.{ComposeMeans, compose_case}
+use Rattle.runs.proofs.Theorems.Composing.Meaning.{compose_tells}
 use Rattle.runs.specs.Joining.{joined, joined_answer}
 use Rattle.runs.specs.Joining.Meaning.{JoinMeans, joined_of, join_case, join_tells}
 use Rattle.runs.specs.Unwritten.{composed_both}
-use Rattle.runs.specs.Unwritten.Meaning.{BothMeans, both_case, both_tells}
+use Rattle.runs.specs.Unwritten.Meaning.{BothMeans, both_case}
+use Rattle.runs.proofs.Theorems.Unwritten.Meaning.{both_tells}
 use Rattle.runs.specs.Watching.{watched}
-use Rattle.runs.specs.Watching.Meaning.{WatchMeans, watch_case, watch_tells}
+use Rattle.runs.specs.Watching.Meaning.{WatchMeans, watch_case}
+use Rattle.runs.proofs.Theorems.Watching.Meaning.{watch_tells}
 use Rattle.runs.specs.declared.answers.Joined.{Joined}
 use Rattle.runs.specs.declared.answers.Joined.TheVariants as joined_variants
 use Rattle.runs.specs.declared.answers.Verdict.{Verdict}

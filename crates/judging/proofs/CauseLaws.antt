@@ -32,12 +32,14 @@ use Rattle.judging.specs.declared.causes.Cause.{Cause}
 use Rattle.judging.specs.declared.shape.Shape.{Shape}
 use Rattle.judging.specs.Levels.{holds, rank}
 use Rattle.judging.specs.Levels.Sheet.{no_cause, targets, lower, ahead, box_causes, causes}
-use Rattle.judging.specs.Levels.Sheet.Laws.{lower_is, ahead_is, box_none, box_some, causes_both, causes_either, causes_box, causes_rest}
+use Rattle.judging.specs.Levels.Sheet.Laws.{lower_is, ahead_is, box_none, box_some, causes_both, causes_box, causes_rest}
+use Rattle.judging.proofs.Theorems.Levels.Sheet.Laws.{causes_either}
 use Rattle.judging.specs.Ranking.{Ready, rank_at, Ranked}
 use Rattle.judging.specs.Ranking.Files.{size_is, edges_is, rows_is, is_flow, is_property, nodes_fit, rows_fit}
 use Rattle.judging.specs.Ranking.Laws.{ranked_e, ranked_i}
 use Rattle.judging.specs.Sheets.{cause_held, AreCauses, as_causes, best_target, better}
-use Rattle.judging.specs.Sheets.Laws.{zero_holds, rank_zero, rank_found, within, best_none, best_still, best_within, best_on, box_causes_are}
+use Rattle.judging.specs.Sheets.Laws.{within, best_none, best_still, best_within, best_on, box_causes_are}
+use Rattle.judging.proofs.Theorems.Sheets.Laws.{zero_holds, rank_zero, rank_found}
 
 -- ---- ranks
 

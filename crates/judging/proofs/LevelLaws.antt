@@ -22,9 +22,11 @@ use Rattle.judging.specs.Places.{judge_room, max_pairs}
 use Rattle.judging.specs.declared.shape.Shape.{Shape}
 use Rattle.judging.specs.Levels.{level}
 use Rattle.judging.specs.Ranking.{Ready, pair, rank_at, queue_at, Given, given, tail_after, Finding, Grew, RowDone, Done, Found, Ranked, Names}
-use Rattle.judging.specs.Ranking.Stores.{give_grew, give_room}
+use Rattle.judging.specs.Ranking.Stores.{give_room}
+use Rattle.judging.proofs.Theorems.Ranking.Stores.{give_grew}
 use Rattle.judging.specs.Ranking.Files.{size_is, edges_is, rows_is, is_flow, is_property, nodes_fit, rows_fit, Operands, operands, box_operand, both_falls, either_level}
-use Rattle.judging.specs.Ranking.Laws.{row_done_kept, both_done, either_done, rank_tells, next_finding, later_found, all_found}
+use Rattle.judging.specs.Ranking.Laws.{row_done_kept, both_done, either_done}
+use Rattle.judging.proofs.Theorems.Ranking.Laws.{rank_tells, next_finding, later_found, all_found}
 
 -- ---- files
 

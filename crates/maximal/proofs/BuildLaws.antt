@@ -26,7 +26,8 @@ use Rattle.maximal.specs.Charting.Files.{file_named}
 use Rattle.maximal.specs.Charting.States.{crowded_e}
 use Rattle.maximal.specs.Collected.Search.{or_count_is}
 use Rattle.maximal.specs.Listing.{tally_upto}
-use Rattle.maximal.specs.Listing.Laws.{total, tally_from_le, upto_is, model_nodes_many, model_edges_many, model_length}
+use Rattle.maximal.specs.Listing.Laws.{total, tally_from_le, upto_is}
+use Rattle.maximal.proofs.Theorems.Listing.Laws.{model_nodes_many, model_edges_many, model_length}
 use Rattle.maximal.specs.Model.{model}
 use Rattle.maximal.specs.Model.Computed.{model_size}
 use Rattle.maximal.specs.Modelling.{from_size, Bounded}

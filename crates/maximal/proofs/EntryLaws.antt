@@ -21,7 +21,8 @@ use Rattle.maximal.specs.Charting.Entries.{EntriesBelow, entries_none, entries_m
 use Rattle.maximal.specs.Charting.Files.{rows_is, rows_fit, rows_named}
 use Rattle.maximal.specs.Charting.Kept.{tables_same}
 use Rattle.maximal.specs.Charting.Entering.{admitted_none}
-use Rattle.maximal.specs.Charting.States.{known_i, collected_entry, entry_is}
+use Rattle.maximal.specs.Charting.States.{collected_entry, entry_is}
+use Rattle.maximal.proofs.Theorems.Charting.States.{known_i}
 use Rattle.maximal.specs.Collected.{supports_of, Tables}
 use Rattle.maximal.specs.Model.{at_entry, is_entry}
 use Rattle.maximal.proofs.AdmitLaws.{tables_admitted}

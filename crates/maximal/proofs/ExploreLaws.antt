@@ -22,9 +22,9 @@ use Rattle.maximal.specs.declared.places.Scope.{Scope}
 use Rattle.maximal.specs.Charting.{Scoped, flag_of, kind_at, set_at, method_at, asked_at, target, earlier, Known, Crowded, Admitted, Charting, Asking}
 use Rattle.maximal.specs.Charting.Files.{rows_is, rows_fit, rows_named}
 use Rattle.maximal.specs.Charting.Kept.{tables_same, charting_same, charting_beside}
-use Rattle.maximal.specs.Charting.Anew.{followed_anew}
-use Rattle.maximal.specs.Charting.Slots.{followed_none, followed_again}
-use Rattle.maximal.specs.Charting.States.{known_i, collected_next}
+use Rattle.maximal.proofs.Theorems.Charting.Anew.{followed_anew}
+use Rattle.maximal.proofs.Theorems.Charting.Slots.{followed_none, followed_again}
+use Rattle.maximal.proofs.Theorems.Charting.States.{known_i, collected_next}
 use Rattle.maximal.specs.Collected.{supports_of, Tables}
 use Rattle.maximal.specs.Masks.{asked_of}
 use Rattle.maximal.specs.Masks.Laws.{asked_lt}

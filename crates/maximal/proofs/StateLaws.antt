@@ -24,7 +24,7 @@ use Rattle.maximal.specs.declared.places.Scope.{Scope}
 use Rattle.maximal.specs.Charting.{Scoped, kind_at, set_at, same_state, found, target, Elsewhere, Known, Holds, Crowded, Admitted}
 use Rattle.maximal.specs.Charting.Files.{rows_named}
 use Rattle.maximal.specs.Charting.Kept.{off, known_same, holds_same}
-use Rattle.maximal.specs.Charting.States.{crowded}
+use Rattle.maximal.proofs.Theorems.Charting.States.{crowded}
 use Rattle.maximal.specs.Charting.Entering.{admitted_unmarked, admitted_both}
 
 -- ---- four places looked at in a turn

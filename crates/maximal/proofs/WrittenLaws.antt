@@ -22,7 +22,8 @@ use Rattle.files.specs.Property.{Row, Property}
 use Rattle.files.specs.Record.{node_record, six}
 use Rattle.maximal.specs.Charting.{kind_at, target, order_at, Arranged}
 use Rattle.maximal.specs.Listing.{leads, tally_under, tally_from, node_bytes, under_bytes, from_bytes}
-use Rattle.maximal.specs.Listing.Laws.{keep_more, nodes_bytes, nodes_more, nodes_length, tally_from_more, from_more, from_length, under_length, edges_bytes, edges_more, edges_length, total, model_bytes}
+use Rattle.maximal.specs.Listing.Laws.{keep_more, nodes_bytes, nodes_more, nodes_length, tally_from_more, from_more, from_length, under_length, edges_bytes, edges_more, edges_length, total}
+use Rattle.maximal.proofs.Theorems.Listing.Laws.{model_bytes}
 use Rattle.maximal.specs.Model.{model}
 use Rattle.maximal.specs.Places.{entries_slot}
 

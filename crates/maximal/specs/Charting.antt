@@ -125,7 +125,7 @@ module _ (I : Interface) (P : List Row) where
     pub once : Distinct c w
 
   -- the model has more than n states
-  pub Crowded : ℕ → Type 0
+  unfoldable pub Crowded : ℕ → Type 0
   Crowded n = n < length (states I P)
 
   -- from c states on to c', and from w to w', by entering the sets A with this kind and marking them in row q

@@ -1,3 +1,4 @@
 pub mod PrepareLaws
 pub mod SearchLaws
 pub mod SummaryLaws
+pub mod Theorems

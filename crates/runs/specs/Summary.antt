@@ -114,5 +114,5 @@ module _ (G : Graph) (mon : Monitor) where
   places m = closed all_places (place_rule m)
 
   -- no trail from m comes to the bad state
-  pub clean : ℕ → Bool
+  unfoldable pub clean : ℕ → Bool
   clean m = not (any (λ (x : Place). eqb x.now 7) (places m))

@@ -71,5 +71,5 @@ module _ (L : Limits) (i₁ p₁ i₂ p₂ r : List ℕ) (m out store work : ℕ
       (whole_line 11 (TooLarge L (gives (first_side i₁ p₁)) ⊎ (TooLarge L (gives (second_side i₂ p₂)) ⊎ TooLarge L (both_graph i₁ p₁ i₂ p₂)))
       (out_line out (both_said i₁ p₁ i₂ p₂ r m)))))))))))
 
-  pub composed_both : Outcome
+  unfoldable pub composed_both : Outcome
   composed_both = answered both_checks (both_said i₁ p₁ i₂ p₂ r m)

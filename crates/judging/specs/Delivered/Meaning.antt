@@ -10,7 +10,7 @@ use Rattle.files.specs.Outcome.{Outcome, DoesBoth, answer, out_after, Lines}
 use Rattle.files.specs.Outcome.Meaning.{Decided, Clears, Heard, itself, heard_itself, only_verdict, outcome_case, clears_by}
 use Rattle.files.specs.declared.record.Limits.{Limits}
 use Rattle.judging.specs.Delivered.{delivered_verdict, delivered_checks, delivered_lines, delivered}
-use Rattle.judging.specs.Delivered.Laws.{delivered_refused, delivered_accepted, delivered_says, appended_judged}
+use Rattle.judging.specs.Delivered.Laws.{delivered_refused, delivered_accepted, appended_judged}
 use Rattle.judging.specs.Judge.{judged_answer}
 use Rattle.judging.specs.Judge.Meaning.{judged_enum, judged_of, judged_back, judge_numbered, judge_told, VerdictMeans, verdict_tells}
 use Rattle.judging.specs.declared.answers.Judged.{Judged}
@@ -42,24 +42,11 @@ module _ (L : Limits) (l p : List ℕ) (out store work : ℕ) where
 
 module _ {R : Type 0} (tell : Judged → R) (heard : Heard tell) (L : Limits) (l p out store work out' store' work' : List ℕ) (c : Judged)
     (does : DoesBoth (delivered L l p (length out) (length store) (length work)) out store work out' store' work' (judged_answer c)) where
-  abbrev ls : Lines
+  abbrev pub ls : Lines
   ls = delivered_lines L l p (length out) (length store) (length work)
 
-  decided : Decided (delivered L l p (length out) (length store) (length work)) (delivered_verdict L l p (length out) (length store) (length work)) ls
+  pub decided : Decided (delivered L l p (length out) (length store) (length work)) (delivered_verdict L l p (length out) (length store) (length work)) ls
   decided = delivered_decided L l p (length out) (length store) (length work)
-
-  pub delivered_tells : DeliveredMeans tell L l p out store work out' store' work' (tell c)
-  delivered_tells = record {
-    verdict =
-        verdict_tells tell heard (standing_graph l) (decode_property p) _ ls decided (λ t. delivered_says L l p (length out) (length store) (length work) _ (decided.accepted.1 t)) out out' c does.answers;
-    clears_store = clears_by judged_enum tell heard _ _ ls decided c does.answers.answer_is store store' does.store_is;
-    clears_work = clears_by judged_enum tell heard _ _ ls decided c does.answers.answer_is work work' does.work_is;
-  }
-
--- The returned value, from what the contract states of it.
-pub delivered_means : (L : Limits) (l p out store work out' store' work' : List ℕ) (r : Judged)
-    → DoesBoth (delivered L l p (length out) (length store) (length work)) out store work out' store' work' (judged_answer r) → DeliveredMeans itself L l p out store work out' store' work' r
-delivered_means L l p out store work out' store' work' r does = delivered_tells itself heard_itself L l p out store work out' store' work' r does
 
 -- "When a delivery appended to an accepted file leaves it accepted, .. judgement equal those of the standing deliveries alone in any order": of returned values and output
 -- bytes, for every property, output and lengths of the buffers.

@@ -18,11 +18,8 @@ use Rattle.judging.specs.Places.{judge_room}
 use Rattle.judging.specs.TwoFiles.{two_match, two_given, two_say}
 use Rattle.judging.specs.Judge.{judge_first, judge_said, judge_verdict, judge_checks, judge_lines, judged, Judges, judged_answer, Strides}
 use Rattle.judging.specs.Levels.{Satisfies, satisfies}
-use Rattle.judging.specs.Levels.Laws.{satisfies_agrees}
-use Rattle.judging.specs.Levels.Greatest.{greatest_solution, holds_solves}
 use Rattle.judging.specs.Levels.Sheet.{sheet, sheet_bytes}
 use Rattle.files.specs.Outcome.{published}
-use Rattle.judging.specs.Levels.Sheet.Laws.{sheet_shows}
 use Rattle.files.specs.declared.refusal.Refusal.{Refusal}
 use Rattle.judging.specs.declared.answers.Judged.TheVariants.{Holds, Fails, Refused}
 
@@ -56,48 +53,6 @@ module _ (L : Limits) (g p : List ℕ) (out work : ℕ) where
   pub judge_files : (s : Said) → judged L g p out work ≡ says s → (s ≡ judge_verdict L g p out work) × (refusal L graph g ≡ none) × (refusal L property p ≡ none)
   unfolding judged
   judge_files = two_given L graph g property p judge_room out work (judge_verdict L g p out work)
-
--- ---- what the verdict says
-
-judge_cases : (G : Graph) (P : List Row) (s : Said) → Flow G → Property P → s ≡ judge_said G P → Judges G P s
-unfolding judge_said
-judge_cases G P s flow wf e = go (satisfies G P) refl (satisfies_agrees G P flow wf) e
-  where
-    go : (b : Bool) → satisfies G P ≡ b → T b ↔ Satisfies G P
-        → s ≡ cond b (record { verdict = 1; values = []; written = [] }) (record { verdict = 2; values = length (sheet G P) ∷ []; written = sheet_bytes G P })
-        → Judges G P s
-    go true c i q =
-        let v : s.verdict ≡ 1 = ap (λ (x : Said). x.verdict) q in
-        record {
-          is_flow = flow;
-          is_property = wf;
-          solves = holds_solves G P flow wf;
-          greatest = greatest_solution G P flow wf;
-          holds_iff = (λ x. i.0 tt, λ x. v);
-          fails_iff = (λ x. absurd (omega arith), λ f. absurd (f (i.0 tt)));
-          holds_writes = λ x. (ap (λ (x : Said). x.values) q, ap (λ (x : Said). x.written) q);
-          fails_writes = λ x. absurd (omega arith);
-          fails_shows = λ x. absurd (omega arith);
-        }
-    go false c i q =
-        let v : s.verdict ≡ 2 = ap (λ (x : Said). x.verdict) q in
-        record {
-          is_flow = flow;
-          is_property = wf;
-          solves = holds_solves G P flow wf;
-          greatest = greatest_solution G P flow wf;
-          holds_iff = (λ x. absurd (omega arith), λ f. absurd (i.1 f));
-          fails_iff = (λ x f. i.1 f, λ f. v);
-          holds_writes = λ x. absurd (omega arith);
-          fails_writes = λ x. (ap (λ (x : Said). x.values) q, ap (λ (x : Said). x.written) q);
-          fails_shows = λ x. sheet_shows G P flow wf (subst (λ (b : Bool). T (not b)) (sym c) tt);
-        }
-
--- whatever the bytes and lengths, a verdict of judging says what `Judges` says
-pub judge_says : (L : Limits) (g p : List ℕ) (out work : ℕ) (s : Said) → judged L g p out work ≡ says s → Judges (decode_graph g) (decode_property p) s
-judge_says L g p out work s e =
-    let a = judge_files L g p out work s e in
-    judge_cases (decode_graph g) (decode_property p) s (decoded_flow L g a.1) (decoded_property L p a.2).rows_named a.0
 
 -- ---- of accepted files
 

@@ -11,7 +11,7 @@ use Rattle.files.specs.declared.record.Limits.{Limits}
 use Rattle.judging.specs.declared.answers.Judged.{Judged}
 use Rattle.judging.specs.declared.answers.Judged.TheVariants.{Holds, Fails, Refused}
 use Rattle.judging.specs.Judge.{judged_answer, judge_said, judge_verdict, judge_checks, judge_lines, judged, Judges}
-use Rattle.judging.specs.Judge.Laws.{judge_refused, judge_accepted, judge_says}
+use Rattle.judging.specs.Judge.Laws.{judge_refused, judge_accepted}
 use Rattle.judging.specs.Levels.{Satisfies, satisfies}
 use Rattle.judging.specs.Levels.Sheet.{sheet, sheet_bytes, read_sheet}
 use Rattle.judging.specs.Levels.Sheet.Laws.{sheet_bytes_length, sheet_read}
@@ -126,19 +126,8 @@ module _ {R : Type 0} (tell : Judged → R) (heard : Heard tell) (G : Graph) (P 
 
 module _ {R : Type 0} (tell : Judged → R) (heard : Heard tell) (L : Limits) (g p out work out' work' : List ℕ) (c : Judged)
     (does : Does (judged L g p (length out) (length work)) out work out' work' (judged_answer c)) where
-  abbrev ls : Lines
+  abbrev pub ls : Lines
   ls = judge_lines L g p (length out) (length work)
 
-  decided : Decided (judged L g p (length out) (length work)) (judge_verdict L g p (length out) (length work)) ls
+  pub decided : Decided (judged L g p (length out) (length work)) (judge_verdict L g p (length out) (length work)) ls
   decided = judge_decided L g p (length out) (length work)
-
-  pub judge_tells : JudgeMeans tell L g p out work out' work' (tell c)
-  judge_tells = record {
-    verdict = verdict_tells tell heard (decode_graph g) (decode_property p) _ ls decided (λ t. judge_says L g p (length out) (length work) _ (decided.accepted.1 t)) out out' c does.answers;
-    clears = clears_by judged_enum tell heard _ _ ls decided c does.answers.answer_is work work' does.work_is;
-  }
-
--- The returned value, from what the contract states of it.
-pub judge_means : (L : Limits) (g p out work out' work' : List ℕ) (r : Judged)
-    → Does (judged L g p (length out) (length work)) out work out' work' (judged_answer r) → JudgeMeans itself L g p out work out' work' r
-judge_means L g p out work out' work' r does = judge_tells itself heard_itself L g p out work out' work' r does

@@ -49,29 +49,29 @@ obliged_pair t (some b) = (t, b) ∷ []
 
 module _ (G : Graph) where
   -- what row x obliges the ends of g's edges to: each end with its row
-  pub targets : ℕ → Row → List (ℕ × ℕ)
+  unfoldable pub targets : ℕ → Row → List (ℕ × ℕ)
   targets g x = each (λ (e : Edge). obliged_pair e.to (obliged x e.label)) (keep (λ (e : Edge). eqb e.from g) G.edges)
 
 module _ (G : Graph) (P : List Row) where
   -- '"And" has the lower-ranked false operand, ties to a'. (The rank of a row that holds is past every other: Ranks, `rank-bound` and `low-false`.)
-  pub lower : ℕ → ℕ → ℕ → ℕ
+  unfoldable pub lower : ℕ → ℕ → ℕ → ℕ
   lower g a b = cond (leb (rank G P g a) (rank G P g b)) a b
 
   -- x has a lower rank than y, or the same, and is at no higher a node
-  pub ahead : ℕ × ℕ → ℕ × ℕ → Bool
+  unfoldable pub ahead : ℕ × ℕ → ℕ × ℕ → Bool
   ahead x y = ltb (rank G P x.0 x.1) (rank G P y.0 y.1) || (eqb (rank G P x.0 x.1) (rank G P y.0 y.1) && leb x.0 y.0)
 
   -- "a box has the target of lowest rank, ties to the lowest node"
-  pub foremost : ℕ × ℕ → List (ℕ × ℕ) → ℕ × ℕ
+  unfoldable pub foremost : ℕ × ℕ → List (ℕ × ℕ) → ℕ × ℕ
   foremost x [] = x
   foremost x (y ∷ ys) = foremost (cond (ahead x y) x y) ys
 
-  pub box_causes : List (ℕ × ℕ) → List (ℕ × ℕ)
+  unfoldable pub box_causes : List (ℕ × ℕ) → List (ℕ × ℕ)
   box_causes [] = []
   box_causes (x ∷ xs) = foremost x xs ∷ []
 
   -- the causes of a false pair, by its row: '"or" has both, a first'; "the rest have none"
-  pub row_causes : ℕ → Row → List (ℕ × ℕ)
+  unfoldable pub row_causes : ℕ → Row → List (ℕ × ℕ)
   row_causes g always = []
   row_causes g never = []
   row_causes g returns = []
@@ -83,22 +83,22 @@ module _ (G : Graph) (P : List Row) where
   row_causes g (box l b) = box_causes (targets G g (box l b))
   row_causes g (box_all a) = box_causes (targets G g (box_all a))
 
-  pub causes : ℕ × ℕ → List (ℕ × ℕ)
+  unfoldable pub causes : ℕ × ℕ → List (ℕ × ℕ)
   causes x = row_causes x.0 (row P x.1)
 
   -- "lowest failing entry"
-  pub failing : ℕ
+  unfoldable pub failing : ℕ
   failing = least (λ (g : ℕ). (node G g).entry && not (holds G P g 0)) (size G)
 
   -- "On failure the fault sheet starts at (lowest failing entry, row 0) and lists pairs breadth first, each once."
-  pub pairs : List (ℕ × ℕ)
+  unfoldable pub pairs : List (ℕ × ℕ)
   pairs = let xs = breadth_first same_pair causes (size G * length P) (failing, 0) in cond (satisfies G P) [] xs
 
-  pub fault : ℕ × ℕ → Fault
+  unfoldable pub fault : ℕ × ℕ → Fault
   fault x = let cs = causes x in record { pair = x; first = get_or cs 0 no_cause; second = get_or cs 1 no_cause }
 
-  pub sheet : List Fault
+  unfoldable pub sheet : List Fault
   sheet = map fault pairs
 
-  pub sheet_bytes : List ℕ
+  unfoldable pub sheet_bytes : List ℕ
   sheet_bytes = each fault_bytes sheet

@@ -16,7 +16,7 @@ use Rattle.files.specs.Places.{max_nodes, max_rows}
 use Rattle.files.specs.Property.{Row, Property}
 use Rattle.judging.specs.Chains.Laws.{index_kept}
 use Rattle.judging.specs.Levels.{level}
-use Rattle.judging.specs.Levels.Onward.{first_rank, rank_within}
+use Rattle.judging.specs.Levels.Onward.{first_rank}
 use Rattle.judging.specs.Places.{judge_room, max_pairs, node_heads_base, queue_base}
 use Rattle.judging.specs.Ranking.{pair, rank_at, queue_at, Given, given, tail_after, ranked, Queued, RankBy, Finding, Grew}
 
@@ -49,7 +49,7 @@ tally_room f i (suc n) l a = go (ℕ_discrete i n) (λ m. tally_room f i n m a)
 
 -- ---- a pair put at the queue's end with its rank
 
-abbrev pushed : List ℕ → ℕ → ℕ → ℕ → List ℕ
+abbrev pub pushed : List ℕ → ℕ → ℕ → ℕ → List ℕ
 pushed w tail p k = put_cell (put_cell w 0 2 p (suc k)) queue_base 2 tail p
 
 module _ (w : List ℕ) (tail p k : ℕ) (in_ranks : p < max_pairs) (in_queue : tail < max_pairs) (room : judge_room ≤ length w) (low : k ≤ max_pairs) where
@@ -59,7 +59,7 @@ module _ (w : List ℕ) (tail p k : ℕ) (in_ranks : p < max_pairs) (in_queue : 
   room_once : judge_room ≤ length once
   room_once = omega (arith, room, length_put_cell w 0 2 p (suc k))
 
-  pushed_length : length (pushed w tail p k) ≡ length w
+  pub pushed_length : length (pushed w tail p k) ≡ length w
   pushed_length = length_put_cell once queue_base 2 tail p ∙ length_put_cell w 0 2 p (suc k)
 
   rank_here : cell (pushed w tail p k) 0 2 p ≡ suc k
@@ -68,18 +68,18 @@ module _ (w : List ℕ) (tail p k : ℕ) (in_ranks : p < max_pairs) (in_queue : 
   rank_there : (j : ℕ) → j < max_pairs → (p ≡ j → ⊥) → cell (pushed w tail p k) 0 2 j ≡ cell w 0 2 j
   rank_there j h f = cell_apart once queue_base 2 tail p 0 2 j (inl (omega arith)) ∙ cell_other w 0 2 p j (suc k) f
 
-  queue_here : cell (pushed w tail p k) queue_base 2 tail ≡ p
+  pub queue_here : cell (pushed w tail p k) queue_base 2 tail ≡ p
   queue_here = cell_same once queue_base 2 tail p (omega (arith, room_once)) (omega arith)
 
-  queue_there : (i : ℕ) → i < tail → cell (pushed w tail p k) queue_base 2 i ≡ cell w queue_base 2 i
+  pub queue_there : (i : ℕ) → i < tail → cell (pushed w tail p k) queue_base 2 i ≡ cell w queue_base 2 i
   queue_there i h = cell_other once queue_base 2 tail i p (λ e. omega arith) ∙ cell_apart w 0 2 p (suc k) queue_base 2 i (inr (omega arith))
 
   -- what stands past the queue is kept
-  past_kept : (base j : ℕ) → node_heads_base ≤ base → cell (pushed w tail p k) base 2 j ≡ cell w base 2 j
+  pub past_kept : (base j : ℕ) → node_heads_base ≤ base → cell (pushed w tail p k) base 2 j ≡ cell w base 2 j
   past_kept base j h = cell_apart once queue_base 2 tail p base 2 j (inr (omega arith)) ∙ cell_apart w 0 2 p (suc k) base 2 j (inr (omega arith))
 
   -- where the pair had no rank, one more has
-  ranked_more : (n : ℕ) → n ≤ 256 → p < 32 * n → cell w 0 2 p ≡ 0 → ranked (pushed w tail p k) n ≡ suc (ranked w n)
+  pub ranked_more : (n : ℕ) → n ≤ 256 → p < 32 * n → cell w 0 2 p ≡ 0 → ranked (pushed w tail p k) n ≡ suc (ranked w n)
   ranked_more n few l e =
       tally_one (λ j. not (eqb (cell w 0 2 j) 0)) (λ j. not (eqb (cell (pushed w tail p k) 0 2 j) 0)) p (32 * n) l
       (not_T (not (eqb (cell w 0 2 p) 0)) (λ t. T_not (eqb (cell w 0 2 p) 0) t (eq_eqb _ _ e)))
@@ -123,49 +123,26 @@ module _ (G : Graph) (P : List Row) where
   queued_same k i w w' e x = record { its_node = x.its_node; its_row = x.its_row; is_node = x.is_node; is_row = x.is_row; is_there = e ∙ x.is_there; is_false = x.is_false }
 
 module _ (G : Graph) (P : List Row) (flow : Flow G) (wf : Property P) (few_nodes : size G ≤ max_nodes) (few_rows : length P ≤ max_rows) where
-  -- a pair that turns false at level k + 1 and has no rank yet was true at level k
-  was_true : (k tail : ℕ) (w : List ℕ) → Finding G P k tail w → (g r : ℕ) → g < size G → r < length P → rank_at w g r ≡ 0 → T (level G P k g r)
-  was_true k tail w f g r hg hr e = go (decide (level G P k g r)) (f.ranks g r hg hr)
-    where
-      go : T (level G P k g r) ⊎ T (not (level G P k g r)) → RankBy G P k w g r → T (level G P k g r)
-      go (inl t) x = t
-      go (inr t) (inl x) = let h = rank_within G P flow wf k g r hg hr t in absurd (omega (arith, x, first_rank G P k g r t, h.0))
-      go (inr t) (inr x) = x.0
-
   module _ (k tail : ℕ) (w : List ℕ) (f : Finding G P k tail w) (g r : ℕ) (hg : g < size G) (hr : r < length P) (turns : T (not (level G P (suc k) g r))) where
     module _ (none : rank_at w g r ≡ 0) where
-      in_ranks : pair g r < max_pairs
+      pub in_ranks : pair g r < max_pairs
       in_ranks = omega arith
 
-      in_queue : tail < max_pairs
+      pub in_queue : tail < max_pairs
       in_queue = omega (arith, f.counted, ranked_room w (size G) (pair g r) (omega arith) none)
 
-      after : List ℕ
+      unfoldable pub after : List ℕ
       after = pushed w tail (pair g r) k
 
-      here : rank_at after g r ≡ suc k
+      pub here : rank_at after g r ≡ suc k
       unfolding after
       here = rank_here w tail (pair g r) k in_ranks in_queue f.room f.low
 
-      there : (u q : ℕ) → u < size G → q < length P → (pair g r ≡ pair u q → ⊥) → rank_at after u q ≡ rank_at w u q
+      pub there : (u q : ℕ) → u < size G → q < length P → (pair g r ≡ pair u q → ⊥) → rank_at after u q ≡ rank_at w u q
       unfolding after
       there u q hu hq n = rank_there w tail (pair g r) k in_ranks in_queue f.room f.low (pair u q) (omega arith) n
 
-      ranks_after : (u q : ℕ) → u < size G → q < length P → RankBy G P k after u q
-      ranks_after u q hu hq = go (ℕ_discrete (pair g r) (pair u q))
-        where
-          go : Dec (pair g r ≡ pair u q) → RankBy G P k after u q
-          go (yes e) =
-              let d = pair_same g r u q (omega arith) (omega arith) e in
-              let t = was_true k tail w f g r hg hr none in
-              subst (λ (x : ℕ). RankBy G P k after x q) d.0 (subst (λ (x : ℕ). RankBy G P k after g x) d.1 (inr (t, turns, here)))
-          go (no n) = kept (f.ranks u q hu hq)
-            where
-              kept : RankBy G P k w u q → RankBy G P k after u q
-              kept (inl x) = inl (there u q hu hq n ∙ x)
-              kept (inr x) = inr (x.0, x.1, there u q hu hq n ∙ x.2)
-
-      queued_after : (i : ℕ) → i < suc tail → Queued G P (suc k) after i
+      pub queued_after : (i : ℕ) → i < suc tail → Queued G P (suc k) after i
       unfolding after
       queued_after i h = go (ℕ_discrete i tail)
         where
@@ -179,48 +156,6 @@ module _ (G : Graph) (P : List Row) (flow : Flow G) (wf : Property P) (few_nodes
             is_false = turns;
           }
           go (no n) = queued_same G P (suc k) i w (pushed w tail (pair g r) k) (queue_there w tail (pair g r) k in_ranks in_queue f.room f.low i (omega arith)) (f.queued i (omega arith))
-
-      found_after : Finding G P k (suc tail) after
-      unfolding after
-      found_after = record {
-        room = omega (arith, f.room, pushed_length w tail (pair g r) k in_ranks in_queue f.room f.low);
-        low = f.low;
-        index = index_kept G P w (pushed w tail (pair g r) k) (past_kept w tail (pair g r) k in_ranks in_queue f.room f.low) f.index;
-        ranks = ranks_after;
-        queued = queued_after;
-        counted = ap suc f.counted ∙ sym (ranked_more w tail (pair g r) k in_ranks in_queue f.room f.low (size G) few_nodes (omega arith) none);
-      }
-
-      grew_one : Grew G P k tail (suc tail) w after × Given after g r
-      unfolding after
-      grew_one = (
-        record {
-          finding = found_after;
-          longer = omega arith;
-          given_kept = λ u q hu hq x e. old u q hu hq x e (ℕ_discrete (pair g r) (pair u q));
-          queue_kept = λ i h. queue_there w tail (pair g r) k in_ranks in_queue f.room f.low i h;
-          new_queued = λ u q hu hq x. new u q hu hq x (ℕ_discrete (pair g r) (pair u q));
-        },
-        λ e. omega (arith, here),
-      )
-        where
-          old : (u q : ℕ) → u < size G → q < length P → Given w u q → rank_at (pushed w tail (pair g r) k) u q ≡ 0 → Dec (pair g r ≡ pair u q) → ⊥
-          old u q hu hq x e (yes d) = omega (arith, here, ap (cell (pushed w tail (pair g r) k) 0 2) d)
-          old u q hu hq x e (no n) = x (sym (there u q hu hq n) ∙ e)
-
-          new : (u q : ℕ) → u < size G → q < length P → Given (pushed w tail (pair g r) k) u q → Dec (pair g r ≡ pair u q)
-              → Given w u q ⊎ ((i : ℕ) × (tail ≤ i) × (i < suc tail) × (queue_at (pushed w tail (pair g r) k) i ≡ pair u q))
-          new u q hu hq x (yes d) = inr (tail, le_refl tail, omega arith, queue_here w tail (pair g r) k in_ranks in_queue f.room f.low ∙ d)
-          new u q hu hq x (no n) = inl (λ e. x (there u q hu hq n ∙ e))
-
-    -- giving the rank keeps what is known, and the pair has a rank
-    pub give_grew : Grew G P k tail (tail_after w tail g r) w (given w tail g r k) × Given (given w tail g r k) g r
-    unfolding given after
-    give_grew = go (eqb (rank_at w g r) 0) refl
-      where
-        go : (b : Bool) → eqb (rank_at w g r) 0 ≡ b → Grew G P k tail (cond b (suc tail) tail) w (cond b (pushed w tail (pair g r) k) w) × Given (cond b (pushed w tail (pair g r) k) w) g r
-        go true e = grew_one (eqb→eq _ _ (subst T (sym e) tt))
-        go false e = (grew_none G P k tail w f, λ z. subst T e (eq_eqb _ _ z))
 
     -- there is room to give it
     pub give_room : rank_at w g r ≡ 0 → tail < max_pairs

@@ -13,12 +13,12 @@ use Rattle.maximal.specs.Charting.Kept.{off, stored_same}
 use Rattle.maximal.specs.Charting.States.{state_same}
 use Rattle.maximal.specs.Masks.{member, asked_of}
 use Rattle.maximal.specs.Model.{State, Entry, Next, is_entry, is_next}
-use Rattle.maximal.specs.Model.Computed.{entry_e, next_e}
+use Rattle.maximal.specs.Model.Computed.{entry_e}
 use Rattle.maximal.specs.Model.Supports.{length_tab}
 use Rattle.maximal.specs.Places.{asked_base, entries_slot, methods_base, slots, max_states}
 
 module _ (I : Interface) (P : List Row) where
-  abbrev n : ℕ
+  abbrev pub n : ℕ
   n = length P
 
   -- ---- the same states
@@ -151,21 +151,8 @@ module _ (I : Interface) (P : List Row) where
             off (ltb t c && p (stored n w t)) (λ z. h (ltb→lt t c (and_l (ltb t c) (p (stored n w t)) z)))
             ∙ sym (off (ltb t c' && p (stored n w' t)) (λ z. h (old t (ltb→lt t c' (and_l (ltb t c') (p (stored n w' t)) z)) (and_r (ltb t c') (p (stored n w' t)) z))))
 
-    rows_of : (t : ℕ) → length (stored n w' t).rows ≡ n
+    pub rows_of : (t : ℕ) → length (stored n w' t).rows ≡ n
     rows_of t = length_tab (member (set_at w' t)) n
-
-    pub followed_kept : (p : ℕ) → p < slots → (p ≡ q → ⊥) → p / 9 < c → Followed I P c w p → Followed I P c' w' p
-    followed_kept p l d h f = record {
-      bits = λ t m.
-          x.others_kept p t (omega arith) m d ∙ f.bits t m
-          ∙ ap (λ (s : State). ltb t c && is_next I P s (p % 9) (stored n w t)) (sym (stored_kept (p / 9) h))
-          ∙ tested (λ s. is_next I P (stored n w' (p / 9)) (p % 9) s) (λ i k z. same_place i (stored n w' i) k refl (f.all_there (stored n w' i)
-          (subst (λ (s : State). Next I P s (p % 9) (stored n w' i)) (stored_kept (p / 9) h) (next_e I P wf (stored n w' (p / 9)) (p % 9) (stored n w' i) (rows_of i) z)))) t;
-      all_there = λ s z. still_there s (f.all_there s (subst (λ (e : State). Next I P e (p % 9) s) (stored_kept (p / 9) h) z));
-      method_is = λ t. method_kept p l ∙ f.method_is t ∙ ap (λ (k : ℕ). k / 2) (sym (x.kinds_kept (p / 9) h));
-      no_method = λ t. method_kept p l ∙ f.no_method t;
-      asked_is = λ t. asked_kept p l ∙ f.asked_is t ∙ ap (λ (k : ℕ). asked_of P k (p % 9)) (sym (x.sets_kept (p / 9) h));
-    }
 
     pub entry_bits_kept : (q ≡ entries_slot → ⊥) → ((t : ℕ) → t < max_states → target w entries_slot t ≡ (ltb t c && is_entry I P (stored n w t)))
         → ((s : State) → Entry I P s → (t : ℕ) × (t < c) × (stored n w t ≡ s)) → (t : ℕ) → t < max_states → target w' entries_slot t ≡ (ltb t c' && is_entry I P (stored n w' t))

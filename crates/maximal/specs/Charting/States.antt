@@ -20,8 +20,7 @@ use Rattle.maximal.specs.Charting.{flag_of, state_of, stored, kind_at, set_at, s
 use Rattle.maximal.specs.Masks.{member, rows, asked_of}
 use Rattle.maximal.specs.Masks.Laws.{member_one, member_lt, value_rows, rows_value, asked_lt, member_asked}
 use Rattle.maximal.specs.Model.{Rows, Minimal, root, asked, State, Entry, Next, Reached, is_entry, is_label, is_next, states}
-use Rattle.maximal.specs.Model.Computed.{asked_row, entry_e, entry_i, next_e, next_i, label_e, states_are}
-use Rattle.maximal.specs.Model.Maximal.{reached_provided}
+use Rattle.maximal.specs.Model.Computed.{asked_row, entry_e, entry_i, label_e}
 use Rattle.maximal.specs.Model.Supports.{length_tab}
 
 -- ---- the state of a kind and a set
@@ -64,15 +63,10 @@ state_same n a b u v hu hv e =
 pub kind_provided : (I : Interface) (s : State) → T (provides I s.method) → (2 ≤ kind_of s) × (kind_of s < 18)
 kind_provided I s t = let b = in_set_small I.provided s.method t in (omega (arith, b.0), omega (arith, b.1, one_le s.flag))
 
-pub known_i : (I : Interface) (P : List Row) (kind u : ℕ) → u < 2 ^ length P → Reached I P (state_of (length P) kind u) → Known I P kind u
-known_i I P kind u h r =
-    let b = kind_provided I (state_of (length P) kind u) (reached_provided I P (state_of (length P) kind u) r) in
-    record { method_from = omega (arith, b.0, kind_of_is (length P) kind u); method_to = omega (arith, b.1, kind_of_is (length P) kind u); of_rows = h; reached = r }
-
 -- ---- what is collected
 
 module _ (I : Interface) (P : List Row) (wf : Property P) (k : ℕ) (enough : or_count P ≤ k) where
-  abbrev n : ℕ
+  abbrev pub n : ℕ
   n = length P
 
   root_lt : 1 < 2 ^ n
@@ -82,7 +76,7 @@ module _ (I : Interface) (P : List Row) (wf : Property P) (k : ℕ) (enough : or
   root_is i r = (member_one 0 r ∙ same_test (eqb 0 r) (eqb r 0) (λ t. eq_eqb r 0 (sym (eqb→eq 0 r t))) (λ t. eq_eqb 0 r (sym (eqb→eq r 0 t)))) i
 
   -- what a set asks for, as a test
-  asked_is : (u l : ℕ) → member (asked_of P u l) ≡ asked P (rows n u) l
+  pub asked_is : (u l : ℕ) → member (asked_of P u l) ≡ asked P (rows n u) l
   asked_is u l i r = go (dec_lt r n) i
     where
       go : Dec (r < n) → member (asked_of P u l) r ≡ asked P (rows n u) l r
@@ -102,29 +96,10 @@ module _ (I : Interface) (P : List Row) (wf : Property P) (k : ℕ) (enough : or
 
   -- for what state (kind₀, v) asks for under a label: what follows it
   module _ (kind₀ v l : ℕ) where
-    pub collected_next : (kind u : ℕ) → T (is_label I P l) → kind / 2 ≡ kind₀ / 2 → Memᴰ u (supports_of P k (kind / 2) (flag_of kind) (asked_of P v l))
-        → (u < 2 ^ n) × Next I P (state_of n kind₀ v) l (state_of n kind u)
-    collected_next kind u t m i =
-        let a = (supports_are P wf (kind / 2) (flag_of kind) (asked_of P v l) (asked_lt P v l) k enough u).0 i in
-        (a.0, record { label = label_e I P wf l t; same_method = m; minimal = subst (λ (O : ℕ → Bool). Minimal P (kind / 2) (flag_of kind) O (rows n u)) (asked_is v l) a.1 })
-
     pub next_collected : (kind u : ℕ) → u < 2 ^ n → Next I P (state_of n kind₀ v) l (state_of n kind u) → Memᴰ u (supports_of P k (kind / 2) (flag_of kind) (asked_of P v l))
     next_collected kind u h x =
         (supports_are P wf (kind / 2) (flag_of kind) (asked_of P v l) (asked_lt P v l) k enough u).1
         (h, subst (λ (O : ℕ → Bool). Minimal P (kind / 2) (flag_of kind) O (rows n u)) (sym (asked_is v l)) x.minimal)
-
-    -- the same as a test
-    pub next_is : (kind u : ℕ) → u < 2 ^ n → T (is_label I P l)
-        → is_next I P (state_of n kind₀ v) l (state_of n kind u) ≡ (eqb (kind / 2) (kind₀ / 2) && any (λ q. eqb u q) (supports_of P k (kind / 2) (flag_of kind) (asked_of P v l)))
-    next_is kind u h t = same_test (is_next I P (state_of n kind₀ v) l (state_of n kind u)) (eqb (kind / 2) (kind₀ / 2) && any (λ q. eqb u q) xs)
-        (λ x. let a = next_e I P wf (state_of n kind₀ v) l (state_of n kind u) (length_tab (member u) n) x in
-        and_i (eqb (kind / 2) (kind₀ / 2)) (any (λ q. eqb u q) xs) (eq_eqb (kind / 2) (kind₀ / 2) a.same_method) (any_i (λ q. eqb u q) xs u (next_collected kind u h a) (eq_eqb u u refl)))
-        (λ x. let a = any_e (λ q. eqb u q) xs (and_r (eqb (kind / 2) (kind₀ / 2)) (any (λ q. eqb u q) xs) x) in
-        next_i I P wf (state_of n kind₀ v) l (state_of n kind u)
-        (collected_next kind u t (eqb→eq (kind / 2) (kind₀ / 2) (and_l (eqb (kind / 2) (kind₀ / 2)) (any (λ q. eqb u q) xs) x)) (Memᴰ.cast (eqb→eq u a.0 a.2) a.1)).1)
-      where
-        xs : List ℕ
-        xs = supports_of P k (kind / 2) (flag_of kind) (asked_of P v l)
 
   pub entry_is : (kind u : ℕ) → u < 2 ^ n → is_entry I P (state_of n kind u) ≡ (provides I (kind / 2) && any (λ q. eqb u q) (supports_of P k (kind / 2) (flag_of kind) 1))
   entry_is kind u h = same_test (is_entry I P (state_of n kind u)) (provides I (kind / 2) && any (λ q. eqb u q) xs)
@@ -139,7 +114,7 @@ module _ (I : Interface) (P : List Row) (wf : Property P) (k : ℕ) (enough : or
 -- ---- no room
 
 module _ (I : Interface) (P : List Row) (wf : Property P) (c : ℕ) (w : List ℕ) (h : Holds I P c w) where
-  stored_once : (a m : ℕ) → a + m ≤ c → Once (table (stored (length P) w) a m)
+  pub stored_once : (a m : ℕ) → a + m ≤ c → Once (table (stored (length P) w) a m)
   stored_once a zero l = tt
   stored_once a (suc m) l = (
     λ i. let b = table_e (stored (length P) w) (suc a) m (stored (length P) w a) i in
@@ -148,32 +123,6 @@ module _ (I : Interface) (P : List Row) (wf : Property P) (c : ℕ) (w : List �
         omega (arith, e, b.1),
     stored_once (suc a) m (omega arith),
   )
-
-  -- a state of the model that is not among c shows that there are more than c
-  pub crowded : (kind u : ℕ) → Known I P kind u → found w c kind u ≡ c → Crowded I P c
-  unfolding Crowded
-  crowded kind u x e = omega (arith, room xs (states I P) once inside, length_table (stored (length P) w) 0 c)
-    where
-      xs : List State
-      xs = state_of (length P) kind u ∷ table (stored (length P) w) 0 c
-
-      new : Memᴰ (state_of (length P) kind u) (table (stored (length P) w) 0 c) → ⊥
-      new i =
-          let b = table_e (stored (length P) w) 0 c (state_of (length P) kind u) i in
-          let l : b.0 < c = omega (arith, b.2) in
-          let s = state_same (length P) (kind_at w b.0) kind (set_at w b.0) u (h.known b.0 l).of_rows x.of_rows b.3 in
-          T_not (same_state w kind u b.0) (least_before (same_state w kind u) c b.0 (subst (λ (m : ℕ). b.0 < m) (sym e) l))
-          (and_i (eqb (kind_at w b.0) kind) (eqb (set_at w b.0) u) (eq_eqb (kind_at w b.0) kind s.0) (eq_eqb (set_at w b.0) u s.1))
-
-      once : Once xs
-      once = (new, stored_once 0 c (omega arith))
-
-      inside : (s : State) → Memᴰ s xs → Memᴰ s (states I P)
-      inside s i = go (Memᴰ.cases_cons i)
-        where
-          go : (s ≡ state_of (length P) kind u) ⊎ Memᴰ s (table (stored (length P) w) 0 c) → Memᴰ s (states I P)
-          go (inl d) = (states_are I P wf s).1 (subst (Reached I P) (sym d) x.reached)
-          go (inr j) = let b = table_e (stored (length P) w) 0 c s j in (states_are I P wf s).1 (subst (Reached I P) b.3 (h.known b.0 (omega (arith, b.2))).reached)
 
 pub crowded_e : (I : Interface) (P : List Row) (n : ℕ) → Crowded I P n → n < length (states I P)
 unfolding Crowded

@@ -19,7 +19,6 @@ use Rattle.files.specs.Places.{record_len}
 use Rattle.files.specs.Property.{Row, Property}
 use Rattle.files.specs.Record.{six, write}
 use Rattle.maximal.specs.Charting.{kind_at, order_at, Arranged, in_order}
-use Rattle.maximal.specs.Charting.Order.{states_in_order, states_many, state_in_order}
 use Rattle.maximal.specs.Charting.States.{one_flag}
 use Rattle.maximal.specs.Listing.{leads, tally_under, tally_from, tally_upto, node_bytes, under_bytes, from_bytes}
 use Rattle.maximal.specs.Model.{State, no_state, is_next, states, model}
@@ -29,16 +28,16 @@ use Rattle.maximal.specs.Places.{max_states}
 
 -- ---- lists over a span
 
-each_same : {B : Type 0} (f g : ℕ → List B) (a n : ℕ) → ((i : ℕ) → a ≤ i → i < a + n → f i ≡ g i) → each f (span a n) ≡ each g (span a n)
+pub each_same : {B : Type 0} (f g : ℕ → List B) (a n : ℕ) → ((i : ℕ) → a ≤ i → i < a + n → f i ≡ g i) → each f (span a n) ≡ each g (span a n)
 each_same f g a zero h = refl
 each_same f g a (suc n) h = ap₂ ◌++◌ (h a (omega arith) (omega arith)) (each_same f g (suc a) n (λ i x y. h i (omega arith) (omega arith)))
 
 module _ {A B : Type 0} where
-  each_each : (f : A → List B) (g : ℕ → List A) (xs : List ℕ) → each f (each g xs) ≡ each (λ (x : ℕ). each f (g x)) xs
+  pub each_each : (f : A → List B) (g : ℕ → List A) (xs : List ℕ) → each f (each g xs) ≡ each (λ (x : ℕ). each f (g x)) xs
   each_each f g [] = refl
   each_each f g (x ∷ xs) = each_append f (g x) (each g xs) ∙ ap (λ (ys : List B). each f (g x) ++ ys) (each_each f g xs)
 
-keep_same : (p q : ℕ → Bool) (a n : ℕ) → ((i : ℕ) → a ≤ i → i < a + n → p i ≡ q i) → keep p (span a n) ≡ keep q (span a n)
+pub keep_same : (p q : ℕ → Bool) (a n : ℕ) → ((i : ℕ) → a ≤ i → i < a + n → p i ≡ q i) → keep p (span a n) ≡ keep q (span a n)
 keep_same p q a zero h = refl
 keep_same p q a (suc n) h = ap₂ (λ (b : Bool) (ys : List ℕ). put b a ys) (h a (omega arith) (omega arith)) (keep_same p q (suc a) n (λ i x y. h i (omega arith) (omega arith)))
 
@@ -152,54 +151,6 @@ module _ (w : List ℕ) (c : ℕ) where
 -- ---- the definition's graph
 
 module _ (I : Interface) (P : List Row) (wf : Property P) (c : ℕ) (w : List ℕ) (x : Arranged I P c w) where
-  leads_is : (i l j : ℕ) → i < c → l < 9 → j < c → is_next I P (get_or (states I P) i no_state) l (get_or (states I P) j no_state) ≡ leads w i l j
-  leads_is i l j hi hl hj =
-      ap₂ (λ (s t : State). is_next I P s l t) (state_in_order I P wf c w x i hi) (state_in_order I P wf c w x j hj)
-      ∙ sym (x.charted.follows_are (order_at w i) l (order_at w j) (x.ordered.below i hi) hl (x.ordered.below j hj))
-
-  edges_are : (model I P).edges ≡ each (λ (i : ℕ). each (λ (l : ℕ). map (made_edge I P i l) (keep (leads w i l) (span 0 c))) (span 0 9)) (span 0 c)
-  edges_are =
-      model_edges I P
-      ∙ ap (λ (m : ℕ). each (λ (i : ℕ). each (λ (l : ℕ). map (made_edge I P i l) (keep (λ (j : ℕ). is_next I P (get_or (states I P) i no_state) l (get_or (states I P) j no_state)) (span 0 m))) (span 0 9)) (span 0 m)) (states_many I P wf c w x)
-      ∙ each_same _ _ 0 c (λ i a b. each_same _ _ 0 9 (λ l d e. ap (map (made_edge I P i l)) (keep_same _ (leads w i l) 0 c (λ j f g. leads_is i l j (omega arith) (omega arith) (omega arith)))))
-
-  pub edge_bytes_are : write (map edge_rec (model I P).edges) ≡ edges_bytes w c c
-  edge_bytes_are =
-      ap (λ (es : List Edge). write (map edge_rec es)) edges_are
-      ∙ each_map six edge_rec (each (λ (i : ℕ). each (λ (l : ℕ). map (made_edge I P i l) (keep (leads w i l) (span 0 c))) (span 0 9)) (span 0 c))
-      ∙ each_each (λ (e : Edge). six (edge_rec e)) (λ (i : ℕ). each (λ (l : ℕ). map (made_edge I P i l) (keep (leads w i l) (span 0 c))) (span 0 9)) (span 0 c)
-      ∙ each_same _ _ 0 c (λ i a b. each_each (λ (e : Edge). six (edge_rec e)) (λ (l : ℕ). map (made_edge I P i l) (keep (leads w i l) (span 0 c))) (span 0 9)
-      ∙ each_same _ _ 0 9 (λ l d e. each_map (λ (e : Edge). six (edge_rec e)) (made_edge I P i l) (keep (leads w i l) (span 0 c))))
-
-  node_is : (i : ℕ) → i < c → six (node_rec (made_node I P (in_order I P w i))) ≡ node_bytes w i
+  pub node_is : (i : ℕ) → i < c → six (node_rec (made_node I P (in_order I P w i))) ≡ node_bytes w i
   node_is i h =
       ap₂ (λ (f e : ℕ). 1 ∷ kind_at w (order_at w i) / 2 ∷ f ∷ e ∷ 0 ∷ 0 ∷ []) (one_flag (kind_at w (order_at w i))) (ap one (sym (x.charted.entries_are (order_at w i) (x.ordered.below i h))))
-
-  pub node_bytes_are : write (map node_rec (model I P).nodes) ≡ each (node_bytes w) (span 0 c)
-  node_bytes_are =
-      ap (λ (ns : List Node). write (map node_rec ns)) (model_nodes I P ∙ ap (map (made_node I P)) (states_in_order I P wf c w x))
-      ∙ each_nodes (span 0 c) ∙ each_same _ _ 0 c (λ i a b. node_is i (omega arith))
-    where
-      each_nodes : (is : List ℕ) → each six (map node_rec (map (made_node I P) (map (in_order I P w) is))) ≡ each (λ (i : ℕ). six (node_rec (made_node I P (in_order I P w i)))) is
-      each_nodes [] = refl
-      each_nodes (i ∷ is) = ap (λ (ys : List ℕ). six (node_rec (made_node I P (in_order I P w i))) ++ ys) (each_nodes is)
-
-  -- the bytes of the model: those of its nodes, then those of its edges
-  pub model_bytes : graph_bytes (model I P) ≡ each (node_bytes w) (span 0 c) ++ edges_bytes w c c
-  model_bytes = graph_bytes_is (model I P) ∙ ap₂ ◌++◌ node_bytes_are edge_bytes_are
-
-  -- how many nodes and edges it has
-  pub model_nodes_many : size (model I P) ≡ c
-  model_nodes_many = model_size I P wf ∙ states_many I P wf c w x
-
-  pub model_edges_many : length (model I P).edges ≡ total w c c
-  model_edges_many =
-      let a = length_each 6 six (λ r. refl) (map edge_rec (model I P).edges) in
-      let b = length-map (model I P).edges edge_rec in
-      let d : length (write (map edge_rec (model I P).edges)) ≡ record_len * total w c c = ap length edge_bytes_are ∙ edges_length w c c in
-      omega (arith, a, b, d)
-
-  pub model_length : length (graph_bytes (model I P)) ≡ record_len * (c + length (model I P).edges)
-  model_length =
-      ap length model_bytes ∙ length-append (each (node_bytes w) (span 0 c)) (edges_bytes w c c)
-      ∙ omega (arith, nodes_length w c, edges_length w c c, model_edges_many)

@@ -17,7 +17,7 @@ use Rattle.files.specs.Interface.{Interface, provides, requires_method, Labelled
 use Rattle.files.specs.Interface.Laws.{in_set_small}
 use Rattle.files.specs.Property.{Row, row, Property}
 use Rattle.judging.specs.Levels.Laws.{obliged_named}
-use Rattle.maximal.specs.Model.Maximal.{reached_provided, reached_rows}
+use Rattle.maximal.specs.Model.Maximal.{reached_rows}
 use Rattle.maximal.specs.Model.Supports.{asked_e, sets_i, sets_e, has_lt}
 
 -- ---- minimal supports by test
@@ -103,22 +103,6 @@ module _ (I : Interface) (P : List Row) (wf : Property P) where
   label_i l (inl e) = (or_l (eqb l 0) (requires_method I l) (eq_eqb l 0 e), omega arith)
   label_i l (inr t) = (or_r (eqb l 0) (requires_method I l) t, (in_set_small I.required l t).1)
 
-  pub next_e : (s : State) (l : ℕ) (t : State) → length t.rows ≡ length P → T (is_next I P s l t) → Next I P s l t
-  unfolding is_next
-  next_e s l t e x =
-      let y = and_r (is_label I P l) _ x in
-      record {
-        label = label_e l (and_l (is_label I P l) _ x);
-        same_method = eqb→eq _ _ (and_l (eqb t.method s.method) _ y);
-        minimal = minimal_e P _ _ (asked P s.rows l) (asked_row s.rows l) t.rows e (and_r (eqb t.method s.method) _ y);
-      }
-
-  pub next_i : (s : State) (l : ℕ) (t : State) → Next I P s l t → T (is_next I P s l t)
-  unfolding is_next
-  next_i s l t x =
-      and_i (is_label I P l) _ (label_i l x.label).0 (and_i (eqb t.method s.method) _ (eq_eqb _ _ x.same_method)
-      (minimal_i P _ _ (asked P s.rows l) (asked_row s.rows l) t.rows x.minimal))
-
   -- ---- every state there could be
 
   abbrev made : ℕ → Bool → Rows → State
@@ -128,7 +112,7 @@ module _ (I : Interface) (P : List Row) (wf : Property P) where
   flag_in false = Memᴰ.head refl
   flag_in true = Memᴰ.tail (Memᴰ.head refl)
 
-  all_i' : (s : State) → T (provides I s.method) → length s.rows ≡ length P → Memᴰ s (all_states I P)
+  pub all_i' : (s : State) → T (provides I s.method) → length s.rows ≡ length P → Memᴰ s (all_states I P)
   unfolding all_states
   all_i' s t e =
       let b = in_set_small I.provided s.method t in
@@ -136,7 +120,7 @@ module _ (I : Interface) (P : List Row) (wf : Property P) where
       (each_i (λ (f : Bool). map (made s.method f) (sets (length P))) (false ∷ true ∷ []) s.flag s (flag_in s.flag)
       (Memᴰ.map (made s.method s.flag) (sets_i (length P) s.rows e)))
 
-  all_e' : (s : State) → Memᴰ s (all_states I P) → T (provides I s.method) × (length s.rows ≡ length P)
+  pub all_e' : (s : State) → Memᴰ s (all_states I P) → T (provides I s.method) × (length s.rows ≡ length P)
   unfolding all_states
   all_e' s m =
       let a = each_e _ (keep (provides I) (span 1 8)) s m in
@@ -149,10 +133,10 @@ module _ (I : Interface) (P : List Row) (wf : Property P) where
   -- ---- the states are those reached
 
   -- s has t for a successor, under some label
-  abbrev linked : State → State → Bool
+  abbrev pub linked : State → State → Bool
   linked t s = any (λ (l : ℕ). is_next I P s l t) (span 0 9)
 
-  arises_mono : (ys zs : List State) → ((y : State) → Memᴰ y ys → Memᴰ y zs) → (t : State) → T (arises I P ys t) → T (arises I P zs t)
+  pub arises_mono : (ys zs : List State) → ((y : State) → Memᴰ y ys → Memᴰ y zs) → (t : State) → T (arises I P ys t) → T (arises I P zs t)
   unfolding arises
   arises_mono ys zs f t x = go (or_e (is_entry I P t) _ x)
     where
@@ -160,47 +144,16 @@ module _ (I : Interface) (P : List Row) (wf : Property P) where
       go (inl y) = or_l (is_entry I P t) _ y
       go (inr y) = let b = any_e (linked t) ys y in or_r (is_entry I P t) _ (any_i (linked t) zs b.0 (f b.0 b.1) b.2)
 
-  arises_reached : (ys : List State) → ((y : State) → Memᴰ y ys → Reached I P y) → (t : State) → Memᴰ t (all_states I P) → T (arises I P ys t) → Reached I P t
-  unfolding arises
-  arises_reached ys f t m x = go (all_e' t m).1 (or_e (is_entry I P t) _ x)
-    where
-      go : length t.rows ≡ length P → T (is_entry I P t) ⊎ T (any (linked t) ys) → Reached I P t
-      go e (inl y) = at_entry (entry_e t e y)
-      go e (inr y) =
-          let b = any_e (linked t) ys y in
-          let c = any_e (λ (l : ℕ). is_next I P b.0 l t) (span 0 9) b.2 in
-          at_next (f b.0 b.1) (next_e b.0 c.0 t e c.2)
-
-  reached_all : (t : State) → Reached I P t → Memᴰ t (all_states I P)
-  reached_all t c = all_i' t (reached_provided I P t c) (reached_rows I P t c)
-
-  reached_closed : (t : State) → Reached I P t → Memᴰ t (closed (all_states I P) (arises I P))
-  unfolding arises
-  reached_closed t (at_entry e) =
-      closed_rule (all_states I P) (arises I P) arises_mono t (reached_all t (at_entry e)) (or_l (is_entry I P t) _ (entry_i t e))
-  reached_closed t (at_next {s = s} {l = l} c n) =
-      closed_rule (all_states I P) (arises I P) arises_mono t (reached_all t (at_next c n)) (or_r (is_entry I P t) _
-      (any_i (linked t) (closed (all_states I P) (arises I P)) s (reached_closed s c)
-      (any_i (λ (l : ℕ). is_next I P s l t) (span 0 9) l (span_i 9 0 l (omega arith) (omega (arith, (label_i l n.label).1))) (next_i s l t n))))
-
-  pub states_are : (t : State) → Memᴰ t (states I P) ↔ Reached I P t
-  unfolding states
-  states_are t = (closed_ind (all_states I P) (arises I P) (Reached I P) arises_reached t, reached_closed t)
-
   -- ---- the graph
 
   pub model_size : size (model I P) ≡ length (states I P)
   unfolding model graph_of
   model_size = length-map (states I P) _
 
-  model_node : (i : ℕ) → i < length (states I P)
+  pub model_node : (i : ℕ) → i < length (states I P)
       → node (model I P) i ≡ record { method = (state_at I P i).method; ret = (state_at I P i).flag; entry = is_entry I P (state_at I P i) }
   unfolding model graph_of state_at
   model_node i h = get_d_map (λ (s : State). record { method = s.method; ret = s.flag; entry = is_entry I P s }) (states I P) i no_state _ h
-
-  state_reached : (i : ℕ) → i < length (states I P) → Reached I P (state_at I P i)
-  unfolding state_at
-  state_reached i h = (states_are (state_at I P i)).0 (index_e no_state (states I P) i h)
 
   abbrev made_edge : ℕ → ℕ → ℕ → Edge
   made_edge i l j = record { from = i; label = l; to = j }
@@ -228,35 +181,12 @@ module _ (I : Interface) (P : List Row) (wf : Property P) where
       (each_i (λ (l : ℕ). map (made_edge i l) (targets xs i l)) (span 0 9) l (made_edge i l j) (span_i 9 0 l (omega arith) (omega arith))
       (Memᴰ.map (made_edge i l) (keep_i _ (span 0 (length xs)) j (span_i (length xs) 0 j (omega arith) (omega arith)) t)))
 
-  model_edge_e : (e : Edge) → Memᴰ e (model I P).edges
+  pub model_edge_e : (e : Edge) → Memᴰ e (model I P).edges
       → (e.from < length (states I P)) × (e.to < length (states I P)) × T (is_next I P (state_at I P e.from) e.label (state_at I P e.to))
   unfolding model graph_of state_at
   model_edge_e e m = edges_e (states I P) e m
 
-  model_edge_i : (i l j : ℕ) → i < length (states I P) → j < length (states I P) → l < 9 → T (is_next I P (state_at I P i) l (state_at I P j))
+  pub model_edge_i : (i l j : ℕ) → i < length (states I P) → j < length (states I P) → l < 9 → T (is_next I P (state_at I P i) l (state_at I P j))
       → Memᴰ (made_edge i l j) (model I P).edges
   unfolding model graph_of state_at
   model_edge_i i l j hi hj hl t = edges_i (states I P) i l j hi hj hl t
-
-  state_present : (s : State) → Reached I P s → (i : ℕ) × (i < length (states I P)) × (state_at I P i ≡ s)
-  unfolding state_at
-  state_present s c = index_i no_state (states I P) s ((states_are s).1 c)
-
-  -- the computed graph is the model
-  pub is_model : IsModel I P (state_at I P) (model I P)
-  is_model = record {
-    reached = λ i h. state_reached i (rw model_size at h);
-    present = λ s c. let a = state_present s c in (a.0, rw model_size a.1, a.2);
-    method_is = λ i h. rw (model_node i (rw model_size at h)) refl;
-    ret_is = λ i h. rw (model_node i (rw model_size at h)) refl;
-    entry_is = λ i h.
-        let k = rw model_size at h in
-        let e = reached_rows I P (state_at I P i) (state_reached i k) in
-        rw (model_node i k) (entry_e (state_at I P i) e, entry_i (state_at I P i));
-    edge_inside = λ e m. let a = model_edge_e e m in (rw model_size a.0, rw model_size a.1);
-    edge_next = λ e m.
-        let a = model_edge_e e m in
-        next_e _ _ _ (reached_rows I P (state_at I P e.to) (state_reached e.to a.1)) a.2;
-    next_edge = λ i l j hi hj n.
-        model_edge_i i l j (rw model_size at hi) (rw model_size at hj) (label_i l n.label).1 (next_i _ l _ n);
-  }

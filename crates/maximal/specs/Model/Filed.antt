@@ -11,31 +11,9 @@ use Rattle.files.specs.Interface.Laws.{in_set_small, labelled_small}
 use Rattle.files.specs.Property.{Row, Property}
 use Rattle.files.specs.declared.record.Limits.{Limits}
 use Rattle.maximal.specs.Model.{model, state_at}
-use Rattle.maximal.specs.Model.Computed.{is_model}
-use Rattle.maximal.specs.Model.Maximal.{model_flow, model_of}
 use Rattle.maximal.specs.Model.Ordered.{EdgeBefore, by_from, by_label, by_to, model_edges_ascend}
 
-edge_before : (d e : Edge) → EdgeBefore d e → Before (key d) (key e)
+pub edge_before : (d e : Edge) → EdgeBefore d e → Before (key d) (key e)
 edge_before d e (by_from h) = inl h
 edge_before d e (by_label p h) = inr (p, inl h)
 edge_before d e (by_to p q h) = inr (p, inr (q, inl h))
-
-module _ (I : Interface) (P : List Row) (wf : Property P) where
-  pub model_is_flow : Flow (model I P)
-  model_is_flow = model_flow I P wf (state_at I P) (model I P) (is_model I P wf)
-
-  pub model_is_of : Of I (model I P)
-  model_is_of = model_of I P wf (state_at I P) (model I P) (is_model I P wf)
-
-  pub model_filed : (L : Limits) → size (model I P) ≤ L.nodes → length (model I P).edges ≤ L.edges → Filed L (model I P)
-  model_filed L n e = record {
-    flow = model_is_flow;
-    methods = λ v m.
-        let a = index_i no_node (model I P).nodes v m in
-        let b = in_set_small I.provided v.method (subst (λ (x : Node). T (provides I x.method)) a.2 (model_is_of.methods a.0 a.1)) in
-        (b.0, omega (arith, b.1));
-    labels = λ d m. let b = labelled_small I d.label (model_is_of.calls d m) in omega arith;
-    few_nodes = n;
-    few_edges = e;
-    ascending = λ j h. edge_before _ _ (ascends_at EdgeBefore no_edge (model I P).edges (model_edges_ascend I P) j (suc j) (omega arith) h);
-  }

@@ -20,7 +20,7 @@ use Rattle.maximal.specs.declared.answers.Modelled.TheVariants.{Written, Refused
 use Rattle.maximal.specs.Model.{IsModel, state_at, model}
 use Rattle.maximal.specs.Model.Ordered.{Earlier}
 use Rattle.maximal.specs.Modelling.{modelled_answer, model_graph, model_checks, model_lines, modelled}
-use Rattle.maximal.specs.Modelling.Laws.{model_refused, model_accepted, model_says}
+use Rattle.maximal.specs.Modelling.Laws.{model_refused, model_accepted}
 
 -- the case of a number and its values
 abbrev pub modelled_of : Answer → Modelled
@@ -77,64 +77,31 @@ module _ (L : Limits) (i p : List ℕ) (out work : ℕ) where
 
 module _ {R : Type 0} (tell : Modelled → R) (heard : Heard tell) (L : Limits) (i p out work out' work' : List ℕ) (c : Modelled)
     (does : Does (modelled L i p (length out) (length work)) out work out' work' (modelled_answer c)) where
-  abbrev G : Graph
+  abbrev pub G : Graph
   G = model_graph L i p (length out) (length work)
 
-  abbrev o : Outcome
+  abbrev pub o : Outcome
   o = modelled L i p (length out) (length work)
 
-  abbrev said : Said
+  abbrev pub said : Said
   said = graph_said G []
 
-  abbrev ls : Lines
+  abbrev pub ls : Lines
   ls = model_lines L i p (length out) (length work)
 
-  d : Decided o said ls
+  pub d : Decided o said ls
   d = model_decided L i p (length out) (length work)
 
-  is_written : (n e : ℕ) → (tell c ≡ tell (Written n e)) ↔ (NoneOf ls × (said.verdict ≡ 1) × (said.values ≡ n ∷ e ∷ []))
+  pub is_written : (n e : ℕ) → (tell c ≡ tell (Written n e)) ↔ (NoneOf ls × (said.verdict ≡ 1) × (said.values ≡ n ∷ e ∷ []))
   is_written n e = said_iff modelled_enum tell heard o said ls d c does.answers.answer_is (Written n e) 1 (n ∷ e ∷ []) (lit< tt) refl
 
-  nodes_counted : (n e : ℕ) → tell c ≡ tell (Written n e) → size G ≡ n
+  pub nodes_counted : (n e : ℕ) → tell c ≡ tell (Written n e) → size G ≡ n
   nodes_counted n e q = ap (λ (xs : List ℕ). get_or xs 0 0) ((is_written n e).0 q).2
 
-  edges_counted : (n e : ℕ) → tell c ≡ tell (Written n e) → length G.edges ≡ e
+  pub edges_counted : (n e : ℕ) → tell c ≡ tell (Written n e) → length G.edges ≡ e
   edges_counted n e q = ap (λ (xs : List ℕ). get_or xs 1 0) ((is_written n e).0 q).2
 
-  wrote : (n e : ℕ) → tell c ≡ tell (Written n e) → Wrote (record_len * (n + e)) (graph_bytes G) out out'
+  pub wrote : (n e : ℕ) → tell c ≡ tell (Written n e) → Wrote (record_len * (n + e)) (graph_bytes G) out out'
   wrote n e q =
       wrote_by o said ls d out out' does.answers.out_is ((is_written n e).0 q).0 (record_len * (n + e))
       (graph_length G ∙ ap₂ (λ (a b : ℕ). record_len * (a + b)) (nodes_counted n e q) (edges_counted n e q))
-
-  writes : (n e : ℕ) → tell c ≡ tell (Written n e) → WrittenModel L (decode_interface i) (decode_property p) n e (take (record_len * (n + e)) out')
-  writes n e q =
-      let m = model_says L i p (length out) (length work) said (d.accepted.1 ((is_written n e).0 q).0) in
-      let z = ap (λ (H : Graph). size H) m.is_the_model ∙ nodes_counted n e q in
-      subst (WrittenModel L (decode_interface i) (decode_property p) n e) (sym (wrote n e q).result) (record {
-        accepted = m.accepted;
-        nodes_are = z;
-        edges_are = ap (λ (H : Graph). length H.edges) m.is_the_model ∙ edges_counted n e q;
-        is_the_model = m.is_the_model;
-        of_interface = m.of_interface;
-        is_model = m.is_model;
-        ascending = λ i j h k. m.ascending i j h (subst (λ (x : ℕ). j < x) (sym z) k);
-        each_once = λ i j h k. m.each_once i j (subst (λ (x : ℕ). i < x) (sym z) h) (subst (λ (x : ℕ). j < x) (sym z) k);
-        simulates_iff = m.simulates_iff;
-      })
-
-  pub model_tells : ModelMeans tell L i p out work out' work' (tell c)
-  model_tells = record {
-    refuses = refuses_by modelled_enum tell heard o said ls d c does.answers.answer_is out out' does.answers.out_is;
-    clears = clears_by modelled_enum tell heard o said ls d c does.answers.answer_is work work' does.work_is;
-    written_iff = (
-      λ q. ((is_written q.0 q.1).0 q.2).0,
-      λ t. (size G, length G.edges, (is_written (size G) (length G.edges)).1 (t, refl, refl)),
-    );
-    writes = writes;
-    past_unchanged = λ n e q. (wrote n e q).rest;
-  }
-
--- The returned value, from what the contract states of it.
-pub model_means : (L : Limits) (i p out work out' work' : List ℕ) (r : Modelled)
-    → Does (modelled L i p (length out) (length work)) out work out' work' (modelled_answer r) → ModelMeans itself L i p out work out' work' r
-model_means L i p out work out' work' r does = model_tells itself heard_itself L i p out work out' work' r does

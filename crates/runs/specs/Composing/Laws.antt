@@ -23,12 +23,12 @@ use Rattle.files.specs.Sides.Laws.{foreign_finds, says_shares, says_unprovided}
 use Rattle.files.specs.Sides.OfInterface.{of_foreign}
 use Rattle.files.specs.declared.record.Limits.{Limits}
 use Rattle.maximal.specs.Model.{model}
-use Rattle.maximal.specs.Model.Filed.{model_is_flow, model_is_of}
+use Rattle.maximal.proofs.Theorems.Model.Filed.{model_is_flow, model_is_of}
 use Rattle.runs.specs.Composing.{known, unwritten, gives, compose_store, compose_work, known_side, other_side, compose_graph, compose_sides, compose_verdict, compose_checks, compose_lines, composed, compose_first, compose_said, compose_last}
 use Rattle.files.specs.Join.{join}
 use Rattle.files.specs.Join.Laws.{join_flow, join_labels}
-use Rattle.runs.specs.Composing.Entries.{SidesSay, sides_say}
-use Rattle.runs.specs.Watching.Laws.{watch_cases, filed_labels, filed_monitor}
+use Rattle.runs.specs.Composing.Entries.{SidesSay}
+use Rattle.runs.specs.Watching.Laws.{filed_labels, filed_monitor}
 use Rattle.files.specs.Outcome.{published}
 
 -- ---- the call
@@ -39,10 +39,10 @@ pub record ComposeSays (ki kg oi p r : List ℕ) (m : ℕ) (s : Said) : Type 0 w
   pub on_sides : SidesSay (known (decode_graph kg)) (unwritten (decode_interface oi) (decode_property p)) (watch (decode_rules r)) m s
 
 module _ (L : Limits) (ki kg oi p r : List ℕ) (m out store work : ℕ) where
-  abbrev said : Said
+  abbrev pub said : Said
   said = compose_verdict L ki kg oi p r m out
 
-  compose_match : Matches (compose_checks L ki kg oi p r m out store work) (compose_lines L ki kg oi p r m out store work)
+  pub compose_match : Matches (compose_checks L ki kg oi p r m out store work) (compose_lines L ki kg oi p r m out store work)
   compose_match =
       whole_match 13 _ ((store < compose_store) ⊎ (work < compose_work)) (says_or (says_lt store compose_store) (says_lt work compose_work)) _ _
       (files_match L 1 interface ki _ _ (files_match L 2 graph kg _ _ (files_match L 3 interface oi _ _ (files_match L 4 property p _ _ (files_match L 5 rules r _ _
@@ -98,29 +98,3 @@ module _ (L : Limits) (ki kg oi p r : List ℕ) (m out store work : ℕ) where
   pub compose_accepted : (composed L ki kg oi p r m out store work ≡ says said) ↔ NoneOf (compose_lines L ki kg oi p r m out store work)
   unfolding composed
   compose_accepted = accepted_by _ _ compose_match said
-
-  -- what acceptance gives: a known graph that has its entries, a property, and what is said of the known graph and the unwritten side
-  pub compose_says : (s : Said) → composed L ki kg oi p r m out store work ≡ says s → ComposeSays ki kg oi p r m s
-  unfolding composed
-  compose_says s e =
-      let a = verdict_is _ _ compose_match said s e in
-      let b1 = file_accepted L 1 interface ki _ (whole_none 13 _ _ a.1).1 in
-      let b2 = file_accepted L 2 graph kg _ b1.1 in
-      let b3 = file_accepted L 3 interface oi _ b2.1 in
-      let b4 = file_accepted L 4 property p _ b3.1 in
-      let b5 = file_accepted L 5 rules r _ b4.1 in
-      let K = decode_graph kg in
-      let I = decode_interface oi in
-      let P = decode_property p in
-      let f = decoded_filed L kg b2.0 in
-      let wf = (decoded_property L p b4.0).rows_named in
-      let started = (whole_none 3 _ _ b5.1).1 in
-      let apart = (whole_none 9 _ _ (none_e 9 2 _ _ started).1).1 in
-      record {
-        is_property = wf;
-        known_entered = entered_i (decode_interface ki) K (not_T (lacks_entry (decode_interface ki) K) (λ t. (whole_none 16 _ _ apart).0 ((says_lacks_entry (decode_interface ki) K).say t)));
-        on_sides = sides_say (known_side L ki kg oi p r m out) (other_side L ki kg oi p r m out) f.flow wf (watch (decode_rules r)) m
-            (watch_cases (join K (model I P)) (watch (decode_rules r)) m (join_flow K (model I P) f.flow (model_is_flow I P wf))
-            (join_labels K (model I P) 9 (filed_labels L K f) (λ x k. labelled_small I x.label ((model_is_of I P wf).calls x k)))
-            (filed_monitor (decode_rules r) (decoded_rules L r b5.0))) s a.0;
-      }

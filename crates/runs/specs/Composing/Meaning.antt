@@ -12,7 +12,7 @@ use Rattle.files.specs.declared.record.Limits.{Limits}
 use Rattle.runs.specs.Answer.{watched_answer, verdict_enum}
 use Rattle.runs.specs.Composing.{Loads, known, unwritten, known_side, other_side, NoneLoads, compose_verdict, compose_checks, compose_lines, composed}
 use Rattle.runs.specs.Composing.Entries.{SidesSay}
-use Rattle.runs.specs.Composing.Laws.{compose_refused, compose_accepted, compose_own, compose_says}
+use Rattle.runs.specs.Composing.Laws.{compose_refused, compose_accepted, compose_own}
 use Rattle.runs.specs.Composing.Returned.{SidesMeans, sides_tell, sides_numbered, sides_told}
 use Rattle.files.specs.Join.{join}
 use Rattle.runs.specs.Runs.{Bad as BadRun, Clean as CleanRuns}
@@ -57,63 +57,31 @@ module _ (L : Limits) (ki kg oi p r : List ℕ) (m out store work : ℕ) where
 
 module _ {R : Type 0} (tell : Verdict → R) (heard : Heard tell) (L : Limits) (ki kg oi p r : List ℕ) (m : ℕ) (out store work out' store' work' : List ℕ) (c : Verdict)
     (does : DoesBoth (composed L ki kg oi p r m (length out) (length store) (length work)) out store work out' store' work' (watched_answer c)) where
-  abbrev K : Graph
+  abbrev pub K : Graph
   K = decode_graph kg
 
-  abbrev I : Interface
+  abbrev pub I : Interface
   I = decode_interface oi
 
-  abbrev P : List Row
+  abbrev pub P : List Row
   P = decode_property p
 
-  abbrev mon : Monitor
+  abbrev pub mon : Monitor
   mon = watch (decode_rules r)
 
-  abbrev o : Outcome
+  abbrev pub o : Outcome
   o = composed L ki kg oi p r m (length out) (length store) (length work)
 
-  abbrev said : Said
+  abbrev pub said : Said
   said = compose_verdict L ki kg oi p r m (length out)
 
-  abbrev ls : Lines
+  abbrev pub ls : Lines
   ls = compose_lines L ki kg oi p r m (length out) (length store) (length work)
 
-  d : Decided o said ls
+  pub d : Decided o said ls
   d = compose_decided L ki kg oi p r m (length out) (length store) (length work)
 
-  means : NoneOf ls → SidesSay (known K) (unwritten I P) mon m said
-  means t = (compose_says L ki kg oi p r m (length out) (length store) (length work) said (d.accepted.1 t)).on_sides
-
-  told : SidesMeans tell ls (known K) (unwritten I P) mon m out out' (tell c)
-  told = sides_tell tell heard o said ls d (known K) (unwritten I P) mon m means out out' c does.answers
-
   -- the known graph always loads
-  none_loads : NoneLoads (known K) ⊎ NoneLoads (unwritten I P) → NoneLoads (unwritten I P)
+  pub none_loads : NoneLoads (known K) ⊎ NoneLoads (unwritten I P) → NoneLoads (unwritten I P)
   none_loads (inl f) = absurd (f K refl)
   none_loads (inr f) = f
-
-  pub compose_tells : ComposeMeans tell L ki kg oi p r m out store work out' store' work' (tell c)
-  compose_tells = record {
-    impossible_iff = (
-      λ q. let a = told.impossible_iff.0 q in (a.0, none_loads a.1),
-      λ a. told.impossible_iff.1 (a.0, inr a.1),
-    );
-    clean_iff = (
-      λ q. let a = told.clean_iff.0 q in (a.0, (a.1.1.0, λ G x. a.1.1.1 K G refl x)),
-      λ a. told.clean_iff.1 (a.0, ((K, refl), (a.1.0, λ X G e x. subst (λ (Y : Graph). CleanRuns (join Y G) mon m) (sym e) (a.1.1 G x)))),
-    );
-    bad_iff = (
-      λ q. let a = told.bad_iff.0 q in (a.0, (a.1.1, a.1.3, subst (λ (Y : Graph). BadRun (join Y a.1.1) mon m) a.1.2 a.1.4)),
-      λ a. told.bad_iff.1 (a.0, (K, a.1.0, refl, a.1.1, a.1.2)),
-    );
-    sides = told;
-    clears_store = clears_by verdict_enum tell heard o said ls d c does.answers.answer_is store store' does.store_is;
-    clears_work = clears_by verdict_enum tell heard o said ls d c does.answers.answer_is work work' does.work_is;
-    own_graph = λ of k q. compose_own L ki kg oi p r m (length out) (length store) (length work) of k ((told.refuses.refused_iff (refusal_at 9 2 k)).0 q);
-  }
-
--- The returned value, from what the contract states of it.
-pub compose_means : (L : Limits) (ki kg oi p r : List ℕ) (m : ℕ) (out store work out' store' work' : List ℕ) (v : Verdict)
-    → DoesBoth (composed L ki kg oi p r m (length out) (length store) (length work)) out store work out' store' work' (watched_answer v)
-    → ComposeMeans itself L ki kg oi p r m out store work out' store' work' v
-compose_means L ki kg oi p r m out store work out' store' work' v does = compose_tells itself heard_itself L ki kg oi p r m out store work out' store' work' v does

@@ -10,12 +10,11 @@ use Rattle.files.specs.Rules.{Monitor}
 use Rattle.judging.specs.Simulation.{Simulates}
 use Rattle.judging.specs.Simulation.Laws.{simulates_refl}
 use Rattle.maximal.specs.Model.{model}
-use Rattle.maximal.specs.Model.Filed.{model_is_flow, model_is_of}
-use Rattle.maximal.specs.Modelling.Laws.{model_simulates_iff}
+use Rattle.maximal.proofs.Theorems.Model.Filed.{model_is_flow, model_is_of}
+use Rattle.maximal.proofs.Theorems.Modelling.Laws.{model_simulates_iff}
 use Rattle.runs.specs.Composing.{Conforms, Side, known, unwritten, gives, Admits}
 use Rattle.runs.specs.Join.{join_simulates}
 use Rattle.runs.specs.Runs.{Bad as BadRun, Clean}
-use Rattle.runs.specs.Runs.Laws.{simulates_bad}
 
 -- the model is one of the graphs that conform
 pub model_conforms : (I : Interface) (P : List Row) → Property P → Conforms I P (model I P)
@@ -31,30 +30,16 @@ Sound (known K) = Flow K
 Sound (unwritten I P) = Property P
 
 -- what a side gives may stand on it
-gives_admitted : (A : Side) → Sound A → Admits A (gives A)
+pub gives_admitted : (A : Side) → Sound A → Admits A (gives A)
 gives_admitted (known K) s = refl
 gives_admitted (unwritten I P) s = model_conforms I P s
 
 -- what may stand on a side is a flow graph
-admitted_flow : (A : Side) → Sound A → (G : Graph) → Admits A G → Flow G
+pub admitted_flow : (A : Side) → Sound A → (G : Graph) → Admits A G → Flow G
 admitted_flow (known K) s G a = subst Flow (sym a) s
 admitted_flow (unwritten I P) s G c = c.is_flow
 
 -- what a side gives simulates all that may stand on it
-gives_simulates : (A : Side) → Sound A → (G : Graph) → Admits A G → Simulates G (gives A)
+pub gives_simulates : (A : Side) → Sound A → (G : Graph) → Admits A G → Simulates G (gives A)
 gives_simulates (known K) s G a = subst (λ (X : Graph). Simulates X K) (sym a) (simulates_refl K s)
 gives_simulates (unwritten I P) s G c = (model_simulates_iff I P s G c.is_flow c.is_of).1 c.is_satisfying
-
--- a run with graphs that may stand on two sides is matched by one with what the sides give
-module _ (A B : Side) (sa : Sound A) (sb : Sound B) (mon : Monitor) (m : ℕ) where
-  matched : (G H : Graph) → Admits A G → Admits B H → BadRun (join G H) mon m → BadRun (join (gives A) (gives B)) mon m
-  matched G H a b =
-      simulates_bad (join G H) (join (gives A) (gives B)) mon (join_simulates G (gives A) H (gives B) (admitted_flow A sa G a) (gives_simulates A sa G a) (gives_simulates B sb H b)) m
-
-  -- what two sides give is bad together exactly where some graphs that may stand on them are
-  pub bad_of_sides : BadRun (join (gives A) (gives B)) mon m ↔ ((G : Graph) × (H : Graph) × Admits A G × Admits B H × BadRun (join G H) mon m)
-  bad_of_sides = (λ bad. (gives A, gives B, gives_admitted A sa, gives_admitted B sb, bad), λ x. matched x.0 x.1 x.2 x.3 x.4)
-
-  -- and clean together exactly where all graphs that may stand on them are
-  pub clean_of_sides : Clean (join (gives A) (gives B)) mon m ↔ ((G H : Graph) → Admits A G → Admits B H → Clean (join G H) mon m)
-  clean_of_sides = (λ clean G H a b bad. clean (matched G H a b bad), λ all. all (gives A) (gives B) (gives_admitted A sa) (gives_admitted B sb))

@@ -22,9 +22,8 @@ use Rattle.runs.specs.Prepared.{Tables}
 use Rattle.runs.specs.Regions.{entered_base, points, seen_base, watch_room}
 use Rattle.runs.specs.Runs.{Bad}
 use Rattle.runs.specs.Summary.{Place, clean}
-use Rattle.runs.specs.Summary.Places.{not_clean_bad, clean_no_bad}
 use Rattle.runs.specs.Summary.Trails.{Rec, trail_rec_bytes, Where, before, here, end, is_bad, leaving, trail}
-use Rattle.runs.specs.Summary.Trails.Laws.{leaves_e, leaves_i, leaving_return, path_iff_bad, trail_to, trail_fewest, trail_first}
+use Rattle.runs.specs.Summary.Trails.Laws.{leaves_e, leaves_i, leaving_return, trail_to, trail_fewest, trail_first}
 use Rattle.runs.specs.Searching.{item_end, places_seen, Sooner, edge_at, outgoing, starts_of, Searching, Here, May, Looked, Turn, Says}
 use Rattle.runs.specs.Searching.Outgoing.{outgoing_ascends, outgoing_is, outgoing_leaves, leaves_outgoing, starts_ascend, starts_leave}
 use Rattle.runs.specs.Searching.Pushes.{one_record, same_size, places_most, few_by}
@@ -187,53 +186,5 @@ module _ (G : Graph) (mon : Monitor) (m : ℕ) where
 
   module _ (flow : Flow G) (labels_small : (e : Edge) → Memᴰ e G.edges → e.label < 9) (mon_small : (q : ℕ) (v : Event) → q < 8 → mon q v < 8) (head tail : ℕ) (w : List ℕ)
       (turn : Turn G mon m head tail w) where
-    abbrev s : Searching G mon m head tail (leaving G mon m (item_end w head)) w
+    abbrev pub s : Searching G mon m head tail (leaving G mon m (item_end w head)) w
     s = turn.searching
-
-    -- a bad place has its turn
-    pub says_bad : head < tail → T (is_bad (item_end w head)) → Says G mon m head w
-    says_bad h t = inr (
-      turn.past_start,
-      go (decide (clean G mon m)),
-      record {
-        way = s.way;
-        first_way = s.searched.first_way;
-        linked = λ k z l. s.linked k z (omega arith);
-        is_trail =
-            best_found (leaving G mon m) end trail_rec_bytes same_size one_record before head tail (item_end w) s.way (λ r. Memᴰ r (leaving G mon m (item_end w head))) s.searched h is_bad
-            turn.good t (trail G mon m) (trail_to G mon flow labels_small mon_small m mine_is path) (λ rs p. trail_fewest G mon flow labels_small mon_small m rs p)
-            (λ rs p. trail_first G mon flow labels_small mon_small m rs p);
-        few = few_items h s.few;
-      },
-    )
-      where
-        mine_is : List Rec
-        mine_is = turned (leaving G mon m) end trail_rec_bytes (s.way head) []
-
-        path : To (leaving G mon m) end trail_rec_bytes is_bad before mine_is
-        path = turned_path (leaving G mon m) end trail_rec_bytes is_bad before (item_end w head) (s.way head) [] (s.searched.behind head h) (there (item_end w head) t)
-
-        bad : Bad G mon m
-        bad = (path_iff_bad G mon flow labels_small mon_small m).0 (mine_is, path)
-
-        go : T (clean G mon m) ⊎ T (not (clean G mon m)) → T (not (clean G mon m))
-        go (inl c) = absurd (clean_no_bad G mon flow labels_small mon_small m c bad)
-        go (inr c) = c
-
-        few_items : head < tail → tail ≤ suc (places_seen w) → head ≤ points
-        few_items a b = few_by head tail (places_seen w) a b (places_most w)
-
-    -- none is left
-    pub says_clean : tail ≤ head → Says G mon m 0 w
-    says_clean l = inl (refl, go (decide (clean G mon m)))
-      where
-        met_bad : (z : Where) → T (is_bad z) → Met tail (item_end w) z → ⊥
-        met_bad z t k = turn.good k.0 (omega (arith, k.1)) (subst (λ (x : Where). T (is_bad x)) (sym k.2) t)
-
-        go : T (clean G mon m) ⊎ T (not (clean G mon m)) → T (clean G mon m)
-        go (inl c) = c
-        go (inr c) =
-            let p = (path_iff_bad G mon flow labels_small mon_small m).1 (not_clean_bad G mon m c) in
-            let a = path_turned (leaving G mon m) end trail_rec_bytes is_bad before before [] p.0 at_start p.1 in
-            absurd (met_bad a.0 a.1
-            (all_met (leaving G mon m) end trail_rec_bytes same_size one_record before head tail (item_end w) s.way (λ r. Memᴰ r (leaving G mon m (item_end w head))) s.searched l a.0 _ a.2))

@@ -15,19 +15,14 @@ module _ (G : Graph) (mon : Monitor) (m p : ℕ) (t : List ℕ) where
         → Inside G mon e.label (mon q (calls (meth G g) e.label)) h r → Frames (e.to ∷ s) h r
 
   -- where the method on top can go on, so can the stack
-  go_on : (s : List ℕ) (g q h r : ℕ) → Frames s g q → ((k o : ℕ) → Inside G mon k o g q → Inside G mon k o h r) → Frames s h r
+  pub go_on : (s : List ℕ) (g q h r : ℕ) → Frames s g q → ((k o : ℕ) → Inside G mon k o g q → Inside G mon k o h r) → Frames s h r
   go_on s g q h r (bottom g' q' i) f = bottom h r (f m p i)
   go_on s g q h r (frame s' g' q' e h' r' c x z i) f = frame s' g' q' e h r c x z (f e.label _ i)
 
   -- a return that does not pop below t
-  pops : (s : List ℕ) (g q y : ℕ) (s' : List ℕ) → Frames s g q → s ≡ y ∷ s' → On t s' → T (node G g).ret
+  pub pops : (s : List ℕ) (g q y : ℕ) (s' : List ℕ) → Frames s g q → s ≡ y ∷ s' → On t s' → T (node G g).ret
       → Frames s' y (mon q (returns_to (meth G g) (meth G y)))
   pops s g q y s' (bottom g' q' i) eq o b = absurd (omega (arith, ap length eq, ap length o.1, length-append o.0 t))
   pops s g q y s' (frame u g' q' e h r c x z i) eq o b =
       subst₂ (λ (v : List ℕ) (w : ℕ). Frames v w (mon q (returns_to (meth G g) (meth G w)))) (tail-eq_of_cons-eq eq) (head-eq_of_cons-eq eq)
       (go_on u g' q' e.to _ c (λ k a j. over k a g' q' e h r j x z i b))
-
-  pub step_frames : (b c : Config) → Frames b.stack b.at b.state → Step G (plain G) mon b c → On t c.stack → Frames c.stack c.at c.state
-  step_frames b c f (internal e x z) o = go_on b.stack b.at b.state e.to b.state f (λ k a i. inner k a b.at b.state e i x z)
-  step_frames b c f (call e n x z d) o = frame b.stack b.at b.state e n _ f x z (enter e.label _ n d)
-  step_frames b c f (return y s v z) o = pops b.stack b.at b.state y s f z o v

@@ -13,11 +13,10 @@ use Rattle.files.specs.Graph.{Graph, Edge, size, node, Flow}
 use Rattle.files.specs.Rules.{Event, calls, Monitor}
 use Rattle.runs.specs.Runs.{meth, Bad, Clean}
 use Rattle.runs.specs.Summary.{Trail, starts, steps, enters, passes, Place, is_entry_of, moves, spots, moved_from, called_from, reaches, place_rule, all_places, places, clean}
-use Rattle.runs.specs.Summary.Exact.{exact}
 use Rattle.runs.specs.Summary.Moves.{Moves, by_step, by_call, no_ret, entry_e, entry_i, into, moves_e, step_moves, call_moves, into_is}
 use Rattle.runs.specs.Summary.Spots.{spot, spots_sound, spots_complete, inside_now}
 
-abbrev place : ℕ → ℕ → Place
+abbrev pub place : ℕ → ℕ → Place
 place g q = record { at = g; now = q }
 
 module _ (G : Graph) (mon : Monitor) where
@@ -125,14 +124,6 @@ module _ (G : Graph) (mon : Monitor) where
     unfolding places
     places_sound = closed_ind (all_places G mon) (place_rule G mon k) (At k) place_sound
 
-    -- where the computed verdict is not "clean", some run with an unbounded stack is bad
-    pub not_clean_bad : T (not (clean G mon k)) → Bad G mon k
-    unfolding clean
-    not_clean_bad t =
-        let a = any_e (λ (x : Place). eqb x.now 7) (places G mon k) (not_not (any (λ (x : Place). eqb x.now 7) (places G mon k)) t) in
-        let r = (exact G mon k a.0.at a.0.now).0 (places_sound a.0 a.1) in
-        record { end = record { at = a.0.at; stack = r.0; state = a.0.now }; run = r.1; is_bad = eqb→eq _ _ a.2 }
-
 -- ---- complete
 
 module _ (G : Graph) (mon : Monitor) (mon_small : (q : ℕ) (v : Event) → q < 8 → mon q v < 8) (k : ℕ) where
@@ -167,11 +158,3 @@ module _ (G : Graph) (mon : Monitor) (flow : Flow G) (labels_small : (e : Edge) 
       place_next e.to _ e (flow.to_node e x.edge) (trail_now G mon mon_small k g q (passes g' q' e r s t x z j b)) x.edge
       (moved (place g' q') (places_complete g' q' t) refl (sym x.leaves)
       (call_moves G mon (spots G mon) e q' (spot e.label (mon q' (calls (meth G g') e.label)) r s) (no_ret G g' e x) z refl (into_is G mon g' q' e x) b c))
-
-  -- where it is "clean", none is
-  pub clean_no_bad : T (clean G mon k) → Clean G mon k
-  unfolding clean
-  clean_no_bad t b =
-      let c = (exact G mon k b.end.at b.end.state).1 (b.end.stack, b.run) in
-      T_not (any (λ (x : Place). eqb x.now 7) (places G mon k)) t
-      (any_i (λ (x : Place). eqb x.now 7) (places G mon k) (place b.end.at b.end.state) (places_complete _ _ c) (eq_eqb b.end.state 7 b.is_bad))

@@ -9,7 +9,7 @@ use Rattle.runs.specs.Answer.{watched_answer, verdict_enum}
 use Rattle.runs.specs.Composing.Entries.{SidesSay}
 use Rattle.runs.specs.Composing.Returned.{SidesMeans, sides_tell, sides_numbered, sides_told}
 use Rattle.runs.specs.Unwritten.{first_side, second_side, both_said, both_checks, both_lines, composed_both}
-use Rattle.runs.specs.Unwritten.Laws.{both_refused, both_accepted, both_says}
+use Rattle.runs.specs.Unwritten.Laws.{both_refused, both_accepted}
 use Rattle.runs.specs.declared.answers.Verdict.{Verdict}
 use Rattle.runs.specs.declared.answers.Verdict.TheVariants.{Refused}
 
@@ -35,27 +35,11 @@ module _ (L : Limits) (i₁ p₁ i₂ p₂ r : List ℕ) (m out store work : ℕ
 
 module _ {R : Type 0} (tell : Verdict → R) (heard : Heard tell) (L : Limits) (i₁ p₁ i₂ p₂ r : List ℕ) (m : ℕ) (out store work out' store' work' : List ℕ) (c : Verdict)
     (does : DoesBoth (composed_both L i₁ p₁ i₂ p₂ r m (length out) (length store) (length work)) out store work out' store' work' (watched_answer c)) where
-  abbrev o : Outcome
+  abbrev pub o : Outcome
   o = composed_both L i₁ p₁ i₂ p₂ r m (length out) (length store) (length work)
 
-  abbrev ls : Lines
+  abbrev pub ls : Lines
   ls = both_lines L i₁ p₁ i₂ p₂ r m (length out) (length store) (length work)
 
-  d : Decided o (both_said i₁ p₁ i₂ p₂ r m) ls
+  pub d : Decided o (both_said i₁ p₁ i₂ p₂ r m) ls
   d = both_decided L i₁ p₁ i₂ p₂ r m (length out) (length store) (length work)
-
-  means : NoneOf ls → SidesSay (first_side i₁ p₁) (second_side i₂ p₂) (watch (decode_rules r)) m (both_said i₁ p₁ i₂ p₂ r m)
-  means t = both_says L i₁ p₁ i₂ p₂ r m (length out) (length store) (length work) (both_said i₁ p₁ i₂ p₂ r m) (d.accepted.1 t)
-
-  pub both_tells : BothMeans tell L i₁ p₁ i₂ p₂ r m out store work out' store' work' (tell c)
-  both_tells = record {
-    sides = sides_tell tell heard o (both_said i₁ p₁ i₂ p₂ r m) ls d (first_side i₁ p₁) (second_side i₂ p₂) (watch (decode_rules r)) m means out out' c does.answers;
-    clears_store = clears_by verdict_enum tell heard o (both_said i₁ p₁ i₂ p₂ r m) ls d c does.answers.answer_is store store' does.store_is;
-    clears_work = clears_by verdict_enum tell heard o (both_said i₁ p₁ i₂ p₂ r m) ls d c does.answers.answer_is work work' does.work_is;
-  }
-
--- The returned value, from what the contract states of it.
-pub both_means : (L : Limits) (i₁ p₁ i₂ p₂ r : List ℕ) (m : ℕ) (out store work out' store' work' : List ℕ) (v : Verdict)
-    → DoesBoth (composed_both L i₁ p₁ i₂ p₂ r m (length out) (length store) (length work)) out store work out' store' work' (watched_answer v)
-    → BothMeans itself L i₁ p₁ i₂ p₂ r m out store work out' store' work' v
-both_means L i₁ p₁ i₂ p₂ r m out store work out' store' work' v does = both_tells itself heard_itself L i₁ p₁ i₂ p₂ r m out store work out' store' work' v does

@@ -73,16 +73,16 @@ both_interfaces L i₁ p₁ i₂ p₂ b rest s =
 -- ---- 11 of the first model
 
 module _ (L : Limits) (i₁ p₁ i₂ p₂ r : List ℕ) (m : ℕ) (out : List ℕ) where
-  abbrev M : Graph
+  abbrev pub M : Graph
   M = gives (first_side i₁ p₁)
 
-  abbrev N : Graph
+  abbrev pub N : Graph
   N = gives (second_side i₂ p₂)
 
-  abbrev said : Said
+  abbrev pub said : Said
   said = both_said i₁ p₁ i₂ p₂ r m
 
-  abbrev on_size : List Check
+  abbrev pub on_size : List Check
   on_size = both_last L i₁ p₁ i₂ p₂ r m (length out)
 
   pub first_large : too_large L M ≡ true → (f : Refusal) → f ≡ refusal_at 11 0 0 → Answers (answered on_size said) out out (refused_answer f)
@@ -92,19 +92,10 @@ module _ (L : Limits) (i₁ p₁ i₂ p₂ r : List ℕ) (m : ℕ) (out : List �
       ∙ ap refuses (sym e))
 
   -- what is left once the first model stands, or whatever graph it is, barred or not
-  abbrev on_first : Bool → Graph → Outcome
+  abbrev pub on_first : Bool → Graph → Outcome
   on_first t X =
       let s = joined_verdict L (t || lacks_entry (decode_interface i₂) N) X N (watch (decode_rules r)) m (length out) in
       answered (whole_check 11 (too_large L N || too_large L (join X N)) (out_check (length out) s)) s
-
-  -- a first model within the limits is the known graph of what is left, by whatever bytes it is given, barred where it lacks an entry
-  pub first_small : too_large L M ≡ false → (kg : List ℕ) → decode_graph kg ≡ M → (t : Bool) → t ≡ lacks_entry (decode_interface i₁) (decode_graph kg) → (out' : List ℕ) (a : Answer)
-      → Answers (answered (compose_last L t kg i₂ p₂ r m (length out)) (compose_said t kg i₂ p₂ r m)) out out' a → Answers (answered on_size said) out out' a
-  first_small b kg e t d out' a =
-      answers_same (answered (compose_last L t kg i₂ p₂ r m (length out)) (compose_said t kg i₂ p₂ r m)) (answered on_size said) out out' a
-      (ap (λ (c : Bool). answered (whole_check 11 (c || (too_large L N || too_large L (both_graph i₁ p₁ i₂ p₂))) (out_check (length out) said)) said) b
-      ∙ ap (λ (X : Graph). on_first (lacks_entry (decode_interface i₁) X) X) (sym e)
-      ∙ ap (λ (c : Bool). on_first c (decode_graph kg)) (sym d))
 
 -- ---- a part of a buffer, from some place on
 

@@ -16,7 +16,7 @@ use Rattle.runs.specs.Summary.Trails.{read_trail, trail, trail_bytes}
 use Rattle.runs.specs.Summary.Trails.Behind.{TrailShows}
 use Rattle.runs.specs.Summary.Trails.Laws.{trail_bytes_length, trail_read}
 use Rattle.runs.specs.Watching.{watch_said, watch_verdict, watch_checks, watch_lines, watched, Watches}
-use Rattle.runs.specs.Watching.Laws.{watch_refused, watch_accepted, watch_says, watch_own}
+use Rattle.runs.specs.Watching.Laws.{watch_refused, watch_accepted, watch_own}
 use Rattle.runs.specs.declared.answers.Verdict.{Verdict}
 use Rattle.runs.specs.declared.answers.Verdict.TheVariants.{Clean, Bad, Refused}
 
@@ -101,7 +101,7 @@ pub record WatchMeans {R : Type 0} (tell : Verdict → R) (L : Limits) (i g r : 
   pub own_graph : Of (decode_interface i) (decode_graph g) → (k : ℕ) → v ≡ tell (Refused (refusal_at 9 2 k)) → ⊥
 
 module _ (L : Limits) (i g r : List ℕ) (m out work : ℕ) where
-  watch_decided : Decided (watched L i g r m out work) (watch_verdict L i g r m out work) (watch_lines L i g r m out work)
+  pub watch_decided : Decided (watched L i g r m out work) (watch_verdict L i g r m out work) (watch_lines L i g r m out work)
   unfolding watched
   watch_decided = record {
     refused = watch_refused L i g r m out work;
@@ -113,24 +113,3 @@ module _ (L : Limits) (i g r : List ℕ) (m out work : ℕ) where
   -- every outcome is a case of the enum
   pub watch_case : (c : Verdict) × (watched_answer c ≡ answer (watched L i g r m out work))
   watch_case = let x = watch_told (decode_graph g) (watch (decode_rules r)) m in outcome_case verdict_enum _ _ _ watch_decided x.0 x.1
-
--- what the contract gives, and so what is told of it
-pub watch_tells : {R : Type 0} (tell : Verdict → R) → Heard tell → (L : Limits) (i g r : List ℕ) (m : ℕ) (out work out' work' : List ℕ) (c : Verdict)
-    → Does (watched L i g r m (length out) (length work)) out work out' work' (watched_answer c) → WatchMeans tell L i g r m out work out' work' (tell c)
-watch_tells tell heard L i g r m out work out' work' c does =
-    let o = watched L i g r m (length out) (length work) in
-    let said = watch_verdict L i g r m (length out) (length work) in
-    let ls = watch_lines L i g r m (length out) (length work) in
-    let d = watch_decided L i g r m (length out) (length work) in
-    let f : NoneOf ls → Watches (decode_graph g) (watch (decode_rules r)) m said = λ t. watch_says L i g r m (length out) (length work) said (d.accepted.1 t) in
-    let v = verdict_tells tell heard o said ls d (decode_graph g) (watch (decode_rules r)) m (λ t q. f t) out out' c does.answers f in
-    record {
-      verdict = v;
-      clears = verdict_clears tell heard o said ls d (decode_graph g) (watch (decode_rules r)) m (λ t q. f t) out out' c does.answers work work' does.work_is;
-      own_graph = λ of k q. watch_own L i g r m (length out) (length work) of k ((v.refuses.refused_iff (refusal_at 9 2 k)).0 q);
-    }
-
--- The returned value, from what the contract states of it.
-pub watch_means : (L : Limits) (i g r : List ℕ) (m : ℕ) (out work out' work' : List ℕ) (v : Verdict)
-    → Does (watched L i g r m (length out) (length work)) out work out' work' (watched_answer v) → WatchMeans itself L i g r m out work out' work' v
-watch_means L i g r m out work out' work' v does = watch_tells itself heard_itself L i g r m out work out' work' v does

@@ -3,7 +3,7 @@ use Rattle.files.specs.Decode.{decode_graph, decode_property}
 use Rattle.files.specs.declared.property.PropertyRow.{PropertyRow}
 use Rattle.files.specs.declared.graph.GraphNode.{GraphNode}
 use Rattle.judging.specs.Ranking.{leaf_false}
-use Rattle.judging.specs.Ranking.Files.{leaf_level}
+use Rattle.judging.proofs.Theorems.Ranking.Files.{leaf_level}
 use Rattle.judging.proofs.levels.falls_alone.Goals as goal
 
 pub returns : goal.returns

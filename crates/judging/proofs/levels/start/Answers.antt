@@ -9,7 +9,7 @@ use Rattle.judging.specs.Levels.{level}
 use Rattle.judging.specs.Ranking.{Given}
 use Rattle.judging.specs.Ranking.Stores.{grew_none, grew_on}
 use Rattle.judging.proofs.LevelLaws.{node_in, row_in, node_of, row_of}
-use Rattle.judging.specs.Ranking.Laws.{first_found}
+use Rattle.judging.proofs.Theorems.Ranking.Laws.{first_found}
 use Rattle.judging.specs.Ranking.Files.{is_flow, is_property, rows_fit}
 use Rattle.judging.proofs.levels.start.Goals as goal
 

@@ -7,7 +7,7 @@ use Rattle.files.specs.Basics.Below.{below_more}
 use Rattle.files.specs.Decode.{decode_graph, decode_property}
 use Rattle.judging.specs.Levels.{level}
 use Rattle.judging.specs.Ranking.{Given}
-use Rattle.judging.specs.Ranking.Files.{fallen_may}
+use Rattle.judging.proofs.Theorems.Ranking.Files.{fallen_may}
 use Rattle.judging.specs.Ranking.Stores.{grew_none, grew_on}
 use Rattle.judging.proofs.LevelLaws.{node_in, row_in}
 use Rattle.judging.proofs.levels.start_row.Goals as goal

@@ -12,7 +12,7 @@ use Rattle.files.specs.Property.{Row, both, box, row, is_either}
 use Rattle.files.specs.Refusal.{property, refusal}
 use Rattle.files.specs.declared.record.Limits.{Limits}
 use Rattle.judging.specs.Levels.Nine.{nine_rows, any_operand, nine_if, nine_below, all_nine, JoinsNew, Spells, SpellsOut, as_is, one_more}
-use Rattle.judging.specs.Levels.Nine.Laws.{all_nine_spells, all_nine_property}
+use Rattle.judging.specs.Levels.Nine.Laws.{all_nine_spells}
 
 -- ---- methods 1..8, labels 0..8: the rows that come have the nine labels
 
@@ -20,12 +20,12 @@ abbrev AllIn : List Row → Type 0
 AllIn [] = Unit {0}
 AllIn (x ∷ xs) = RowIn x × AllIn xs
 
-all_in : (P : List Row) → ((r : ℕ) → r < length P → RowIn (row P r)) → AllIn P
+pub all_in : (P : List Row) → ((r : ℕ) → r < length P → RowIn (row P r)) → AllIn P
 all_in [] f = tt
 all_in (x ∷ xs) f = (f zero (omega arith), all_in xs (λ r h. f (suc r) (suc-le-suc h)))
 
 -- any number will do: past the last row `row` says `never`
-row_in : (P : List Row) → AllIn P → (r : ℕ) → RowIn (row P r)
+pub row_in : (P : List Row) → AllIn P → (r : ℕ) → RowIn (row P r)
 row_in [] k r = tt
 row_in (x ∷ xs) k zero = k.0
 row_in (x ∷ xs) k (suc r) = row_in xs k.1 r
@@ -43,7 +43,7 @@ nine_rows_in : (n a : ℕ) → AllIn (nine_rows n a)
 nine_rows_in n a =
     (omega arith, (omega arith, (omega arith, (omega arith, (omega arith, (omega arith, (omega arith, (omega arith, (omega arith, (tt, (tt, (tt, (tt, (tt, (tt, (tt, tt))))))))))))))))
 
-all_nine_in : (P : List Row) → AllIn P → AllIn (all_nine P)
+pub all_nine_in : (P : List Row) → AllIn P → AllIn (all_nine P)
 unfolding all_nine nine_below
 all_nine_in P h = below (length P)
   where
@@ -86,24 +86,6 @@ spells_ors P Q r a s =
     old q h (yes e) = rw e (joined (row Q r) s.joins ∙ sym (ap is_either s.is_any))
     old q h (no e) = ap is_either (s.same q h e)
 
-spelled_ors : (P Q : List Row) → SpellsOut P Q → ors Q ≡ ors P
+pub spelled_ors : (P Q : List Row) → SpellsOut P Q → ors Q ≡ ors P
 spelled_ors P Q as_is = refl
 spelled_ors P Q (one_more M _ r a out s) = spells_ors M Q r a s ∙ spelled_ors P M out
-
--- ---- the file
-
--- sixteen rows more for each operator 10 (Laws, `all-nine-length`), and those alone must fit: no "or" comes
-pub all_nine_filed : (L : Limits) (P : List Row) → FiledRows L P → length (all_nine P) ≤ L.rows → FiledRows L (all_nine P)
-all_nine_filed L P f fits = record {
-  rows_named = all_nine_property P f.rows_named;
-  rows_in = λ r h. row_in (all_nine P) (all_nine_in P (all_in P f.rows_in)) r;
-  few_rows = fits;
-  few_ors = subst (λ (n : ℕ). n ≤ L.ors) (sym (spelled_ors P (all_nine P) (all_nine_spells P))) f.few_ors;
-}
-
--- the same on bytes: where they fit, there is a file of the nine boxes
-pub all_nine_accepted : (L : Limits) (p : List ℕ) → refusal L property p ≡ none → length (all_nine (decode_property p)) ≤ L.rows
-    → let q = property_bytes (all_nine (decode_property p)) in (refusal L property q ≡ none) × (decode_property q ≡ all_nine (decode_property p))
-all_nine_accepted L p a fits =
-    let P = decode_property p in
-    (accepted_property_bytes L (all_nine P) (all_nine_filed L P (decoded_property L p a) fits), decode_property_bytes (all_nine P))

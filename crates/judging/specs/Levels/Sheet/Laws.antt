@@ -24,7 +24,6 @@ use Rattle.files.specs.Property.{Row, always, never, returns, not_returns, in_me
 use Rattle.judging.specs.Levels.{level, holds, satisfies, rank}
 use Rattle.judging.specs.Levels.Laws.{satisfies_iff}
 use Rattle.judging.specs.Levels.Sheet.{same_pair, Fault, no_cause, obliged_pair, targets, lower, ahead, foremost, box_causes, row_causes, causes, failing, pairs, fault, sheet, fault_bytes, fault_record, fault_of, read_sheet, sheet_bytes}
-use Rattle.judging.specs.Levels.Sheet.Causes.{cause_false, reason, cause_lower}
 use Rattle.judging.specs.Levels.Sheet.Meaning.{Wrong, Caused, Lists, SheetShows}
 
 pub same_pair_e : (x y : ℕ × ℕ) → T (same_pair x y) → x ≡ y
@@ -85,10 +84,6 @@ module _ (G : Graph) (P : List Row) (flow : Flow G) (wf : Property P) where
 
   -- ---- the pairs listed
 
-  from_wrong : (s x : ℕ × ℕ) → Wrong G P s → From same_pair (causes G P) s x → Wrong G P x
-  from_wrong s x w itself = w
-  from_wrong s x w (onward y z f m) = cause_false G P flow wf y z (from_wrong s y w f) m
-
   pub pairs_some : T (not (satisfies G P)) → breadth_first same_pair (causes G P) (size G * length P) (failing G P, 0) ≡ pairs G P
   unfolding pairs
   pairs_some t = go (satisfies G P) t
@@ -99,53 +94,13 @@ module _ (G : Graph) (P : List Row) (flow : Flow G) (wf : Property P) where
       go false t = refl
 
   module _ (bad : T (not (satisfies G P))) where
-    met_in : (x : ℕ × ℕ) → Caused G P x → Memᴰ x (grid (size G) (length P))
-    met_in x f =
-        let w = from_wrong (failing G P, 0) x (failing_wrong bad) f in grid_i (size G) (length P) x.0 x.1 w.is_node w.is_row
-
     -- there are as many steps as there are pairs to meet
-    walked : breadth_first same_pair (causes G P) (length (grid (size G) (length P))) (failing G P, 0) ≡ pairs G P
+    pub walked : breadth_first same_pair (causes G P) (length (grid (size G) (length P))) (failing G P, 0) ≡ pairs G P
     walked = ap (λ (n : ℕ). breadth_first same_pair (causes G P) n (failing G P, 0)) (length_grid (size G) (length P)) ∙ pairs_some bad
-
-    pub pairs_are : Lists G P (pairs G P)
-    pairs_are =
-        let l = listed same_pair same_pair_e same_pair_refl (causes G P) (failing G P, 0) (grid (size G) (length P)) met_in in
-        let a = starts_with same_pair (causes G P) (length (grid (size G) (length P))) (failing G P, 0) in
-        subst (Lists G P) walked (record {
-          rest = a.0;
-          starts = a.1;
-          all_false = λ x m. from_wrong (failing G P, 0) x (failing_wrong bad) (l.all_met x m);
-          reached = l.all_met;
-          complete = λ x f. full _ (subst (λ (xs : List (ℕ × ℕ)). Memᴰ (failing G P, 0) xs) (sym a.1) (Memᴰ.head refl)) l.all_named x f;
-          causes_listed = λ x y m k. l.all_named x m y k;
-          once = l.no_repeat;
-        })
-      where
-        full : (xs : List (ℕ × ℕ)) → Memᴰ (failing G P, 0) xs → ((x : ℕ × ℕ) → Memᴰ x xs → (y : ℕ × ℕ) → Memᴰ y (causes G P x) → Memᴰ y xs)
-            → (x : ℕ × ℕ) → Caused G P x → Memᴰ x xs
-        full xs s f x itself = s
-        full xs s f x (onward y z r m) = f y (full xs s f y r) z m
-
-    -- breadth first: no pair is farther from the first, by causes, than one that stands after it
-    pub pairs_breadth_first : Ascends (Nearer (causes G P) (failing G P, 0)) (pairs G P)
-    pairs_breadth_first =
-        subst (Ascends (Nearer (causes G P) (failing G P, 0))) walked
-        (in_order same_pair same_pair_e same_pair_refl (causes G P) (failing G P, 0) (grid (size G) (length P)) met_in)
-
-    -- strictly: the causes of each pair in turn, each where it is first named ..
-    pub pairs_in_turn : InTurn same_pair (causes G P) (failing G P, 0) (pairs G P)
-    pairs_in_turn =
-        subst (InTurn same_pair (causes G P) (failing G P, 0)) walked
-        (in_turn same_pair same_pair_e same_pair_refl (causes G P) (failing G P, 0) (grid (size G) (length P)) met_in)
-
-    -- .. and no other list of what is reached from the first pair stands in that order
-    pub sheet_order : (xs : List (ℕ × ℕ)) → InTurn same_pair (causes G P) (failing G P, 0) xs → ((x : ℕ × ℕ) → Memᴰ x xs → Caused G P x) → xs ≡ pairs G P
-    sheet_order xs t f =
-        only_in_turn same_pair same_pair_e same_pair_refl (causes G P) (failing G P, 0) (grid (size G) (length P)) met_in xs t f ∙ walked
 
   -- ---- the records
 
-  sheet_pairs : map (λ (f : Fault). f.pair) (sheet G P) ≡ pairs G P
+  pub sheet_pairs : map (λ (f : Fault). f.pair) (sheet G P) ≡ pairs G P
   unfolding sheet fault
   sheet_pairs = go (pairs G P)
     where
@@ -153,28 +108,11 @@ module _ (G : Graph) (P : List Row) (flow : Flow G) (wf : Property P) where
       go [] = refl
       go (x ∷ xs) = ap (λ (ys : List (ℕ × ℕ)). x ∷ ys) (go xs)
 
-  sheet_causes : (f : Fault) → Memᴰ f (sheet G P) → (f.first ≡ get_or (causes G P f.pair) 0 no_cause) × (f.second ≡ get_or (causes G P f.pair) 1 no_cause)
+  pub sheet_causes : (f : Fault) → Memᴰ f (sheet G P) → (f.first ≡ get_or (causes G P f.pair) 0 no_cause) × (f.second ≡ get_or (causes G P f.pair) 1 no_cause)
   unfolding sheet fault
   sheet_causes f m =
       let a = Memᴰ.of_map (fault G P) (pairs G P) m in
       subst (λ (x : Fault). (x.first ≡ get_or (causes G P x.pair) 0 no_cause) × (x.second ≡ get_or (causes G P x.pair) 1 no_cause)) a.2 (refl, refl)
-
-  -- where the property is not satisfied, the sheet shows why
-  pub sheet_shows : T (not (satisfies G P)) → SheetShows G P (sheet G P)
-  sheet_shows bad = record {
-    lists = subst (Lists G P) (sym sheet_pairs) (pairs_are bad);
-    first_entry = failing_entry bad;
-    first_lowest = failing_lowest;
-    in_turn = subst (InTurn same_pair (causes G P) (failing G P, 0)) (sym sheet_pairs) (pairs_in_turn bad);
-    breadth_first = subst (Ascends (Nearer (causes G P) (failing G P, 0))) (sym sheet_pairs) (pairs_breadth_first bad);
-    names_causes = sheet_causes;
-    justified = λ f m. reason G P flow wf f.pair (is_wrong bad f m);
-    lower_rank = λ f y m k. cause_lower G P flow wf f.pair y (is_wrong bad f m) k;
-  }
-    where
-      is_wrong : T (not (satisfies G P)) → (f : Fault) → Memᴰ f (sheet G P) → Wrong G P f.pair
-      is_wrong bad f m =
-          (pairs_are bad).all_false f.pair (subst (λ (xs : List (ℕ × ℕ)). Memᴰ f.pair xs) sheet_pairs (Memᴰ.map (λ (f : Fault). f.pair) m))
 
 -- ---- the definitions, as the code meets them
 
@@ -222,10 +160,6 @@ module _ (G : Graph) (P : List Row) where
     pub causes_both : (a b : ℕ) → row P r ≡ both a b → causes G P (g, r) ≡ (g, lower G P g a b) ∷ []
     unfolding causes row_causes
     causes_both a b e = ap (row_causes G P g) e
-
-    pub causes_either : (a b : ℕ) → row P r ≡ either a b → causes G P (g, r) ≡ (g, a) ∷ (g, b) ∷ []
-    unfolding causes row_causes
-    causes_either a b e = ap (row_causes G P g) e
 
     pub causes_box : Boxed (row P r) → causes G P (g, r) ≡ box_causes G P (targets G g (row P r))
     unfolding causes row_causes

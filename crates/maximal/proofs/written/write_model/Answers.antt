@@ -3,7 +3,8 @@ use Prim.Native.Nat.{ℕ}
 use native.Mathlib.Omega.{arith}
 use Rattle.files.specs.Decode.{decode_interface, decode_property}
 use Rattle.maximal.specs.Charting.Files.{file_named}
-use Rattle.maximal.specs.Listing.Laws.{edges_bytes, model_edges_many}
+use Rattle.maximal.specs.Listing.Laws.{edges_bytes}
+use Rattle.maximal.proofs.Theorems.Listing.Laws.{model_edges_many}
 use Rattle.files.specs.Cells.Wrote.{Wrote, wrote_none}
 use Rattle.maximal.proofs.WrittenLaws.{state_on, state_fits, model_end}
 use Rattle.maximal.proofs.written.write_model.Goals as goal

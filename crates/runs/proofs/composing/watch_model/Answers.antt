@@ -7,7 +7,8 @@ use Rattle.files.specs.Decode.{decode_graph}
 use Rattle.files.specs.Places.{record_len}
 use Rattle.files.specs.View.{view_held}
 use Rattle.runs.specs.Answer.{watched_answer}
-use Rattle.runs.specs.Composing.Work.{model_large, model_small, model_refused, model_within, model_decoded, model_held}
+use Rattle.runs.specs.Composing.Work.{model_large, model_refused, model_within, model_decoded, model_held}
+use Rattle.runs.proofs.Theorems.Composing.Work.{model_small}
 use Rattle.runs.proofs.composing.watch_model.Goals as goal
 
 pub model_within-requires : goal.model_within-requires

@@ -3,7 +3,8 @@ use native.Mathlib.Omega.{arith}
 use Rattle.files.specs.Decode.{decode_graph, decode_rules}
 use Rattle.files.specs.Rules.{watch}
 use Rattle.runs.specs.Prepared.Files.{is_flow, labels_small, monitor_small}
-use Rattle.runs.specs.Searching.Ends.{start_may, turn_first, says_bad, says_clean}
+use Rattle.runs.specs.Searching.Ends.{start_may, turn_first}
+use Rattle.runs.proofs.Theorems.Searching.Ends.{says_bad, says_clean}
 use Rattle.runs.proofs.SearchLaws.{item_few, item_reads, bad_there, good_there}
 use Rattle.runs.proofs.search.search.Goals as goal
 

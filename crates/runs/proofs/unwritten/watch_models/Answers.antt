@@ -5,7 +5,8 @@ use lib.ListN.{take}
 use Rattle.files.specs.Places.{record_len}
 use Rattle.runs.specs.Answer.{watched_answer}
 use Rattle.runs.specs.Composing.Work.{model_refused, model_within, model_decoded, model_held}
-use Rattle.runs.specs.Unwritten.Work.{first_large, first_small}
+use Rattle.runs.specs.Unwritten.Work.{first_large}
+use Rattle.runs.proofs.Theorems.Unwritten.Work.{first_small}
 use Rattle.runs.proofs.unwritten.watch_models.Goals as goal
 
 pub model_within-requires : goal.model_within-requires

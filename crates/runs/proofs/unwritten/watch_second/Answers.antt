@@ -12,7 +12,8 @@ use Rattle.files.specs.Rules.{watch}
 use Rattle.files.specs.View.{Held}
 use Rattle.runs.specs.Answer.{watched_answer}
 use Rattle.runs.specs.Composing.{joined_verdict, from_joined}
-use Rattle.runs.specs.Composing.Work.{model_large, model_small, model_refused, model_within, model_decoded, model_held}
+use Rattle.runs.specs.Composing.Work.{model_large, model_refused, model_within, model_decoded, model_held}
+use Rattle.runs.proofs.Theorems.Composing.Work.{model_small}
 use Rattle.runs.proofs.unwritten.watch_second.Goals as goal
 
 pub model_behind-requires : goal.model_behind-requires

@@ -15,7 +15,6 @@ use Rattle.files.specs.Places.{record_len}
 use Rattle.files.specs.Rules.{Event, calls, Monitor}
 use Rattle.runs.specs.Runs.{meth, Runs, Bad}
 use Rattle.runs.specs.Summary.{Trail, starts, steps, enters, passes, Place, is_entry_of, callee, spots, all_places}
-use Rattle.runs.specs.Summary.Exact.{exact}
 use Rattle.runs.specs.Summary.Moves.{passes_e, callee_i, no_ret, entry_e, entry_i, into_is, out}
 use Rattle.runs.specs.Summary.Places.{trail_moves, trail_now, places_i}
 use Rattle.runs.specs.Summary.Spots.{spot, spots_sound, spots_complete}
@@ -135,14 +134,14 @@ module _ (G : Graph) (mon : Monitor) (flow : Flow G) (labels_small : (e : Edge) 
   bad_here (here x) t c = (x.at, subst (λ (q : ℕ). Trail G mon m x.at q) (eqb→eq x.now 7 t) c)
 
   -- (the point stays a variable: an index of what is matched)
-  path_bad : (w : Where) (rs : List Rec) → To (leaving G mon m) end trail_rec_bytes is_bad w rs → Comes w → (g : ℕ) × Trail G mon m g 7
+  pub path_bad : (w : Where) (rs : List Rec) → To (leaving G mon m) end trail_rec_bytes is_bad w rs → Comes w → (g : ℕ) × Trail G mon m g 7
   path_bad w rs (there w' t) c = bad_here w' t c
   path_bad w rs (by w' r ss k p) c = path_bad (end r) ss p (leaving_comes w' r k c)
 
   abbrev pub Path : Where → List Rec → Type 0
   Path w rs = To (leaving G mon m) end trail_rec_bytes is_bad w rs
 
-  trail_path : (g q : ℕ) → Trail G mon m g q → (rs : List Rec) → Path (here (place g q)) rs → (ss : List Rec) × Path before ss
+  pub trail_path : (g q : ℕ) → Trail G mon m g q → (rs : List Rec) → Path (here (place g q)) rs → (ss : List Rec) × Path before ss
   trail_path g q (starts n d) rs p = (_, by before (started G mon n) rs (start_i n d) p)
   trail_path g q (steps g' q' e t y z) rs p =
       let x = place g' q' in trail_path g' q' t _ (by (here x) (internal_rec G mon x e q') rs (leaves_i x _ (steps_on e y z)) p)
@@ -159,17 +158,6 @@ module _ (G : Graph) (mon : Monitor) (flow : Flow G) (labels_small : (e : Edge) 
       (callee_i G mon e q' (out G mon e r s) z refl (into_is G mon g' q' e y) b refl) in
       trail_path g' q' t _ (by (here x) (passed_rec G mon x e (out G mon e r s)) rs
       (leaves_i x _ (goes_by e _ y h (trail_now G mon mon_small m g q (passes g' q' e r s t y h j b)) c)) p)
-
-  pub path_iff_bad : ((rs : List Rec) × Path before rs) ↔ Bad G mon m
-  path_iff_bad = (
-    λ a.
-        let b = path_bad before a.0 a.1 tt in
-        let r = (exact G mon m b.0 7).0 b.1 in
-        record { end = record { at = b.0; stack = r.0; state = 7 }; run = r.1; is_bad = refl },
-    λ b.
-        let c = (exact G mon m b.end.at b.end.state).1 (b.end.stack, b.run) in
-        trail_path b.end.at b.end.state c [] (there (here (place b.end.at b.end.state)) (eq_eqb b.end.state 7 b.is_bad)),
-  )
 
   -- ---- the trail
 

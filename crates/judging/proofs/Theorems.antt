@@ -1,0 +1,5 @@
+pub mod Delivered
+pub mod Judge
+pub mod Levels
+pub mod Ranking
+pub mod Sheets

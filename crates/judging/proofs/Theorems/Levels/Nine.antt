@@ -1,0 +1,4 @@
+pub mod Examples
+pub mod Filed
+pub mod Laws
+pub mod Spelled

@@ -1,0 +1,4 @@
+pub mod Charting
+pub mod Listing
+pub mod Model
+pub mod Modelling

@@ -1,0 +1,3 @@
+pub mod Laws
+pub mod Meaning
+pub mod Nine

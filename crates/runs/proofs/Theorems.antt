@@ -1,0 +1,7 @@
+pub mod Composing
+pub mod Runs
+pub mod Searching
+pub mod Summary
+pub mod Unwritten
+pub mod Verdict
+pub mod Watching

@@ -1,0 +1,5 @@
+pub mod Balanced
+pub mod Exact
+pub mod Frames
+pub mod Places
+pub mod Trails

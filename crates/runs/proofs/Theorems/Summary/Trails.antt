@@ -1,0 +1,4 @@
+pub mod AnyRun
+pub mod Kinds
+pub mod Laws
+pub mod OneRun
