@@ -7,12 +7,12 @@ use Rattle.files.specs.Decode.{decode_property}
 use Rattle.files.specs.Deliveries.{Delivery, decode_deliveries, deliveries_bytes, standing}
 use Rattle.files.specs.Deliveries.Written.{Opened}
 use Rattle.files.specs.Outcome.{Outcome, DoesBoth, answer, out_after, Lines}
-use Rattle.files.specs.Outcome.Meaning.{Decided, Clears, Heard, itself, heard_itself, only_verdict, outcome_case, clears_by}
+use Rattle.files.specs.Outcome.Meaning.{Decided, Clears, Heard, only_verdict, outcome_case}
 use Rattle.files.specs.declared.record.Limits.{Limits}
 use Rattle.judging.specs.Delivered.{delivered_verdict, delivered_checks, delivered_lines, delivered}
 use Rattle.judging.specs.Delivered.Laws.{delivered_refused, delivered_accepted, appended_judged}
 use Rattle.judging.specs.Judge.{judged_answer}
-use Rattle.judging.specs.Judge.Meaning.{judged_enum, judged_of, judged_back, judge_numbered, judge_told, VerdictMeans, verdict_tells}
+use Rattle.judging.specs.Judge.Meaning.{judged_enum, judged_of, judged_back, judge_numbered, judge_told, VerdictMeans}
 use Rattle.judging.specs.declared.answers.Judged.{Judged}
 use Rattle.judging.specs.declared.answers.Judged.TheVariants.{Refused}
 

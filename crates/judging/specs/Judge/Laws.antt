@@ -1,23 +1,21 @@
 -- Judging is refused by the first line of its published order that applies, and otherwise says what `Judges` says.
-use Rattle.std.specs.Prelude.{◌≡◌, ◌↔◌, Bool, true, false, cond, not, List, [], ◌∷◌, ℕ, ◌≤◌, T, length}
+use Rattle.std.specs.Prelude.{◌≡◌, ◌↔◌, Bool, true, false, cond, List, [], ◌∷◌, ℕ, ◌≤◌, length}
 use Rattle.std.proofs.Common.{ap, ap₂, ◌∙◌, subst, sym, arith}
 use Rattle.std.proofs.Math.Path.{refl}
 use Rattle.std.proofs.Math.Option.{none}
 use Rattle.files.specs.Decode.{decode_graph, decode_property}
-use Rattle.files.specs.Decode.Graphs.{decoded_flow}
-use Rattle.files.specs.Decode.Properties.{decoded_property}
-use Rattle.files.specs.Graph.{Graph, Flow}
+use Rattle.files.specs.Graph.{Graph}
 use Rattle.files.specs.Limits.{desk}
 use Rattle.files.specs.Outcome.{Said, refuses, says, refusal_at, NoneOf, FirstOf, Matches, answer, answered, out_check}
 use Rattle.files.specs.Outcome.Calls as calls
 use Rattle.files.specs.Outcome.Laws.{refused_by, accepted_by}
-use Rattle.files.specs.Property.{Row, Property}
+use Rattle.files.specs.Property.{Row}
 use Rattle.files.specs.Refusal.{graph, property, refusal}
 use Rattle.files.specs.declared.record.Limits.{Limits}
 use Rattle.judging.specs.Places.{judge_room}
 use Rattle.judging.specs.TwoFiles.{two_match, two_given, two_say}
-use Rattle.judging.specs.Judge.{judge_first, judge_said, judge_verdict, judge_checks, judge_lines, judged, Judges, judged_answer, Strides}
-use Rattle.judging.specs.Levels.{Satisfies, satisfies}
+use Rattle.judging.specs.Judge.{judge_first, judge_said, judge_verdict, judge_checks, judge_lines, judged, judged_answer, Strides}
+use Rattle.judging.specs.Levels.{satisfies}
 use Rattle.judging.specs.Levels.Sheet.{sheet, sheet_bytes}
 use Rattle.files.specs.Outcome.{published}
 use Rattle.files.specs.declared.refusal.Refusal.{Refusal}

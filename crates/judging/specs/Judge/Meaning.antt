@@ -4,7 +4,7 @@ use Rattle.std.proofs.Common.{sym, ap, subst, ◌∙◌, lit<}
 use Rattle.files.specs.Decode.{decode_graph, decode_property}
 use Rattle.files.specs.Graph.{Graph}
 use Rattle.files.specs.Outcome.{Said, Outcome, Answer, Answers, Does, answer, says, refusal_at, NoneOf, Lines}
-use Rattle.files.specs.Outcome.Meaning.{Decided, Refuses, Clears, Wrote, Enum, Heard, itself, heard_itself, only_verdict, numbered_cond, outcome_case, case_cond, said_iff, refuses_by, clears_by, wrote_by}
+use Rattle.files.specs.Outcome.Meaning.{Decided, Refuses, Clears, Wrote, Enum, Heard, only_verdict, numbered_cond, outcome_case, case_cond, said_iff, refuses_by, wrote_by}
 use Rattle.files.specs.Places.{record_len}
 use Rattle.files.specs.Property.{Row}
 use Rattle.files.specs.declared.record.Limits.{Limits}

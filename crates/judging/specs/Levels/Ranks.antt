@@ -1,15 +1,13 @@
 -- The laws of ranks: what is false has a rank, at most nodes * rows, and its row is false of what had a lower rank.
-use Rattle.std.specs.Prelude.{◌≡◌, refl, Bool, List, ℕ, zero, suc, ◌*◌, ◌≤◌, ◌<◌, T}
-use Rattle.std.proofs.Common.{subst, arith, T_not}
+use Rattle.std.specs.Prelude.{List, ℕ, ◌*◌, ◌≤◌, T}
+use Rattle.std.proofs.Common.{arith, T_not}
 use Rattle.std.proofs.Math.Bool.{not}
 use Rattle.std.proofs.Math.Decide.{dec_le}
-use Rattle.std.proofs.Math.Dec.{not_T}
 use Rattle.std.proofs.Math.ListN.{length}
-use Rattle.files.specs.Basics.Least.{least_hit}
-use Rattle.files.specs.Graph.{Graph, size, node, Flow}
-use Rattle.files.specs.Property.{Row, row, Property}
-use Rattle.judging.specs.Levels.{truth, after, level, holds, rank}
-use Rattle.judging.specs.Levels.Laws.{rank_false, rank_before, level_next}
+use Rattle.files.specs.Graph.{Graph, size, Flow}
+use Rattle.files.specs.Property.{Row, Property}
+use Rattle.judging.specs.Levels.{level, holds, rank}
+use Rattle.judging.specs.Levels.Laws.{rank_before}
 
 module _ (G : Graph) (P : List Row) (flow : Flow G) (wf : Property P) where
   -- a row is false at some level: its rank is at most that

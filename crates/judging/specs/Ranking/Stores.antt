@@ -1,24 +1,21 @@
 -- What giving a pair its rank does to the buffer: the pair's rank, the queue's end, and nothing else; and that it keeps what is known while a level is found.
-use Rattle.std.specs.Prelude.{◌≡◌, ◌⊎◌, Bool, not, cond, List}
-use Rattle.std.proofs.Math.Path.{refl, sym, ap, subst}
+use Rattle.std.specs.Prelude.{◌≡◌, ◌⊎◌, Bool, not, List}
+use Rattle.std.proofs.Math.Path.{refl, sym, ap}
 use Rattle.std.proofs.Common.{◌∙◌, inl, inr, le_refl, arith, T_not, eqb→eq}
-use Rattle.std.proofs.Math.Bool.{true, false}
 use Prim.Native.Nat.{ℕ, zero, suc, ◌+◌, ◌*◌, ◌≤◌, ◌<◌}
 use Rattle.std.proofs.Math.Decide.{ℕ_discrete}
 use Rattle.std.proofs.Math.Dec.{T, not_T, eqb}
 use Rattle.std.proofs.Math.ListN.{length}
 use Rattle.files.specs.Basics.Tables.{tally, tally_le}
-use Rattle.files.specs.Basics.Tests.{one, one_le, one_true, one_false, decide, eq_eqb}
+use Rattle.files.specs.Basics.Tests.{one, one_le, one_true, one_false, eq_eqb}
 use Rattle.files.specs.Cells.{cell, put_cell}
 use Rattle.files.specs.Cells.Laws.{length_put_cell, cell_same, cell_apart, cell_other}
 use Rattle.files.specs.Graph.{Graph, size, Flow}
 use Rattle.files.specs.Places.{max_nodes, max_rows}
 use Rattle.files.specs.Property.{Row, Property}
-use Rattle.judging.specs.Chains.Laws.{index_kept}
 use Rattle.judging.specs.Levels.{level}
-use Rattle.judging.specs.Levels.Onward.{first_rank}
 use Rattle.judging.specs.Places.{judge_room, max_pairs, node_heads_base, queue_base}
-use Rattle.judging.specs.Ranking.{pair, rank_at, queue_at, Given, given, tail_after, ranked, Queued, RankBy, Finding, Grew}
+use Rattle.judging.specs.Ranking.{pair, rank_at, queue_at, Given, ranked, Queued, Finding, Grew}
 
 -- ---- tallies
 

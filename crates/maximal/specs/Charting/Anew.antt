@@ -1,20 +1,15 @@
 -- A slot that is worked anew: once the minimal supports of what it asks for are entered with either flag, its row has what follows its state.
-use Rattle.std.specs.Prelude.{◌≡◌, refl, ◌⊎◌, Bool, ◌&&◌, ◌||◌, ℕ, zero, suc, ◌+◌, ◌*◌, ◌/◌, ◌%◌, ◌^◌, ◌≤◌, ◌<◌, T, eqb, ltb, length}
-use Rattle.std.proofs.Common.{sym, ap, ap₂, subst, ◌∙◌, inl, inr, arith, eqb→eq, ltb→lt, lt→ltb}
+use Rattle.std.specs.Prelude.{◌≡◌, refl, ◌⊎◌, Bool, ◌&&◌, ℕ, zero, suc, ◌+◌, ◌*◌, ◌/◌, ◌%◌, ◌≤◌, ◌<◌, eqb, length}
+use Rattle.std.proofs.Common.{sym, ap, subst, ◌∙◌, inl, inr, arith}
 use mathlib.Core.List.{List, Memᴰ}
-use Rattle.std.proofs.Math.Decide.{ℕ_discrete}
-use Rattle.files.specs.Basics.Binary.{value}
-use Rattle.files.specs.Basics.Tests.{same_test, one_le, eq_eqb, and_l, and_r, and_i, or_e, or_l, or_r, any, any_e}
+use Rattle.files.specs.Basics.Tests.{any}
 use Rattle.files.specs.Interface.{Interface}
 use Rattle.files.specs.Property.{Row, Property}
 use Rattle.maximal.specs.Collected.{or_count, supports_of}
-use Rattle.maximal.specs.Charting.{flag_of, kind_at, set_at, state_of, stored, target, Admitted, Followed, Charting, Asking}
-use Rattle.maximal.specs.Charting.States.{kind_of, state_of_is, next_collected}
+use Rattle.maximal.specs.Charting.{flag_of, kind_at, set_at, stored, Admitted, Charting, Asking}
 use Rattle.maximal.specs.Masks.{asked_of}
-use Rattle.maximal.specs.Masks.Laws.{value_lt}
-use Rattle.maximal.specs.Model.{State, Entry, Next, is_entry, is_next}
-use Rattle.maximal.specs.Charting.Entering.{still_there, method_kept, asked_kept, entry_bits_kept}
-use Rattle.maximal.specs.Places.{entries_slot, slots, max_states}
+use Rattle.maximal.specs.Model.{State}
+use Rattle.maximal.specs.Places.{slots}
 
 module _ (I : Interface) (P : List Row) where
   abbrev pub n : ℕ

@@ -1,5 +1,5 @@
 -- What entering states keeps: lists entered one after another are one list entered, and slots and entries that were right stay right.
-use Rattle.std.specs.Prelude.{◌≡◌, refl, ◌⊎◌, Bool, true, false, ◌&&◌, ◌||◌, ℕ, ◌/◌, ◌%◌, ◌≤◌, ◌<◌, T, eqb, ltb, length}
+use Rattle.std.specs.Prelude.{◌≡◌, refl, ◌⊎◌, Bool, true, false, ◌&&◌, ◌||◌, ℕ, ◌≤◌, ◌<◌, T, eqb, ltb, length}
 use Rattle.std.proofs.Common.{sym, ap, ap₂, subst, ◌∙◌, inl, inr, arith, eqb→eq, ltb→lt, lt→ltb}
 use mathlib.Core.List.Memᴰ
 use mathlib.Core.List.{List, [], ◌++◌, Memᴰ}
@@ -8,11 +8,11 @@ use Rattle.files.specs.Basics.Tests.{same_test, T_eq, and_l, and_r, or_e, or_l, 
 use Rattle.files.specs.Cells.Laws.{cell_agree}
 use Rattle.files.specs.Interface.{Interface}
 use Rattle.files.specs.Property.{Row, Property}
-use Rattle.maximal.specs.Charting.{kind_at, set_at, stored, method_at, asked_at, target, Elsewhere, Holds, Admitted, Followed}
+use Rattle.maximal.specs.Charting.{kind_at, set_at, stored, method_at, asked_at, target, Elsewhere, Holds, Admitted}
 use Rattle.maximal.specs.Charting.Kept.{off, stored_same}
 use Rattle.maximal.specs.Charting.States.{state_same}
-use Rattle.maximal.specs.Masks.{member, asked_of}
-use Rattle.maximal.specs.Model.{State, Entry, Next, is_entry, is_next}
+use Rattle.maximal.specs.Masks.{member}
+use Rattle.maximal.specs.Model.{State, Entry, is_entry}
 use Rattle.maximal.specs.Model.Computed.{entry_e}
 use Rattle.maximal.specs.Model.Supports.{length_tab}
 use Rattle.maximal.specs.Places.{asked_base, entries_slot, methods_base, slots, max_states}

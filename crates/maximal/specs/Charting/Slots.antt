@@ -1,23 +1,13 @@
 -- A slot without a label, and one that asks as an earlier one did; and that the model is found once all slots are worked, or at once where no method is provided.
-use Rattle.std.specs.Prelude.{◌≡◌, ◌⊎◌, Bool, false, not, ◌&&◌, List, ℕ, ◌+◌, ◌*◌, ◌-◌, ◌/◌, ◌%◌, ◌^◌, ◌≤◌, ◌<◌, T, eqb, ltb, length, get_or}
-use Rattle.std.proofs.Common.{sym, ap, ap₂, subst, ◌∙◌, inl, inr, arith, T_not, ltb→lt, lt→ltb}
+use Rattle.std.specs.Prelude.{◌≡◌, Bool, ◌&&◌, List, ℕ, ◌+◌, ◌*◌, ◌-◌, ◌/◌, ◌%◌, ◌^◌, ◌≤◌, ◌<◌, T, eqb, ltb, length}
+use Rattle.std.proofs.Common.{sym, ap, ap₂, subst, ◌∙◌, arith, lt→ltb}
 use Rattle.std.proofs.Math.Nat.{zero-div}
-use Rattle.std.proofs.Math.Decide.{dec_lt, ℕ_discrete}
-use Rattle.files.specs.Basics.Binary.{value}
-use Rattle.files.specs.Basics.Tests.{decide, T_eq, and_l, and_r, any}
+use Rattle.files.specs.Basics.Tests.{T_eq, and_r}
 use Rattle.files.specs.Interface.{Interface, provides}
-use Rattle.files.specs.Places.{line_bytes}
 use Rattle.files.specs.Property.{Row, Property}
-use Rattle.maximal.specs.Collected.{or_count, supports_of}
-use Rattle.maximal.specs.Charting.{flag_of, kind_at, set_at, state_of, stored, method_at, asked_at, target, Followed, Charting, Asking, Charted}
-use Rattle.maximal.specs.Charting.Kept.{off, holds_same, stored_same, tested_same, there_same, followed_same, row_kinds, row_sets, row_methods, row_asked, row_others}
-use Rattle.maximal.specs.Charting.States.{kind_of, state_of_is}
-use Rattle.maximal.specs.Masks.{member, asked_of}
-use Rattle.maximal.specs.Masks.Laws.{value_lt}
-use Rattle.maximal.specs.Model.{State, Next, Reached, at_entry, at_next, is_entry, is_label, is_next}
+use Rattle.maximal.specs.Charting.{stored, Charting, Charted}
+use Rattle.maximal.specs.Model.{State, Next, Reached, at_entry, at_next, is_entry, is_next}
 use Rattle.maximal.specs.Model.Computed.{label_i}
-use Rattle.maximal.specs.Model.Supports.{length_tab}
-use Rattle.maximal.specs.Places.{entries_slot, slots, targets_base, max_states}
 
 module _ (I : Interface) (P : List Row) where
   abbrev pub n : ℕ

@@ -1,26 +1,25 @@
 -- Kinds and sets as states: which state a kind and a set stand for, which sets are collected for the entries and for what follows a state, and that a buffer that
 -- has no room for one more state of the model shows that the model has more.
-use Rattle.std.specs.Prelude.{◌≡◌, refl, ◌⊎◌, Bool, true, false, ◌&&◌, ℕ, zero, suc, ◌+◌, ◌*◌, ◌/◌, ◌%◌, ◌^◌, ◌≤◌, ◌<◌, T, eqb, length}
-use Rattle.std.proofs.Common.{sym, ap, subst, ◌∙◌, inl, inr, arith, T_not, eqb→eq}
+use Rattle.std.specs.Prelude.{◌≡◌, refl, Bool, true, false, ◌&&◌, ℕ, zero, suc, ◌+◌, ◌*◌, ◌/◌, ◌%◌, ◌^◌, ◌≤◌, ◌<◌, T, eqb, length}
+use Rattle.std.proofs.Common.{sym, ap, subst, ◌∙◌, arith, eqb→eq}
 use mathlib.Core.List.Memᴰ
-use mathlib.Core.List.{List, ◌∷◌, Memᴰ}
+use mathlib.Core.List.{List, Memᴰ}
 use Rattle.std.proofs.Math.Decide.{dec_lt}
 use Rattle.std.proofs.Math.Pow.{pow-lt}
 use Rattle.files.specs.Basics.Binary.{value}
-use Rattle.files.specs.Basics.Least.{least_before}
-use Rattle.files.specs.Basics.Queue.{Once, room}
-use Rattle.files.specs.Basics.Tables.{table, table_e, length_table}
+use Rattle.files.specs.Basics.Queue.{Once}
+use Rattle.files.specs.Basics.Tables.{table, table_e}
 use Rattle.files.specs.Basics.Tests.{same_test, one, one_le, eq_eqb, and_l, and_r, and_i, any, any_i, any_e}
 use Rattle.files.specs.Interface.{Interface, provides}
 use Rattle.files.specs.Interface.Laws.{in_set_small}
 use Rattle.files.specs.Property.{Row, Property}
 use Rattle.maximal.specs.Collected.{or_count, supports_of}
 use Rattle.maximal.specs.Collected.Laws.{supports_are}
-use Rattle.maximal.specs.Charting.{flag_of, state_of, stored, kind_at, set_at, same_state, found, Known, Holds, Crowded}
+use Rattle.maximal.specs.Charting.{flag_of, state_of, stored, kind_at, set_at, Holds, Crowded}
 use Rattle.maximal.specs.Masks.{member, rows, asked_of}
 use Rattle.maximal.specs.Masks.Laws.{member_one, member_lt, value_rows, rows_value, asked_lt, member_asked}
-use Rattle.maximal.specs.Model.{Rows, Minimal, root, asked, State, Entry, Next, Reached, is_entry, is_label, is_next, states}
-use Rattle.maximal.specs.Model.Computed.{asked_row, entry_e, entry_i, label_e}
+use Rattle.maximal.specs.Model.{Rows, Minimal, root, asked, State, Entry, Next, is_entry, states}
+use Rattle.maximal.specs.Model.Computed.{asked_row, entry_e, entry_i}
 use Rattle.maximal.specs.Model.Supports.{length_tab}
 
 -- ---- the state of a kind and a set

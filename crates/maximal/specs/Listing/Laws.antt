@@ -1,5 +1,5 @@
 -- A model that stands in the buffer is the definition's: its nodes and edges by the states' order, their bytes, and how many edges there are.
-use Rattle.std.specs.Prelude.{◌≡◌, ◌⊎◌, Bool, List, [], ◌∷◌, ◌++◌, map, length, get_or}
+use Rattle.std.specs.Prelude.{◌≡◌, ◌⊎◌, Bool, List, [], ◌∷◌, ◌++◌, length}
 use Rattle.std.proofs.Math.Path.{refl, ap}
 use Rattle.std.proofs.Common.{sym, ap₂, subst, ◌∙◌, arith, ltb→lt, lt→ltb, length-append}
 use Rattle.std.proofs.Math.Logic.{inl, inr}
@@ -7,23 +7,18 @@ use Rattle.std.proofs.Math.Bool.{true, false, cond}
 use Prim.Native.Nat.{ℕ, zero, suc, ◌+◌, ◌*◌, ◌/◌, ◌≤◌, ◌<◌}
 use Rattle.std.proofs.Math.Decide.{ℕ_discrete}
 use Rattle.std.proofs.Math.Dec.{T, ltb}
-use Rattle.std.proofs.lemmas.List.{length-map}
-use Rattle.files.specs.Basics.Lists.{put, keep, each, each_append, each_map, span, span_more, each_more, length_each}
+use Rattle.files.specs.Basics.Lists.{put, keep, each, each_append, span, span_more, each_more, length_each}
 use Rattle.files.specs.Basics.Tables.{tally, tally_le, length_span}
 use Rattle.files.specs.Basics.Tests.{one, T_eq}
-use Rattle.files.specs.Decode.{graph_bytes, node_rec, edge_rec}
-use Rattle.files.specs.Decode.Written.{graph_bytes_is}
-use Rattle.files.specs.Graph.{Edge, Node, size}
+use Rattle.files.specs.Decode.{node_rec}
 use Rattle.files.specs.Interface.{Interface}
 use Rattle.files.specs.Places.{record_len}
 use Rattle.files.specs.Property.{Row, Property}
-use Rattle.files.specs.Record.{six, write}
+use Rattle.files.specs.Record.{six}
 use Rattle.maximal.specs.Charting.{kind_at, order_at, Arranged, in_order}
 use Rattle.maximal.specs.Charting.States.{one_flag}
 use Rattle.maximal.specs.Listing.{leads, tally_under, tally_from, tally_upto, node_bytes, under_bytes, from_bytes}
-use Rattle.maximal.specs.Model.{State, no_state, is_next, states, model}
-use Rattle.maximal.specs.Model.Computed.{model_size}
-use Rattle.maximal.specs.Model.Listed.{made_node, made_edge, model_nodes, model_edges}
+use Rattle.maximal.specs.Model.Listed.{made_node}
 use Rattle.maximal.specs.Places.{max_states}
 
 -- ---- lists over a span

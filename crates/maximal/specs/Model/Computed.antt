@@ -1,5 +1,5 @@
 -- The computed tests say what the predicates say, and the computed graph is the model.
-use Rattle.std.specs.Prelude.{◌≡◌, ◌⊎◌, ◌↔◌, Bool, false, not, ◌&&◌, ◌||◌, ℕ, ◌<◌, eqb, get_or}
+use Rattle.std.specs.Prelude.{◌≡◌, ◌⊎◌, Bool, false, not, ◌&&◌, ◌||◌, ℕ, ◌<◌, eqb, get_or}
 use Rattle.std.proofs.Math.Path.{refl, ap, subst}
 use Rattle.std.proofs.Common.{sym, arith}
 use Rattle.std.proofs.Math.Logic.{inl, inr}
@@ -8,16 +8,14 @@ use mathlib.Core.List.Memᴰ
 use mathlib.Core.List.{List, [], ◌∷◌, map, Memᴰ}
 use Rattle.std.proofs.Math.Dec.{T, eqb→eq, T_not, not_T}
 use Rattle.std.proofs.Math.ListN.{length, length-map}
-use Rattle.files.specs.Basics.Closure.{closed, closed_ind, closed_rule}
-use Rattle.files.specs.Basics.Lists.{keep, keep_i, keep_e, each, each_i, each_e, span, span_i, span_e, index_i, index_e, get_d_map}
+use Rattle.files.specs.Basics.Lists.{keep, keep_i, keep_e, each, each_i, each_e, span, span_i, span_e, get_d_map}
 use Rattle.files.specs.Basics.Tests.{imp_i, imp_e, and_l, and_r, and_i, or_e, or_l, or_r, all_i, all_e, any, any_i, any_e, upto, upto_i, decide, eq_eqb}
-use Rattle.maximal.specs.Model.{below, Reached, Rows, has, Within, supported, Support, Minimal, root, asked, State, Entry, Next, at_entry, at_next, IsModel, sets, is_support, is_minimal, is_entry, is_label, is_next, all_states, arises, states, state_at, no_state, edges_between, graph_of, model}
+use Rattle.maximal.specs.Model.{below, Rows, has, Within, supported, Support, Minimal, root, asked, State, Entry, sets, is_support, is_minimal, is_entry, is_label, is_next, all_states, arises, states, state_at, no_state, edges_between, graph_of, model}
 use Rattle.files.specs.Graph.{Edge, size, node}
 use Rattle.files.specs.Interface.{Interface, provides, requires_method, Labelled}
 use Rattle.files.specs.Interface.Laws.{in_set_small}
 use Rattle.files.specs.Property.{Row, row, Property}
 use Rattle.judging.specs.Levels.Laws.{obliged_named}
-use Rattle.maximal.specs.Model.Maximal.{reached_rows}
 use Rattle.maximal.specs.Model.Supports.{asked_e, sets_i, sets_e, has_lt}
 
 -- ---- minimal supports by test

@@ -3,27 +3,19 @@ use Rattle.std.specs.Prelude.{◌≡◌, ◌↔◌, List, [], ◌∷◌, ℕ, �
 use Rattle.std.proofs.Common.{sym, ap, ap₂, subst, ◌∙◌, arith}
 use Rattle.std.proofs.Math.Path.{refl}
 use Rattle.std.proofs.Math.Option.{none}
-use Rattle.std.proofs.Math.Decide.{dec_lt}
 use Rattle.files.specs.Basics.Says.{says_lt}
-use Rattle.files.specs.Decode.{decode_graph, decode_property, decode_interface, graph_bytes}
-use Rattle.files.specs.Decode.Accepted.{accepted_bytes}
-use Rattle.files.specs.Decode.Properties.{decoded_property}
-use Rattle.files.specs.Decode.Written.{decode_bytes}
-use Rattle.files.specs.Graph.{Graph, Flow, size}
-use Rattle.files.specs.Interface.{Interface, Of}
+use Rattle.files.specs.Decode.{decode_property, decode_interface, graph_bytes}
+use Rattle.files.specs.Graph.{Graph, size}
+use Rattle.files.specs.Interface.{Interface}
 use Rattle.files.specs.Limits.{desk}
 use Rattle.files.specs.Outcome.{Said, refuses, says, refusal_at, NoneOf, FirstOf, Matches, TooLarge, graph_said, answer, answered}
 use Rattle.files.specs.Outcome.Calls as calls
-use Rattle.files.specs.Outcome.Laws.{whole_match, files_match, out_match, refused_by, accepted_by, verdict_is, file_accepted, whole_none, says_too_large, small_enough, whole_none_i, file_none, none_end}
-use Rattle.files.specs.Property.{Row, Property}
-use Rattle.files.specs.Refusal.{graph, property, interface, refusal}
+use Rattle.files.specs.Outcome.Laws.{whole_match, files_match, out_match, refused_by, accepted_by, verdict_is, file_accepted, whole_none, says_too_large, whole_none_i, file_none, none_end}
+use Rattle.files.specs.Property.{Row}
+use Rattle.files.specs.Refusal.{property, interface, refusal}
 use Rattle.files.specs.declared.record.Limits.{Limits}
-use Rattle.judging.specs.Levels.{Satisfies}
-use Rattle.judging.proofs.Theorems.Levels.Laws.{satisfies_agrees}
-use Rattle.judging.specs.Simulation.{Simulates}
-use Rattle.maximal.specs.Model.{State, IsModel, model, state_at}
-use Rattle.maximal.specs.Model.Ordered.{Earlier, earlier_not, state_order}
-use Rattle.maximal.specs.Modelling.{model_first, model_graph, model_last, model_checks, model_lines, modelled, Models, modelled_answer, Bounded}
+use Rattle.maximal.specs.Model.{model}
+use Rattle.maximal.specs.Modelling.{model_first, model_graph, model_last, model_checks, model_lines, modelled, modelled_answer, Bounded}
 use Rattle.files.specs.Outcome.{published}
 use Rattle.files.specs.declared.refusal.Refusal.{Refusal}
 use Rattle.maximal.specs.Places.{model_room}

@@ -1,6 +1,6 @@
 -- What a returned value of modelling means. The only hypothesis is what the contract of `model` states.
 use Rattle.std.specs.Prelude.{◌≡◌, refl, ◌↔◌, cond, List, [], ◌∷◌, ℕ, ◌+◌, ◌*◌, ◌<◌, eqb, length, get_or, take, drop}
-use Rattle.std.proofs.Common.{sym, ap, ap₂, subst, ◌∙◌}
+use Rattle.std.proofs.Common.{ap, ap₂, ◌∙◌}
 use Rattle.std.proofs.Math.Option.{none}
 use Rattle.std.proofs.Math.Dec.{lit<}
 use Rattle.files.specs.Decode.{decode_graph, decode_property, decode_interface, graph_bytes}
@@ -8,7 +8,7 @@ use Rattle.files.specs.Decode.Written.{graph_length}
 use Rattle.files.specs.Graph.{Graph, size, Flow}
 use Rattle.files.specs.Interface.{Interface, Of}
 use Rattle.files.specs.Outcome.{Said, Outcome, Answer, Does, answer, refusal_at, NoneOf, Lines, graph_said}
-use Rattle.files.specs.Outcome.Meaning.{Decided, Refuses, Clears, Wrote, Enum, Heard, itself, heard_itself, only_verdict, outcome_case, said_iff, refuses_by, clears_by, wrote_by}
+use Rattle.files.specs.Outcome.Meaning.{Decided, Refuses, Clears, Wrote, Enum, Heard, only_verdict, outcome_case, said_iff, wrote_by}
 use Rattle.files.specs.Places.{record_len}
 use Rattle.files.specs.Property.{Row}
 use Rattle.files.specs.Refusal.{graph, refusal}

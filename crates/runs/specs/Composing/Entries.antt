@@ -1,10 +1,8 @@
 -- "A method needs an entry": of the modules that conform those that load, with an entry for each provided method; and that the model lacks one exactly where none loads. For request
 -- 6, in composed verdicts only: judging, comparing, modelling and watching speak of conforming graphs.
-use Rattle.std.specs.Prelude.{◌≡◌, refl, ◌⊎◌, ◌↔◌, Bool, true, false, not, cond, ◌||◌, List, [], ℕ, T}
-use Rattle.std.proofs.Common.{sym, ap, subst, ◌∙◌, inl, inr, arith}
-use Rattle.std.proofs.Math.Logic.Iff
-use Rattle.std.proofs.Math.Decide.{ℕ_discrete}
-use Rattle.files.specs.Basics.Tests.{decide, or_e, or_l, or_r, not_or}
+use Rattle.std.specs.Prelude.{◌≡◌, ◌⊎◌, ◌↔◌, not, List, [], ℕ, T}
+use Rattle.std.proofs.Common.{◌∙◌, inl, inr}
+use Rattle.files.specs.Basics.Tests.{decide}
 use Rattle.files.specs.Graph.{Graph, EntryOf}
 use Rattle.files.specs.Interface.{Interface}
 use Rattle.files.specs.Join.{join}
@@ -15,11 +13,10 @@ use Rattle.files.specs.Sides.{lacks_entry}
 use Rattle.files.specs.Sides.Entries.{says_lacks_entry, entered_i}
 use Rattle.maximal.specs.Model.{model}
 use Rattle.maximal.proofs.Theorems.Modelling.Laws.{model_simulates_iff}
-use Rattle.runs.specs.Composing.{Conforms, Loads, Side, known, unwritten, gives, Admits, impossible, LoadsOn, SomeLoads, NoneLoads, AllClean, SomeBad, impossible_said, sides_said}
-use Rattle.runs.specs.Composing.Sides.{model_conforms, Sound}
-use Rattle.runs.specs.Runs.{Bad as BadRun, Clean}
-use Rattle.runs.specs.Watching.{Watches, watch_said}
-use Rattle.runs.specs.Watching.Laws.{watch_no_third}
+use Rattle.runs.specs.Composing.{Conforms, Loads, Side, known, unwritten, gives, Admits, LoadsOn, SomeLoads, NoneLoads, AllClean, SomeBad}
+use Rattle.runs.specs.Composing.Sides.{model_conforms}
+use Rattle.runs.specs.Runs.{Clean}
+use Rattle.runs.specs.Watching.{Watches}
 
 module _ (I : Interface) (P : List Row) (wf : Property P) where
   -- an entry of a conforming graph is covered by one of the model

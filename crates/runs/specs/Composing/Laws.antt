@@ -3,32 +3,22 @@
 use Rattle.std.specs.Prelude.{◌≡◌, ◌⊎◌, ◌↔◌, List, [], ◌∷◌, ℕ, ◌<◌, true, false}
 use Rattle.std.proofs.Math.Path.{refl}
 use Rattle.std.proofs.Common.{arith}
-use Rattle.std.proofs.Math.Dec.{not_T}
 use Rattle.files.specs.Basics.Says.{says_lt, says_or}
 use Rattle.files.specs.Decode.{decode_graph, decode_property, decode_interface, decode_rules}
-use Rattle.files.specs.Decode.Graphs.{decoded_filed}
-use Rattle.files.specs.Decode.Properties.{decoded_property}
-use Rattle.files.specs.Decode.RuleFiles.{decoded_rules}
 use Rattle.files.specs.Interface.{Of}
-use Rattle.files.specs.Interface.Laws.{labelled_small}
 use Rattle.files.specs.Outcome.{Said, refuses, says, refusal_at, line, whole_line, file_lines, out_line, NoneOf, FirstOf, Matches, NoStart, TooLarge, answered}
 use Rattle.files.specs.Outcome.Calls as calls
-use Rattle.files.specs.Outcome.Laws.{whole_match, scan_match, files_match, out_match, refused_by, accepted_by, verdict_is, file_accepted, whole_none, says_no_start, says_too_large, past_line, past_file, none_e}
+use Rattle.files.specs.Outcome.Laws.{whole_match, scan_match, files_match, out_match, refused_by, accepted_by, says_no_start, says_too_large, past_line, past_file}
 use Rattle.files.specs.Property.{Property}
 use Rattle.files.specs.Refusal.{graph, property, rules, interface}
 use Rattle.files.specs.Rules.{watch}
-use Rattle.files.specs.Sides.{ForeignAt, Shares, lacks_entry, LacksEntry, Entered, Unprovided}
-use Rattle.files.specs.Sides.Entries.{says_lacks_entry, entered_i}
+use Rattle.files.specs.Sides.{ForeignAt, Shares, LacksEntry, Entered, Unprovided}
+use Rattle.files.specs.Sides.Entries.{says_lacks_entry}
 use Rattle.files.specs.Sides.Laws.{foreign_finds, says_shares, says_unprovided}
 use Rattle.files.specs.Sides.OfInterface.{of_foreign}
 use Rattle.files.specs.declared.record.Limits.{Limits}
-use Rattle.maximal.specs.Model.{model}
-use Rattle.maximal.proofs.Theorems.Model.Filed.{model_is_flow, model_is_of}
-use Rattle.runs.specs.Composing.{known, unwritten, gives, compose_store, compose_work, known_side, other_side, compose_graph, compose_sides, compose_verdict, compose_checks, compose_lines, composed, compose_first, compose_said, compose_last}
-use Rattle.files.specs.Join.{join}
-use Rattle.files.specs.Join.Laws.{join_flow, join_labels}
+use Rattle.runs.specs.Composing.{known, unwritten, gives, compose_store, compose_work, other_side, compose_graph, compose_sides, compose_verdict, compose_checks, compose_lines, composed, compose_first, compose_said, compose_last}
 use Rattle.runs.specs.Composing.Entries.{SidesSay}
-use Rattle.runs.specs.Watching.Laws.{filed_labels, filed_monitor}
 use Rattle.files.specs.Outcome.{published}
 
 -- ---- the call

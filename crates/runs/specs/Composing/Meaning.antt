@@ -1,19 +1,18 @@
 -- What a returned value of the composed verdict means. The only hypothesis is what the contract of `compose` states.
 use Rattle.std.specs.Prelude.{◌≡◌, refl, ◌⊎◌, ◌↔◌, List, ℕ, length}
-use Rattle.std.proofs.Common.{sym, subst, inl, inr}
+use Rattle.std.proofs.Common.{inl, inr}
 use Rattle.files.specs.Decode.{decode_graph, decode_property, decode_interface, decode_rules}
 use Rattle.files.specs.Graph.{Graph}
 use Rattle.files.specs.Interface.{Interface, Of}
 use Rattle.files.specs.Outcome.{Said, Outcome, answer, refusal_at, NoneOf, Lines, DoesBoth}
-use Rattle.files.specs.Outcome.Meaning.{Decided, Clears, Heard, itself, heard_itself, only_verdict, outcome_case, clears_by}
+use Rattle.files.specs.Outcome.Meaning.{Decided, Clears, Heard, only_verdict, outcome_case}
 use Rattle.files.specs.Property.{Row}
 use Rattle.files.specs.Rules.{Monitor, watch}
 use Rattle.files.specs.declared.record.Limits.{Limits}
 use Rattle.runs.specs.Answer.{watched_answer, verdict_enum}
 use Rattle.runs.specs.Composing.{Loads, known, unwritten, known_side, other_side, NoneLoads, compose_verdict, compose_checks, compose_lines, composed}
-use Rattle.runs.specs.Composing.Entries.{SidesSay}
-use Rattle.runs.specs.Composing.Laws.{compose_refused, compose_accepted, compose_own}
-use Rattle.runs.specs.Composing.Returned.{SidesMeans, sides_tell, sides_numbered, sides_told}
+use Rattle.runs.specs.Composing.Laws.{compose_refused, compose_accepted}
+use Rattle.runs.specs.Composing.Returned.{SidesMeans, sides_numbered, sides_told}
 use Rattle.files.specs.Join.{join}
 use Rattle.runs.specs.Runs.{Bad as BadRun, Clean as CleanRuns}
 use Rattle.runs.specs.declared.answers.Verdict.{Verdict}

@@ -1,20 +1,16 @@
 -- Any two sides, each a graph that is known or one that is not written yet: what they give is watched for all that may stand on them. The verdicts with a known graph and
 -- with two unwritten sides are cases of it.
-use Rattle.std.specs.Prelude.{refl, ◌↔◌, List, ℕ}
+use Rattle.std.specs.Prelude.{refl, List}
 use Rattle.std.proofs.Common.{sym, subst}
 use Rattle.files.specs.Graph.{Graph, Flow}
 use Rattle.files.specs.Interface.{Interface}
-use Rattle.files.specs.Join.{join}
 use Rattle.files.specs.Property.{Row, Property}
-use Rattle.files.specs.Rules.{Monitor}
 use Rattle.judging.specs.Simulation.{Simulates}
 use Rattle.judging.specs.Simulation.Laws.{simulates_refl}
 use Rattle.maximal.specs.Model.{model}
 use Rattle.maximal.proofs.Theorems.Model.Filed.{model_is_flow, model_is_of}
 use Rattle.maximal.proofs.Theorems.Modelling.Laws.{model_simulates_iff}
 use Rattle.runs.specs.Composing.{Conforms, Side, known, unwritten, gives, Admits}
-use Rattle.runs.specs.Join.{join_simulates}
-use Rattle.runs.specs.Runs.{Bad as BadRun, Clean}
 
 -- the model is one of the graphs that conform
 pub model_conforms : (I : Interface) (P : List Row) → Property P → Conforms I P (model I P)

@@ -1,6 +1,6 @@
 -- The turns of the search: its start in a buffer of zeros, the next item's turn once all records of one are looked at, and what it says where a bad place has its turn,
 -- or where no item is left.
-use Rattle.std.specs.Prelude.{◌≡◌, refl, ◌⊎◌, not, ℕ, suc, ◌+◌, ◌*◌, ◌/◌, ◌≤◌, ◌<◌, length, get_or}
+use Rattle.std.specs.Prelude.{◌≡◌, refl, ◌⊎◌, ℕ, suc, ◌+◌, ◌*◌, ◌/◌, ◌≤◌, ◌<◌, length, get_or}
 use Rattle.std.proofs.Common.{sym, ap, ◌∙◌, inl, inr, eq-or-lt_of_le, le_of_suc-le-suc, arith}
 use Rattle.std.proofs.Math.Path.{subst}
 use mathlib.Core.List.Memᴰ
@@ -10,23 +10,20 @@ use Rattle.files.specs.Access.{first_edge}
 use Rattle.files.specs.Basics.Lexical.{Before}
 use Rattle.files.specs.Basics.Lists.{span}
 use Rattle.files.specs.Basics.Order.{Ascends, span_ascends}
-use Rattle.files.specs.Basics.Shortest.{To, there}
-use Rattle.files.specs.Basics.Tests.{decide}
 use Rattle.files.specs.Cells.{has_bit}
 use Rattle.files.specs.Cells.Laws.{zero_bit}
 use Rattle.files.specs.Decode.{key}
 use Rattle.files.specs.Graph.{Graph, Edge, size, node, Flow}
 use Rattle.files.specs.Rules.{Monitor, Event}
-use Rattle.runs.specs.Forward.{Met, Back, at_start, onward, UpTo, turned, fewer_due, next_item, all_met, best_found, turned_path, path_turned}
+use Rattle.runs.specs.Forward.{Met, Back, at_start, onward, UpTo, fewer_due, next_item}
 use Rattle.runs.specs.Prepared.{Tables}
-use Rattle.runs.specs.Regions.{entered_base, points, seen_base, watch_room}
-use Rattle.runs.specs.Runs.{Bad}
-use Rattle.runs.specs.Summary.{Place, clean}
-use Rattle.runs.specs.Summary.Trails.{Rec, trail_rec_bytes, Where, before, here, end, is_bad, leaving, trail}
-use Rattle.runs.specs.Summary.Trails.Laws.{leaves_e, leaves_i, leaving_return, trail_to, trail_fewest, trail_first}
-use Rattle.runs.specs.Searching.{item_end, places_seen, Sooner, edge_at, outgoing, starts_of, Searching, Here, May, Looked, Turn, Says}
+use Rattle.runs.specs.Regions.{entered_base, seen_base, watch_room}
+use Rattle.runs.specs.Summary.{Place}
+use Rattle.runs.specs.Summary.Trails.{Rec, trail_rec_bytes, Where, before, here, end, is_bad, leaving}
+use Rattle.runs.specs.Summary.Trails.Laws.{leaves_e, leaves_i, leaving_return}
+use Rattle.runs.specs.Searching.{item_end, places_seen, Sooner, edge_at, outgoing, starts_of, Searching, Here, May, Looked, Turn}
 use Rattle.runs.specs.Searching.Outgoing.{outgoing_ascends, outgoing_is, outgoing_leaves, leaves_outgoing, starts_ascend, starts_leave}
-use Rattle.runs.specs.Searching.Pushes.{one_record, same_size, places_most, few_by}
+use Rattle.runs.specs.Searching.Pushes.{one_record, same_size}
 
 module _ (G : Graph) (mon : Monitor) (m : ℕ) where
   -- other records are due, of which none is left out that leads to what is not met

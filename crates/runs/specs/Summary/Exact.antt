@@ -1,9 +1,7 @@
 -- Summaries are exact: a trail reaches what runs with an unbounded stack reach, and nothing else.
-use Rattle.std.specs.Prelude.{refl, ◌↔◌, List, [], ◌∷◌, ℕ}
-use Rattle.std.proofs.Common.{sym, append-nil}
+use Rattle.std.specs.Prelude.{List, [], ℕ}
 use Rattle.files.specs.Graph.{Graph, EntryOf}
 use Rattle.files.specs.Rules.{Monitor}
-use Rattle.runs.specs.Runs.{Config, cfg, plain, internal, call, return, Run, start, then}
 use Rattle.runs.specs.Summary.{Inside, enter, inner, over, Trail, starts, steps, enters, passes}
 use Rattle.runs.specs.Summary.Frames.{Frames, bottom, frame}
 

@@ -4,8 +4,8 @@ use Rattle.std.proofs.Common.{ap, subst₂, arith, length-append}
 use mathlib.Core.List.{List, ◌∷◌, head-eq_of_cons-eq, tail-eq_of_cons-eq}
 use Rattle.files.specs.Graph.{Graph, Edge, node}
 use Rattle.files.specs.Rules.{calls, returns_to, Monitor}
-use Rattle.runs.specs.Runs.{Config, plain, meth, On, Runs, Step, internal, call, return}
-use Rattle.runs.specs.Summary.{Inside, enter, inner, over}
+use Rattle.runs.specs.Runs.{meth, On, Runs}
+use Rattle.runs.specs.Summary.{Inside, over}
 
 module _ (G : Graph) (mon : Monitor) (m p : ℕ) (t : List ℕ) where
   -- each frame above t was entered by a call, and the method on top has come to where it is

@@ -5,14 +5,14 @@ use Rattle.std.proofs.Math.Path.{refl, ap, subst}
 use Rattle.std.proofs.Common.{sym, inl, inr, arith, ltb→lt, lt→ltb, lit<}
 use mathlib.Core.List.Memᴰ
 use mathlib.Core.List.{List, map, Memᴰ}
-use Rattle.std.proofs.Math.Dec.{T, eqb, eqb→eq, T_not}
+use Rattle.std.proofs.Math.Dec.{T, eqb, eqb→eq}
 use Rattle.files.specs.Basics.Closure.{closed_ind, closed_rule}
 use Rattle.files.specs.Basics.Lists.{each_i, each_e, span, span_i, span_e}
-use Rattle.files.specs.Basics.Tests.{and_i, and_e, or_e, or_l, or_r, any, any_i, any_e, eq_eqb, or_map, any_map, not_not}
+use Rattle.files.specs.Basics.Tests.{and_i, and_e, or_e, or_l, or_r, any, any_i, any_e, eq_eqb, or_map, any_map}
 use Rattle.files.specs.Graph.{Graph, Edge, size, node, Flow}
 use Rattle.files.specs.Rules.{Event, calls, Monitor}
-use Rattle.runs.specs.Runs.{meth, Bad, Clean}
-use Rattle.runs.specs.Summary.{Trail, starts, steps, enters, passes, Place, is_entry_of, moves, spots, moved_from, called_from, reaches, place_rule, all_places, places, clean}
+use Rattle.runs.specs.Runs.{meth}
+use Rattle.runs.specs.Summary.{Trail, starts, steps, enters, passes, Place, is_entry_of, moves, spots, moved_from, called_from, reaches, place_rule, all_places, places}
 use Rattle.runs.specs.Summary.Moves.{Moves, by_step, by_call, no_ret, entry_e, entry_i, into, moves_e, step_moves, call_moves, into_is}
 use Rattle.runs.specs.Summary.Spots.{spot, spots_sound, spots_complete, inside_now}
 

@@ -2,24 +2,15 @@
 use Rattle.std.specs.Prelude.{◌≡◌, ◌↔◌, true, List, [], ◌∷◌, ℕ}
 use Rattle.std.proofs.Math.Path.{refl}
 use Rattle.files.specs.Basics.Says.{says_lt, says_or}
-use Rattle.files.specs.Decode.{decode_property, decode_interface, decode_rules}
-use Rattle.files.specs.Decode.Properties.{decoded_property}
-use Rattle.files.specs.Decode.RuleFiles.{decoded_rules}
-use Rattle.files.specs.Interface.Laws.{labelled_small}
-use Rattle.files.specs.Join.Laws.{join_flow, join_labels}
+use Rattle.files.specs.Decode.{decode_interface}
 use Rattle.files.specs.Outcome.{Said, refuses, says, refusal_at, NoneOf, FirstOf, Matches, published, answered}
 use Rattle.files.specs.Outcome.Calls as calls
-use Rattle.files.specs.Outcome.Laws.{whole_match, files_match, out_match, refused_by, accepted_by, verdict_is, file_accepted, whole_none, says_no_start, says_too_large}
+use Rattle.files.specs.Outcome.Laws.{whole_match, files_match, out_match, refused_by, accepted_by, says_no_start, says_too_large}
 use Rattle.files.specs.Refusal.{property, rules, interface}
-use Rattle.files.specs.Rules.{watch}
 use Rattle.files.specs.Sides.Laws.{says_shares, says_unprovided}
 use Rattle.files.specs.declared.record.Limits.{Limits}
-use Rattle.maximal.specs.Model.{model}
-use Rattle.maximal.proofs.Theorems.Model.Filed.{model_is_flow, model_is_of}
 use Rattle.runs.specs.Composing.{gives}
 use Rattle.runs.specs.Unwritten.{both_store, both_work, first_side, second_side, both_graph, both_sides, both_said, both_first, both_last, both_checks, both_lines, composed_both}
-use Rattle.runs.specs.Composing.Entries.{SidesSay}
-use Rattle.runs.specs.Watching.Laws.{filed_monitor}
 
 module _ (L : Limits) (i₁ p₁ i₂ p₂ r : List ℕ) (m out store work : ℕ) where
   abbrev pub said : Said

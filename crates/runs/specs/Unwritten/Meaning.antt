@@ -1,13 +1,12 @@
 -- What a returned value of the verdict on two unwritten sides means. The only hypothesis is what the contract of `compose_both` states.
 use Rattle.std.specs.Prelude.{◌≡◌, List, ℕ, length}
 use Rattle.files.specs.Decode.{decode_rules}
-use Rattle.files.specs.Outcome.{Outcome, answer, Lines, NoneOf, DoesBoth}
-use Rattle.files.specs.Outcome.Meaning.{Decided, Clears, Heard, itself, heard_itself, only_verdict, outcome_case, clears_by}
+use Rattle.files.specs.Outcome.{Outcome, answer, Lines, DoesBoth}
+use Rattle.files.specs.Outcome.Meaning.{Decided, Clears, Heard, only_verdict, outcome_case}
 use Rattle.files.specs.Rules.{watch}
 use Rattle.files.specs.declared.record.Limits.{Limits}
 use Rattle.runs.specs.Answer.{watched_answer, verdict_enum}
-use Rattle.runs.specs.Composing.Entries.{SidesSay}
-use Rattle.runs.specs.Composing.Returned.{SidesMeans, sides_tell, sides_numbered, sides_told}
+use Rattle.runs.specs.Composing.Returned.{SidesMeans, sides_numbered, sides_told}
 use Rattle.runs.specs.Unwritten.{first_side, second_side, both_said, both_checks, both_lines, composed_both}
 use Rattle.runs.specs.Unwritten.Laws.{both_refused, both_accepted}
 use Rattle.runs.specs.declared.answers.Verdict.{Verdict}

@@ -5,11 +5,11 @@ use Rattle.std.proofs.Common.{sym, ap, ◌∙◌, append-nil, arith, length-drop
 use Rattle.std.proofs.Math.Option.{none}
 use borrow.Rule.Slice.PartMut.{mid_of, put_mid, take_put}
 use Rattle.files.specs.Access.{InterfaceFile}
-use Rattle.files.specs.Decode.{decode_graph, decode_interface, decode_rules}
+use Rattle.files.specs.Decode.{decode_interface, decode_rules}
 use Rattle.files.specs.Graph.{Graph}
 use Rattle.files.specs.Join.{join}
-use Rattle.files.specs.Outcome.{Said, Outcome, refuses, Answer, Answers, refused_answer, Check, whole_check, file_checks, out_check, answered, refusal_at, no_start, short, too_large}
-use Rattle.files.specs.Outcome.Ends.{whole_refuses, answers_refused, answers_same}
+use Rattle.files.specs.Outcome.{Said, Outcome, refuses, Answers, refused_answer, Check, whole_check, file_checks, out_check, answered, refusal_at, no_start, short, too_large}
+use Rattle.files.specs.Outcome.Ends.{whole_refuses, answers_refused}
 use Rattle.files.specs.Refusal.{property, rules, interface, refusal}
 use Rattle.files.specs.Rules.{watch}
 use Rattle.files.specs.Settling.{Row, Settles}
@@ -21,7 +21,7 @@ use Rattle.files.specs.declared.settle.Settled.TheVariants.{Passed}
 use Rattle.judging.specs.Judge.{Strides}
 use Rattle.maximal.specs.Modelling.{Bounded}
 use Rattle.maximal.specs.Places.{model_room}
-use Rattle.runs.specs.Composing.{gives, joined_verdict, compose_said, compose_last, OtherSide}
+use Rattle.runs.specs.Composing.{gives, joined_verdict, OtherSide}
 use Rattle.runs.specs.Composing.Work.{both_long}
 use Rattle.runs.specs.Unwritten.{both_store, both_work, first_side, second_side, both_graph, both_sides, both_said, both_first, both_last}
 

@@ -1,7 +1,7 @@
 -- Watching is refused by the first line of its published order that applies, and otherwise says what `Watches` says.
-use Rattle.std.specs.Prelude.{◌≡◌, ◌↔◌, Bool, not, ℕ, ◌≤◌, ◌<◌}
+use Rattle.std.specs.Prelude.{◌≡◌, ◌↔◌, Bool, ℕ, ◌≤◌, ◌<◌}
 use Rattle.std.proofs.Math.Path.{refl, ap}
-use Rattle.std.proofs.Common.{sym, ap₂, subst, ◌∙◌, arith}
+use Rattle.std.proofs.Common.{ap₂, subst, ◌∙◌, arith}
 use Rattle.std.proofs.Math.Bool.{true, false, cond}
 use mathlib.Core.List.{List, [], ◌∷◌, Memᴰ}
 use Rattle.std.proofs.Math.Option.{Option, none}
@@ -9,12 +9,10 @@ use Rattle.std.proofs.Math.Dec.{T}
 use Rattle.std.proofs.Math.ListN.{length}
 use Rattle.files.specs.Basics.Says.{says_lt}
 use Rattle.files.specs.Decode.{Filed, decode_graph, decode_interface, decode_rules, FiledRules}
-use Rattle.files.specs.Decode.Graphs.{decoded_filed}
-use Rattle.files.specs.Decode.RuleFiles.{decoded_rules}
-use Rattle.files.specs.Graph.{Graph, Edge, Flow}
+use Rattle.files.specs.Graph.{Graph, Edge}
 use Rattle.files.specs.Outcome.{Said, refuses, says, refusal_at, line, whole_line, file_lines, out_line, NoneOf, FirstOf, Matches, NoStart, answered, out_check}
 use Rattle.files.specs.Outcome.Calls as calls
-use Rattle.files.specs.Outcome.Laws.{whole_match, scan_match, files_match, out_match, refused_by, accepted_by, verdict_is, file_accepted, whole_none, says_no_start, whole_none_i, file_none}
+use Rattle.files.specs.Outcome.Laws.{whole_match, scan_match, files_match, out_match, refused_by, accepted_by, says_no_start, whole_none_i, file_none}
 use Rattle.files.specs.Outcome.Laws.{none_i, none_end, past_line, past_file}
 use Rattle.files.specs.Refusal.{graph, rules, interface, refusal}
 use Rattle.files.specs.Rules.{Rule, Event, Monitor, watch}
@@ -24,10 +22,9 @@ use Rattle.files.specs.Sides.Laws.{foreign_finds, says_unprovided}
 use Rattle.files.specs.Sides.OfInterface.{of_foreign}
 use Rattle.files.specs.declared.record.Limits.{Limits}
 use Rattle.runs.specs.Regions.{watch_room}
-use Rattle.runs.specs.Runs.{Bad, Clean}
 use Rattle.runs.specs.Summary.{clean}
 use Rattle.runs.specs.Summary.Trails.{trail, trail_bytes}
-use Rattle.runs.specs.Watching.{watch_said, watch_verdict, watch_checks, watch_lines, watched, Watches, watch_first}
+use Rattle.runs.specs.Watching.{watch_said, watch_verdict, watch_checks, watch_lines, watched, watch_first}
 use Rattle.files.specs.Interface.{Interface, Of}
 use Rattle.files.specs.Basics.First.{Finds}
 use Rattle.files.specs.Outcome.{published}

@@ -4,8 +4,8 @@ use Rattle.std.proofs.Common.{sym, ap, subst, ◌∙◌, arith, lit<}
 use Rattle.files.specs.Decode.{decode_graph, decode_interface, decode_rules}
 use Rattle.files.specs.Graph.{Graph}
 use Rattle.files.specs.Interface.{Of}
-use Rattle.files.specs.Outcome.{Said, Outcome, Answers, Does, answer, says, work_after, refusal_at, NoneOf, Lines}
-use Rattle.files.specs.Outcome.Meaning.{Decided, Refuses, Clears, Wrote, Heard, itself, heard_itself, only_verdict, numbered_cond, outcome_case, case_cond, said_iff, refuses_by, clears_by, wrote_by}
+use Rattle.files.specs.Outcome.{Said, Outcome, Answers, answer, says, work_after, refusal_at, NoneOf, Lines}
+use Rattle.files.specs.Outcome.Meaning.{Decided, Refuses, Clears, Wrote, Heard, only_verdict, numbered_cond, outcome_case, case_cond, said_iff, refuses_by, clears_by, wrote_by}
 use Rattle.files.specs.Places.{record_len}
 use Rattle.files.specs.Rules.{Monitor, watch}
 use Rattle.files.specs.declared.record.Limits.{Limits}
@@ -16,7 +16,7 @@ use Rattle.runs.specs.Summary.Trails.{read_trail, trail, trail_bytes}
 use Rattle.runs.specs.Summary.Trails.Behind.{TrailShows}
 use Rattle.runs.specs.Summary.Trails.Laws.{trail_bytes_length, trail_read}
 use Rattle.runs.specs.Watching.{watch_said, watch_verdict, watch_checks, watch_lines, watched, Watches}
-use Rattle.runs.specs.Watching.Laws.{watch_refused, watch_accepted, watch_own}
+use Rattle.runs.specs.Watching.Laws.{watch_refused, watch_accepted}
 use Rattle.runs.specs.declared.answers.Verdict.{Verdict}
 use Rattle.runs.specs.declared.answers.Verdict.TheVariants.{Clean, Bad, Refused}
 

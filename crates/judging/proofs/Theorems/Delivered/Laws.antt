@@ -4,7 +4,6 @@ use Rattle.std.proofs.Common.{subst, arith}
 use Rattle.files.specs.Assemble.{standing_graph}
 use Rattle.files.specs.Decode.{decode_property, graph_bytes}
 use Rattle.files.specs.Decode.Written.{decode_bytes}
-use Rattle.files.specs.Deliveries.{standing}
 use Rattle.files.specs.Graph.{Graph}
 use Rattle.files.specs.Outcome.{Said, says}
 use Rattle.files.specs.declared.record.Limits.{Limits}

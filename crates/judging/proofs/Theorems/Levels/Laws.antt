@@ -1,5 +1,5 @@
 -- Of specs/Levels/Laws, the theorems that an edit of a definition breaks.
-use Rattle.std.specs.Prelude.{◌↔◌, true, false, ℕ, zero, suc, ◌*◌, ◌<◌, T}
+use Rattle.std.specs.Prelude.{◌↔◌, ℕ, zero, suc, ◌*◌, ◌<◌, T}
 use Rattle.std.proofs.Math.Bool.{not}
 use mathlib.Core.List.{List, Memᴰ}
 use Rattle.std.proofs.Math.Dec.{not_T, T_not}

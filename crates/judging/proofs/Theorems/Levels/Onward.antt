@@ -2,7 +2,6 @@
 use Rattle.std.specs.Prelude.{◌≡◌, ◌⊎◌, not, length}
 use Rattle.std.proofs.Math.Path.{subst}
 use Rattle.std.proofs.Common.{sym, inl, inr, eq-or-lt_of_le, le_of_suc-le-suc, T_not}
-use Rattle.std.proofs.Math.Bool.{true, false}
 use mathlib.Core.List.{List}
 use Prim.Native.Nat.{ℕ, zero, suc, ◌≤◌, ◌<◌}
 use Rattle.std.proofs.Math.Decide.{dec_le}

@@ -1,5 +1,5 @@
 -- Of specs/Ranking/Laws, the theorems that an edit of a definition breaks.
-use Rattle.std.specs.Prelude.{◌≡◌, refl, ◌⊎◌, Bool, true, false, not, cond, ◌&&◌, List, ℕ, suc, ◌+◌, ◌*◌, ◌≤◌, ◌<◌, eqb, leb}
+use Rattle.std.specs.Prelude.{◌≡◌, refl, ◌⊎◌, Bool, true, false, not, cond, ◌&&◌, List, ℕ, suc, ◌*◌, ◌≤◌, ◌<◌, eqb, leb}
 use Rattle.std.proofs.Common.{sym, ◌∙◌, inl, inr, arith, T_not, leb→le, le→leb}
 use Rattle.std.proofs.Math.Dec.{T, not_T}
 use Rattle.std.proofs.Math.ListN.{length}
@@ -9,7 +9,7 @@ use Rattle.files.specs.Cells.{cell}
 use Rattle.files.specs.Graph.{Graph, size, Flow}
 use Rattle.files.specs.Places.{max_rows}
 use Rattle.files.specs.Property.{Row, row, Property}
-use Rattle.judging.specs.Chains.{Index, is_row}
+use Rattle.judging.specs.Chains.{Index}
 use Rattle.judging.specs.Levels.{level, holds, rank}
 use Rattle.judging.proofs.Theorems.Levels.Laws.{level_zero, level_falls}
 use Rattle.judging.proofs.Theorems.Levels.Ranks.{false_if}

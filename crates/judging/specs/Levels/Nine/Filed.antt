@@ -1,18 +1,13 @@
 -- The nine boxes of an accepted property are an accepted file again where their rows fit: so what is said of two files, one with operator 10 and one with nine boxes, is said of something.
 use Rattle.std.specs.Prelude.{◌≡◌, refl, ◌⊎◌, Bool, false, List, [], ◌∷◌, ◌++◌, ℕ, zero, suc, ◌+◌, ◌≤◌, ◌<◌, length, set}
-use Rattle.std.proofs.Common.{sym, ap, subst, ◌∙◌, inl, inr, suc-le-suc, arith}
+use Rattle.std.proofs.Common.{sym, ap, ◌∙◌, inl, inr, suc-le-suc, arith}
 use Rattle.std.proofs.Math.Option.{Option, none, some}
 use Rattle.std.proofs.Math.Decide.{ℕ_discrete, dec_le}
 use Rattle.files.specs.Basics.Tables.{tally, tally_same}
 use Rattle.files.specs.Basics.Tests.{one}
-use Rattle.files.specs.Decode.{decode_property, property_bytes, RowIn, FiledRows}
-use Rattle.files.specs.Decode.Properties.{decoded_property}
-use Rattle.files.specs.Decode.Values.{decode_property_bytes, accepted_property_bytes}
+use Rattle.files.specs.Decode.{RowIn}
 use Rattle.files.specs.Property.{Row, both, box, row, is_either}
-use Rattle.files.specs.Refusal.{property, refusal}
-use Rattle.files.specs.declared.record.Limits.{Limits}
 use Rattle.judging.specs.Levels.Nine.{nine_rows, any_operand, nine_if, nine_below, all_nine, JoinsNew, Spells, SpellsOut, as_is, one_more}
-use Rattle.judging.specs.Levels.Nine.Laws.{all_nine_spells}
 
 -- ---- methods 1..8, labels 0..8: the rows that come have the nine labels
 

@@ -9,9 +9,9 @@ use Rattle.std.proofs.Math.Decide.{ℕ_discrete, dec_lt}
 use Rattle.files.specs.Basics.Tests.{and_l, and_r, and_i, eq_eqb}
 use Rattle.files.specs.Graph.{Graph, Edge, size, node, Flow}
 use Rattle.files.specs.Property.{Row, always, never, returns, not_returns, in_method, not_in_method, both, either, box, box_all, row, obliged, names, Property}
-use Rattle.judging.specs.Levels.{truth, after, level, Holds, holds, Satisfies}
-use Rattle.judging.specs.Levels.Laws.{obliged_named, obliged_box, truth_mono, after_e, after_i, level_next}
-use Rattle.judging.specs.Levels.Nine.{NineLabels, Joined, itself, by_first, by_second, JoinsNew, Spells, SpellsOut, as_is, one_more}
+use Rattle.judging.specs.Levels.{truth, after, level, Holds, holds}
+use Rattle.judging.specs.Levels.Laws.{after_e, after_i, level_next}
+use Rattle.judging.specs.Levels.Nine.{NineLabels, JoinsNew, Spells}
 
 -- "row a after each edge, whatever its label"
 pub after_all : (G : Graph) (v : ℕ → ℕ → Bool) (g a : ℕ) → T (after G v g (box_all a)) ↔ ((e : Edge) → Memᴰ e G.edges → e.from ≡ g → T (v e.to a))

@@ -2,21 +2,18 @@
 -- nothing else. Each of its records is a pair that is listed, with its causes.
 use Rattle.std.specs.Prelude.{◌≡◌, ◌⊎◌, Bool, not, ◌&&◌, ◌||◌, ℕ, suc, ◌*◌, ◌<◌, eqb, ltb, leb}
 use Rattle.std.proofs.Math.Path.{refl, ap, subst}
-use Rattle.std.proofs.Common.{sym, ap₂, ◌∙◌, inl, inr, eqb→eq, T_not}
+use Rattle.std.proofs.Common.{ap₂, ◌∙◌, inl, inr, eqb→eq, T_not}
 use Rattle.std.proofs.Math.Bool.{true, false, cond}
 use mathlib.Core.List.Memᴰ
 use mathlib.Core.List.{List, [], ◌∷◌, map, Memᴰ}
 use Rattle.std.proofs.Math.Dec.{T, eqb_refl}
 use Rattle.std.proofs.Math.ListN.{length, get_or}
 use Rattle.std.proofs.lemmas.List.{length-map}
-use Rattle.files.specs.Basics.Breadth.{Nearer, in_order}
-use Rattle.files.specs.Basics.InTurn.{InTurn, in_turn, only_in_turn}
 use Rattle.files.specs.Access.{row_held}
 use Rattle.files.specs.Basics.Least.{least, least_passes, least_before, least_lt}
 use Rattle.files.specs.Basics.Lists.{keep, each, each_map, length_each}
-use Rattle.files.specs.Basics.Order.{Ascends}
-use Rattle.files.specs.Basics.Queue.{breadth_first, From, itself, listed, starts_with, onward}
-use Rattle.files.specs.Basics.Tests.{and_l, and_r, and_i, any, any_e, any_i, upto, upto_i, upto_e, grid, grid_i, length_grid, decide, not_not, not_and}
+use Rattle.files.specs.Basics.Queue.{breadth_first}
+use Rattle.files.specs.Basics.Tests.{and_l, and_r, and_i, any, any_e, any_i, upto, upto_i, upto_e, grid, length_grid, decide, not_not, not_and}
 use Rattle.files.specs.Decode.Listed.{decode_each}
 use Rattle.files.specs.Graph.{Graph, Edge, size, node, Flow}
 use Rattle.files.specs.Places.{record_len}
@@ -24,7 +21,7 @@ use Rattle.files.specs.Property.{Row, always, never, returns, not_returns, in_me
 use Rattle.judging.specs.Levels.{level, holds, satisfies, rank}
 use Rattle.judging.specs.Levels.Laws.{satisfies_iff}
 use Rattle.judging.specs.Levels.Sheet.{same_pair, Fault, no_cause, obliged_pair, targets, lower, ahead, foremost, box_causes, row_causes, causes, failing, pairs, fault, sheet, fault_bytes, fault_record, fault_of, read_sheet, sheet_bytes}
-use Rattle.judging.specs.Levels.Sheet.Meaning.{Wrong, Caused, Lists, SheetShows}
+use Rattle.judging.specs.Levels.Sheet.Meaning.{Wrong}
 
 pub same_pair_e : (x y : ℕ × ℕ) → T (same_pair x y) → x ≡ y
 same_pair_e x y t =

@@ -11,7 +11,7 @@ use Rattle.files.specs.Interface.{Interface, Of}
 use Rattle.files.specs.Outcome.{Said, says, TooLarge, graph_said}
 use Rattle.files.specs.Outcome.Laws.{small_enough}
 use Rattle.files.specs.Property.{Row, Property}
-use Rattle.files.specs.Refusal.{graph, interface, refusal}
+use Rattle.files.specs.Refusal.{graph, refusal}
 use Rattle.files.specs.declared.record.Limits.{Limits}
 use Rattle.judging.specs.Levels.{Satisfies}
 use Rattle.judging.proofs.Theorems.Levels.Laws.{satisfies_agrees}

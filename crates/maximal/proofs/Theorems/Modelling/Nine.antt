@@ -6,7 +6,6 @@ use Rattle.files.specs.Graph.{Graph, Flow}
 use Rattle.files.specs.Interface.{Interface, Of}
 use Rattle.files.specs.Outcome.{Said, says}
 use Rattle.files.specs.Property.{Row, Property}
-use Rattle.files.specs.Refusal.{interface}
 use Rattle.files.specs.declared.record.Limits.{Limits}
 use Rattle.judging.specs.Levels.Nine.{SpellsOut, all_nine}
 use Rattle.judging.specs.Levels.Nine.Laws.{all_nine_spells}

@@ -15,7 +15,7 @@ use Rattle.files.specs.Sides.Entries.{says_lacks_entry, entered_i}
 use Rattle.files.specs.declared.record.Limits.{Limits}
 use Rattle.maximal.specs.Model.{model}
 use Rattle.maximal.proofs.Theorems.Model.Filed.{model_is_flow, model_is_of}
-use Rattle.runs.specs.Composing.{known, unwritten, known_side, other_side, composed}
+use Rattle.runs.specs.Composing.{known_side, other_side, composed}
 use Rattle.files.specs.Join.{join}
 use Rattle.files.specs.Join.Laws.{join_flow, join_labels}
 use Rattle.runs.proofs.Theorems.Composing.Entries.{sides_say}

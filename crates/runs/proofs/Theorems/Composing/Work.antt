@@ -6,11 +6,8 @@ use Rattle.files.specs.Graph.{Graph}
 use Rattle.files.specs.Outcome.{Answer, Answers, whole_check, answered}
 use Rattle.files.specs.Outcome.{too_large, out_check}
 use Rattle.files.specs.Outcome.Ends.{answers_same}
-use Rattle.files.specs.Refusal.{graph}
 use Rattle.files.specs.Sides.{lacks_entry}
 use Rattle.files.specs.declared.record.Limits.{Limits}
-use Rattle.maximal.specs.Model.{model}
-use Rattle.files.specs.Join.{join}
 use Rattle.runs.specs.Composing.Work.{M, W, on_joined, on_size, said}
 
 module _ (L : Limits) (barred : Bool) (kg oi p r : List ℕ) (m : ℕ) (out : List ℕ) where

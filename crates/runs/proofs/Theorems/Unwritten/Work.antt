@@ -1,5 +1,5 @@
 -- Of specs/Unwritten/Work, the theorems that an edit of a definition breaks.
-use Rattle.std.specs.Prelude.{◌≡◌, Bool, false, ◌||◌, List, ℕ, ◌-◌, length}
+use Rattle.std.specs.Prelude.{◌≡◌, Bool, false, ◌||◌, List, ℕ, length}
 use Rattle.std.proofs.Common.{sym, ap, ◌∙◌}
 use Rattle.files.specs.Decode.{decode_graph, decode_interface}
 use Rattle.files.specs.Graph.{Graph}

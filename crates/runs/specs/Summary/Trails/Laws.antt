@@ -1,5 +1,5 @@
 -- The trail is a way to a bad state wherever there is a bad run, has the fewest records and, of those, the smallest bytes.
-use Rattle.std.specs.Prelude.{◌≡◌, refl, ◌⊎◌, ◌↔◌, Bool, true, false, not, ◌&&◌, ℕ, suc, ◌≤◌, ◌*◌, ◌<◌, T, ltb, length, get_or}
+use Rattle.std.specs.Prelude.{◌≡◌, refl, ◌⊎◌, Bool, true, false, not, ◌&&◌, ℕ, suc, ◌≤◌, ◌*◌, ◌<◌, T, ltb, length, get_or}
 use Rattle.std.proofs.Common.{sym, ap₂, ◌∙◌, inl, inr, arith, ltb→lt, lt→ltb, lit<}
 use Rattle.std.proofs.Math.Path.{ap, subst}
 use mathlib.Core.List.Memᴰ
@@ -13,7 +13,7 @@ use Rattle.files.specs.Decode.Listed.{decode_each}
 use Rattle.files.specs.Graph.{Graph, Edge, size, node, Flow, EntryOf}
 use Rattle.files.specs.Places.{record_len}
 use Rattle.files.specs.Rules.{Event, calls, Monitor}
-use Rattle.runs.specs.Runs.{meth, Runs, Bad}
+use Rattle.runs.specs.Runs.{meth, Runs}
 use Rattle.runs.specs.Summary.{Trail, starts, steps, enters, passes, Place, is_entry_of, callee, spots, all_places}
 use Rattle.runs.specs.Summary.Moves.{passes_e, callee_i, no_ret, entry_e, entry_i, into_is, out}
 use Rattle.runs.specs.Summary.Places.{trail_moves, trail_now, places_i}

@@ -1,8 +1,8 @@
 -- Of specs/Levels/Nine/Laws, the theorems that an edit of a definition breaks.
 use Rattle.std.specs.Prelude.{◌≡◌, ◌↔◌, List}
-use Prim.Native.Nat.{ℕ, ◌-◌, ◌<◌}
+use Prim.Native.Nat.{ℕ, ◌<◌}
 use Rattle.std.proofs.Math.ListN.{length}
-use Rattle.files.specs.Basics.Tests.{one, same_test}
+use Rattle.files.specs.Basics.Tests.{same_test}
 use Rattle.files.specs.Graph.{Graph, size, Flow}
 use Rattle.files.specs.Property.{Row, box_all, row, Property}
 use Rattle.judging.specs.Levels.{Holds, Satisfies, satisfies}

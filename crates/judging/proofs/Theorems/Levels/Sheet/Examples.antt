@@ -1,6 +1,6 @@
 -- Of specs/Levels/Sheet/Examples, the theorems that an edit of a definition breaks.
 use Rattle.std.specs.Prelude.{◌≡◌, refl, true, false, [], ◌∷◌, ◌++◌, map, ℕ}
-use Rattle.files.specs.Property.{never, returns, both, either, box, box_all}
+use Rattle.files.specs.Property.{never, returns, both, either, box_all}
 use Rattle.files.specs.Course.{bytes, nd, ed, gr, entry_graph}
 use Rattle.judging.specs.Levels.{after, next, level, holds, satisfies, rank}
 use Rattle.judging.specs.Levels.Sheet.{targets, lower, ahead, foremost, box_causes, row_causes, causes, failing, pairs, fault, sheet, sheet_bytes}

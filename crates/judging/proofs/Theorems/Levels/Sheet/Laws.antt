@@ -8,9 +8,8 @@ use Rattle.std.proofs.Math.Dec.{T}
 use Rattle.std.proofs.Math.ListN.{length}
 use Rattle.files.specs.Basics.Breadth.{Nearer, in_order}
 use Rattle.files.specs.Basics.InTurn.{InTurn, in_turn, only_in_turn}
-use Rattle.files.specs.Basics.Lists.{each}
 use Rattle.files.specs.Basics.Order.{Ascends}
-use Rattle.files.specs.Basics.Queue.{breadth_first, From, itself, listed, starts_with, onward}
+use Rattle.files.specs.Basics.Queue.{From, itself, listed, starts_with, onward}
 use Rattle.files.specs.Basics.Tests.{grid, grid_i}
 use Rattle.files.specs.Graph.{Graph, size, Flow}
 use Rattle.files.specs.Property.{Row, either, row, Property}

@@ -7,7 +7,7 @@ use Rattle.files.specs.Graph.{Graph, Edge, Flow}
 use Rattle.files.specs.Rules.{Event, Monitor}
 use Rattle.runs.specs.Runs.{Bad}
 use Rattle.runs.proofs.Theorems.Summary.Exact.{exact}
-use Rattle.runs.specs.Summary.Trails.{Rec, before, here, end, is_bad}
+use Rattle.runs.specs.Summary.Trails.{Rec, before, here}
 use Rattle.runs.specs.Summary.Trails.Laws.{Path, path_bad, place, trail_path}
 
 module _ (G : Graph) (mon : Monitor) (flow : Flow G) (labels_small : (e : Edge) → Memᴰ e G.edges → e.label < 9)
