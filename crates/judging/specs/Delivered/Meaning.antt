@@ -1,4 +1,5 @@
 -- What a returned value of judging deliveries means, and what becomes of it where a delivery is appended. The only hypothesis is what the contract of `judge_deliveries` states.
+-- Its theorems that rest on a definition which a must-fail edit turns stand in proofs/Theorems/Delivered/Meaning.
 use Rattle.std.specs.Prelude.{◌≡◌, List, ◌++◌, ℕ, length}
 use Rattle.std.proofs.Common.{sym, ap, ◌∙◌}
 use Rattle.files.specs.Assemble.{standing_graph, Taken}

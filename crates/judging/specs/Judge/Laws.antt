@@ -1,4 +1,5 @@
 -- Judging is refused by the first line of its published order that applies, and otherwise says what `Judges` says.
+-- Its theorems that rest on a definition which a must-fail edit turns stand in proofs/Theorems/Judge/Laws.
 use Rattle.std.specs.Prelude.{◌≡◌, ◌↔◌, Bool, true, false, cond, List, [], ◌∷◌, ℕ, ◌≤◌, length}
 use Rattle.std.proofs.Common.{ap, ap₂, ◌∙◌, subst, sym, arith}
 use Rattle.std.proofs.Math.Path.{refl}

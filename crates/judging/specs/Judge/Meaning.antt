@@ -1,4 +1,5 @@
 -- What a returned value of judging means. The only hypothesis is what the contract of `judge` states.
+-- Its theorems that rest on a definition which a must-fail edit turns stand in proofs/Theorems/Judge/Meaning.
 use Rattle.std.specs.Prelude.{◌≡◌, refl, ◌↔◌, cond, List, [], ◌∷◌, ℕ, ◌*◌, ◌<◌, eqb, length, get_or, take, drop}
 use Rattle.std.proofs.Common.{sym, ap, subst, ◌∙◌, lit<}
 use Rattle.files.specs.Decode.{decode_graph, decode_property}

@@ -1,4 +1,5 @@
 -- The laws of ranks: what is false has a rank, at most nodes * rows, and its row is false of what had a lower rank.
+-- Its theorems that rest on a definition which a must-fail edit turns stand in proofs/Theorems/Levels/Ranks.
 use Rattle.std.specs.Prelude.{List, ℕ, ◌*◌, ◌≤◌, T}
 use Rattle.std.proofs.Common.{arith, T_not}
 use Rattle.std.proofs.Math.Bool.{not}

@@ -1,4 +1,5 @@
 -- What giving a pair its rank does to the buffer: the pair's rank, the queue's end, and nothing else; and that it keeps what is known while a level is found.
+-- Its theorems that rest on a definition which a must-fail edit turns stand in proofs/Theorems/Ranking/Stores.
 use Rattle.std.specs.Prelude.{◌≡◌, ◌⊎◌, Bool, not, List}
 use Rattle.std.proofs.Math.Path.{refl, sym, ap}
 use Rattle.std.proofs.Common.{◌∙◌, inl, inr, le_refl, arith, T_not, eqb→eq}

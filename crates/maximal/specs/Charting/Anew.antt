@@ -1,4 +1,5 @@
 -- A slot that is worked anew: once the minimal supports of what it asks for are entered with either flag, its row has what follows its state.
+-- Its theorems that rest on a definition which a must-fail edit turns stand in proofs/Theorems/Charting/Anew.
 use Rattle.std.specs.Prelude.{◌≡◌, refl, ◌⊎◌, Bool, ◌&&◌, ℕ, zero, suc, ◌+◌, ◌*◌, ◌/◌, ◌%◌, ◌≤◌, ◌<◌, eqb, length}
 use Rattle.std.proofs.Common.{sym, ap, subst, ◌∙◌, inl, inr, arith}
 use mathlib.Core.List.{List, Memᴰ}

@@ -1,4 +1,5 @@
 -- What entering states keeps: lists entered one after another are one list entered, and slots and entries that were right stay right.
+-- Its theorems that rest on a definition which a must-fail edit turns stand in proofs/Theorems/Charting/Entering.
 use Rattle.std.specs.Prelude.{◌≡◌, refl, ◌⊎◌, Bool, true, false, ◌&&◌, ◌||◌, ℕ, ◌≤◌, ◌<◌, T, eqb, ltb, length}
 use Rattle.std.proofs.Common.{sym, ap, ap₂, subst, ◌∙◌, inl, inr, arith, eqb→eq, ltb→lt, lt→ltb}
 use mathlib.Core.List.Memᴰ

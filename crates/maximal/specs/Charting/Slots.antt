@@ -1,4 +1,5 @@
 -- A slot without a label, and one that asks as an earlier one did; and that the model is found once all slots are worked, or at once where no method is provided.
+-- Its theorems that rest on a definition which a must-fail edit turns stand in proofs/Theorems/Charting/Slots.
 use Rattle.std.specs.Prelude.{◌≡◌, Bool, ◌&&◌, List, ℕ, ◌+◌, ◌*◌, ◌-◌, ◌/◌, ◌%◌, ◌^◌, ◌≤◌, ◌<◌, T, eqb, ltb, length}
 use Rattle.std.proofs.Common.{sym, ap, ap₂, subst, ◌∙◌, arith, lt→ltb}
 use Rattle.std.proofs.Math.Nat.{zero-div}

@@ -1,5 +1,6 @@
 -- Kinds and sets as states: which state a kind and a set stand for, which sets are collected for the entries and for what follows a state, and that a buffer that
 -- has no room for one more state of the model shows that the model has more.
+-- Its theorems that rest on a definition which a must-fail edit turns stand in proofs/Theorems/Charting/States.
 use Rattle.std.specs.Prelude.{◌≡◌, refl, Bool, true, false, ◌&&◌, ℕ, zero, suc, ◌+◌, ◌*◌, ◌/◌, ◌%◌, ◌^◌, ◌≤◌, ◌<◌, T, eqb, length}
 use Rattle.std.proofs.Common.{sym, ap, subst, ◌∙◌, arith, eqb→eq}
 use mathlib.Core.List.Memᴰ

@@ -1,4 +1,5 @@
 -- A model that stands in the buffer is the definition's: its nodes and edges by the states' order, their bytes, and how many edges there are.
+-- Its theorems that rest on a definition which a must-fail edit turns stand in proofs/Theorems/Listing/Laws.
 use Rattle.std.specs.Prelude.{◌≡◌, ◌⊎◌, Bool, List, [], ◌∷◌, ◌++◌, length}
 use Rattle.std.proofs.Math.Path.{refl, ap}
 use Rattle.std.proofs.Common.{sym, ap₂, subst, ◌∙◌, arith, ltb→lt, lt→ltb, length-append}

@@ -1,4 +1,5 @@
 -- The computed tests say what the predicates say, and the computed graph is the model.
+-- Its theorems that rest on a definition which a must-fail edit turns stand in proofs/Theorems/Model/Computed.
 use Rattle.std.specs.Prelude.{◌≡◌, ◌⊎◌, Bool, false, not, ◌&&◌, ◌||◌, ℕ, ◌<◌, eqb, get_or}
 use Rattle.std.proofs.Math.Path.{refl, ap, subst}
 use Rattle.std.proofs.Common.{sym, arith}

@@ -1,4 +1,5 @@
 -- The model, where it is within the limits, is a graph that a file can hold.
+-- Its theorems that rest on a definition which a must-fail edit turns stand in proofs/Theorems/Model/Filed.
 use Rattle.std.proofs.Common.{inl, inr}
 use Rattle.files.specs.Basics.Lexical.{Before}
 use Rattle.files.specs.Decode.{key}

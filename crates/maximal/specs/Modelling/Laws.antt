@@ -1,4 +1,5 @@
 -- Modelling is refused by the first line of its published order that applies, and otherwise says what `Models` says.
+-- Its theorems that rest on a definition which a must-fail edit turns stand in proofs/Theorems/Modelling/Laws.
 use Rattle.std.specs.Prelude.{◌≡◌, ◌↔◌, List, [], ◌∷◌, ℕ, ◌≤◌, ◌<◌, length, true}
 use Rattle.std.proofs.Common.{sym, ap, ap₂, subst, ◌∙◌, arith}
 use Rattle.std.proofs.Math.Path.{refl}

@@ -1,4 +1,5 @@
 -- What a returned value of modelling means. The only hypothesis is what the contract of `model` states.
+-- Its theorems that rest on a definition which a must-fail edit turns stand in proofs/Theorems/Modelling/Meaning.
 use Rattle.std.specs.Prelude.{◌≡◌, refl, ◌↔◌, cond, List, [], ◌∷◌, ℕ, ◌+◌, ◌*◌, ◌<◌, eqb, length, get_or, take, drop}
 use Rattle.std.proofs.Common.{ap, ap₂, ◌∙◌}
 use Rattle.std.proofs.Math.Option.{none}

@@ -1,4 +1,5 @@
--- Of specs/Verdict, the theorems that an edit of a definition breaks.
+-- The theorems of specs/Verdict that rest on a definition which a must-fail edit turns: there they could not be read under the edit.
+-- Verdict: Demand 3 and wish 6 of the composed verdict, about what the call says, for all bytes and lengths: the only hypothesis is that the answer is no refusal.
 use Rattle.std.specs.Prelude.{◌≡◌, refl, ◌⊎◌, ◌↔◌, List, ℕ}
 use Rattle.std.proofs.Common.{sym, subst, inl, inr}
 use Rattle.files.specs.Decode.{decode_graph, decode_property, decode_interface, decode_rules}

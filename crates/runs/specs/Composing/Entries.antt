@@ -1,5 +1,6 @@
 -- "A method needs an entry": of the modules that conform those that load, with an entry for each provided method; and that the model lacks one exactly where none loads. For request
 -- 6, in composed verdicts only: judging, comparing, modelling and watching speak of conforming graphs.
+-- Its theorems that rest on a definition which a must-fail edit turns stand in proofs/Theorems/Composing/Entries.
 use Rattle.std.specs.Prelude.{◌≡◌, ◌⊎◌, ◌↔◌, not, List, [], ℕ, T}
 use Rattle.std.proofs.Common.{◌∙◌, inl, inr}
 use Rattle.files.specs.Basics.Tests.{decide}

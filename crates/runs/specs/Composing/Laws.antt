@@ -1,5 +1,6 @@
 -- The composed verdict is refused by the first line of its published order that applies; where it is not, the known graph has its entries, and the verdict is that on the known
 -- graph and the unwritten side.
+-- Its theorems that rest on a definition which a must-fail edit turns stand in proofs/Theorems/Composing/Laws.
 use Rattle.std.specs.Prelude.{◌≡◌, ◌⊎◌, ◌↔◌, List, [], ◌∷◌, ℕ, ◌<◌, true, false}
 use Rattle.std.proofs.Math.Path.{refl}
 use Rattle.std.proofs.Common.{arith}

@@ -1,4 +1,5 @@
 -- What a returned value of the composed verdict means. The only hypothesis is what the contract of `compose` states.
+-- Its theorems that rest on a definition which a must-fail edit turns stand in proofs/Theorems/Composing/Meaning.
 use Rattle.std.specs.Prelude.{◌≡◌, refl, ◌⊎◌, ◌↔◌, List, ℕ, length}
 use Rattle.std.proofs.Common.{inl, inr}
 use Rattle.files.specs.Decode.{decode_graph, decode_property, decode_interface, decode_rules}

@@ -1,5 +1,6 @@
 -- Any two sides, each a graph that is known or one that is not written yet: what they give is watched for all that may stand on them. The verdicts with a known graph and
 -- with two unwritten sides are cases of it.
+-- Its theorems that rest on a definition which a must-fail edit turns stand in proofs/Theorems/Composing/Sides.
 use Rattle.std.specs.Prelude.{refl, List}
 use Rattle.std.proofs.Common.{sym, subst}
 use Rattle.files.specs.Graph.{Graph, Flow}

@@ -1,5 +1,6 @@
 -- The turns of the search: its start in a buffer of zeros, the next item's turn once all records of one are looked at, and what it says where a bad place has its turn,
 -- or where no item is left.
+-- Its theorems that rest on a definition which a must-fail edit turns stand in proofs/Theorems/Searching/Ends.
 use Rattle.std.specs.Prelude.{◌≡◌, refl, ◌⊎◌, ℕ, suc, ◌+◌, ◌*◌, ◌/◌, ◌≤◌, ◌<◌, length, get_or}
 use Rattle.std.proofs.Common.{sym, ap, ◌∙◌, inl, inr, eq-or-lt_of_le, le_of_suc-le-suc, arith}
 use Rattle.std.proofs.Math.Path.{subst}

@@ -1,4 +1,5 @@
 -- Summaries are exact: a trail reaches what runs with an unbounded stack reach, and nothing else.
+-- Its theorems that rest on a definition which a must-fail edit turns stand in proofs/Theorems/Summary/Exact.
 use Rattle.std.specs.Prelude.{List, [], ℕ}
 use Rattle.files.specs.Graph.{Graph, EntryOf}
 use Rattle.files.specs.Rules.{Monitor}

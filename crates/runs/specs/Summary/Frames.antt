@@ -1,4 +1,5 @@
 -- The frames of a stack above a stack t on which method m was entered in state p: steps that stay above t keep them.
+-- Its theorems that rest on a definition which a must-fail edit turns stand in proofs/Theorems/Summary/Frames.
 use Rattle.std.specs.Prelude.{◌≡◌, ℕ, ◌<◌, T, length}
 use Rattle.std.proofs.Common.{ap, subst₂, arith, length-append}
 use mathlib.Core.List.{List, ◌∷◌, head-eq_of_cons-eq, tail-eq_of_cons-eq}

@@ -1,5 +1,6 @@
 -- The computed verdict is exact: the places listed are those that a trail reaches, so the verdict is "clean" where no run with an unbounded stack is bad, and
 -- only there.
+-- Its theorems that rest on a definition which a must-fail edit turns stand in proofs/Theorems/Summary/Places.
 use Rattle.std.specs.Prelude.{◌≡◌, ◌⊎◌, Bool, not, ◌&&◌, ℕ, ◌<◌, ltb}
 use Rattle.std.proofs.Math.Path.{refl, ap, subst}
 use Rattle.std.proofs.Common.{sym, inl, inr, arith, ltb→lt, lt→ltb, lit<}

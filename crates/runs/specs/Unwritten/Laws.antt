@@ -1,4 +1,5 @@
 -- The verdict of two unwritten sides is refused by the first line of its published order that applies; where it is not, it is that of watching the two models joined.
+-- Its theorems that rest on a definition which a must-fail edit turns stand in proofs/Theorems/Unwritten/Laws.
 use Rattle.std.specs.Prelude.{◌≡◌, ◌↔◌, true, List, [], ◌∷◌, ℕ}
 use Rattle.std.proofs.Math.Path.{refl}
 use Rattle.files.specs.Basics.Says.{says_lt, says_or}

@@ -1,4 +1,5 @@
 -- What a returned value of the verdict on two unwritten sides means. The only hypothesis is what the contract of `compose_both` states.
+-- Its theorems that rest on a definition which a must-fail edit turns stand in proofs/Theorems/Unwritten/Meaning.
 use Rattle.std.specs.Prelude.{◌≡◌, List, ℕ, length}
 use Rattle.files.specs.Decode.{decode_rules}
 use Rattle.files.specs.Outcome.{Outcome, answer, Lines, DoesBoth}

@@ -1,5 +1,6 @@
 -- The verdict of two unwritten sides as the code comes to it: what is known where its checks passed; and that, once the first model stands, what is left is the composed verdict
 -- with that model as the known graph.
+-- Its theorems that rest on a definition which a must-fail edit turns stand in proofs/Theorems/Unwritten/Work.
 use Rattle.std.specs.Prelude.{◌≡◌, Bool, true, false, ◌||◌, List, ◌++◌, ℕ, ◌-◌, ◌≤◌, length, take, drop}
 use Rattle.std.proofs.Common.{sym, ap, ◌∙◌, append-nil, arith, length-drop, drop_of_length-le, take_all, drop_at, length-take-le}
 use Rattle.std.proofs.Math.Option.{none}

@@ -1,4 +1,5 @@
 -- Watching is refused by the first line of its published order that applies, and otherwise says what `Watches` says.
+-- Its theorems that rest on a definition which a must-fail edit turns stand in proofs/Theorems/Watching/Laws.
 use Rattle.std.specs.Prelude.{◌≡◌, ◌↔◌, Bool, ℕ, ◌≤◌, ◌<◌}
 use Rattle.std.proofs.Math.Path.{refl, ap}
 use Rattle.std.proofs.Common.{ap₂, subst, ◌∙◌, arith}

@@ -1,4 +1,5 @@
 -- What a returned verdict on runs means, and so a returned value of watching. The only hypothesis is what the contract of `watch` states.
+-- Its theorems that rest on a definition which a must-fail edit turns stand in proofs/Theorems/Watching/Meaning.
 use Rattle.std.specs.Prelude.{◌≡◌, refl, ◌↔◌, List, [], ◌∷◌, ℕ, ◌*◌, ◌<◌, length, get_or, take, drop}
 use Rattle.std.proofs.Common.{sym, ap, subst, ◌∙◌, arith, lit<}
 use Rattle.files.specs.Decode.{decode_graph, decode_interface, decode_rules}

@@ -1,4 +1,6 @@
--- Of specs/Delivered/Laws, the theorems that an edit of a definition breaks.
+-- The theorems of specs/Delivered/Laws that rest on a definition which a must-fail edit turns: there they could not be read under the edit.
+-- Laws: Judging deliveries is refused by the first line of its published order that applies; otherwise it says what judging says of the graph file that assembling writes. A file
+-- with a delivery more is judged as its standing deliveries alone, in any order.
 use Rattle.std.specs.Prelude.{◌≡◌, List, ℕ}
 use Rattle.std.proofs.Common.{subst, arith}
 use Rattle.files.specs.Assemble.{standing_graph}

@@ -1,4 +1,5 @@
--- Of specs/Delivered/Meaning, the theorems that an edit of a definition breaks.
+-- The theorems of specs/Delivered/Meaning that rest on a definition which a must-fail edit turns: there they could not be read under the edit.
+-- Meaning: What a returned value of judging deliveries means, and what becomes of it where a delivery is appended. The only hypothesis is what the contract of `judge_deliveries` states.
 use Rattle.std.specs.Prelude.{List, ℕ, length}
 use Rattle.files.specs.Assemble.{standing_graph}
 use Rattle.files.specs.Decode.{decode_property}

@@ -1,4 +1,5 @@
--- Of specs/Judge/Laws, the theorems that an edit of a definition breaks.
+-- The theorems of specs/Judge/Laws that rest on a definition which a must-fail edit turns: there they could not be read under the edit.
+-- Laws: Judging is refused by the first line of its published order that applies, and otherwise says what `Judges` says.
 use Rattle.std.specs.Prelude.{◌≡◌, ◌↔◌, Bool, true, false, cond, not, List, [], ◌∷◌, ℕ, T, length}
 use Rattle.std.proofs.Common.{ap, subst, sym, arith}
 use Rattle.std.proofs.Math.Path.{refl}

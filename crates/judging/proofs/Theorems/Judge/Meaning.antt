@@ -1,4 +1,5 @@
--- Of specs/Judge/Meaning, the theorems that an edit of a definition breaks.
+-- The theorems of specs/Judge/Meaning that rest on a definition which a must-fail edit turns: there they could not be read under the edit.
+-- Meaning: What a returned value of judging means. The only hypothesis is what the contract of `judge` states.
 use Rattle.std.specs.Prelude.{List, ℕ, length}
 use Rattle.files.specs.Decode.{decode_graph, decode_property}
 use Rattle.files.specs.Outcome.{Does}

@@ -1,4 +1,5 @@
--- Of specs/Judge/Nine, the theorems that an edit of a definition breaks.
+-- The theorems of specs/Judge/Nine that rest on a definition which a must-fail edit turns: there they could not be read under the edit.
+-- Nine: "nine boxes and one operator 10 must get equal verdicts on every graph", on the bytes of the files.
 use Rattle.std.specs.Prelude.{◌≡◌, ◌↔◌, Bool, cond, List, ℕ}
 use Rattle.std.proofs.Common.{sym, ap, subst, ◌∙◌, arith}
 use Rattle.std.proofs.Math.Option.{none}

@@ -1,4 +1,5 @@
--- Of specs/Levels/Examples, the theorems that an edit of a definition breaks.
+-- The theorems of specs/Levels/Examples that rest on a definition which a must-fail edit turns: there they could not be read under the edit.
+-- Examples: One example for each operator, and the verdicts of P4 to P7, computed.
 use Rattle.std.specs.Prelude.{◌≡◌, refl, true, false, [], ◌∷◌}
 use Rattle.files.specs.Property.{never, box_all}
 use Rattle.files.specs.Course.{nd, ed, gr, entry_graph, loop_graph, call_graph, or_rows, box_rows}

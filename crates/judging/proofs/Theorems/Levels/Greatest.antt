@@ -1,4 +1,5 @@
--- Of specs/Levels/Greatest, the theorems that an edit of a definition breaks.
+-- The theorems of specs/Levels/Greatest that rest on a definition which a must-fail edit turns: there they could not be read under the edit.
+-- Greatest: What holds is the greatest solution of the rows' equations, among all predicates: it solves them, and lies above whatever is consistent with them.
 use Rattle.std.specs.Prelude.{Bool, List, ℕ, zero, suc, ◌<◌, T, length}
 use Rattle.files.specs.Graph.{Graph, size, node, Flow}
 use Rattle.files.specs.Property.{Row, row, Property}

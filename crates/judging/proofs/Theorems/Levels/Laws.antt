@@ -1,4 +1,5 @@
--- Of specs/Levels/Laws, the theorems that an edit of a definition breaks.
+-- The theorems of specs/Levels/Laws that rest on a definition which a must-fail edit turns: there they could not be read under the edit.
+-- Laws: The laws of judging: a row that ever turns false has done so by level nodes * rows. (That what holds is the greatest solution of the rows' equations: Greatest.)
 use Rattle.std.specs.Prelude.{◌↔◌, ℕ, zero, suc, ◌*◌, ◌<◌, T}
 use Rattle.std.proofs.Math.Bool.{not}
 use mathlib.Core.List.{List, Memᴰ}

@@ -1,4 +1,6 @@
--- Of specs/Levels/Onward, the theorems that an edit of a definition breaks.
+-- The theorems of specs/Levels/Onward that rest on a definition which a must-fail edit turns: there they could not be read under the edit.
+-- Onward: From one level to the next: what turns false leans on what has just turned false, so a queue of what has just turned false tells all that turns false next;
+-- and where nothing turns false nothing ever will.
 use Rattle.std.specs.Prelude.{◌≡◌, ◌⊎◌, not, length}
 use Rattle.std.proofs.Math.Path.{subst}
 use Rattle.std.proofs.Common.{sym, inl, inr, eq-or-lt_of_le, le_of_suc-le-suc, T_not}

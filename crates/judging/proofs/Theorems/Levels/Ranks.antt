@@ -1,4 +1,5 @@
--- Of specs/Levels/Ranks, the theorems that an edit of a definition breaks.
+-- The theorems of specs/Levels/Ranks that rest on a definition which a must-fail edit turns: there they could not be read under the edit.
+-- Ranks: The laws of ranks: what is false has a rank, at most nodes * rows, and its row is false of what had a lower rank.
 use Rattle.std.specs.Prelude.{◌≡◌, refl, Bool, List, ℕ, zero, suc, ◌*◌, ◌≤◌, ◌<◌, T}
 use Rattle.std.proofs.Common.{subst, arith, T_not}
 use Rattle.std.proofs.Math.Bool.{not}

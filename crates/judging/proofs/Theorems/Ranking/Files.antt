@@ -1,4 +1,5 @@
--- Of specs/Ranking/Files, the theorems that an edit of a definition breaks.
+-- The theorems of specs/Ranking/Files that rest on a definition which a must-fail edit turns: there they could not be read under the edit.
+-- Files: What accepted files say to the code of judging: the counts, the flow graph and the property that they hold, and which rows are false by themselves or by their operands.
 use Rattle.std.specs.Prelude.{◌≡◌, refl, Bool, true, false, not, ◌&&◌, ◌||◌, List, ℕ, T, eqb}
 use Rattle.std.proofs.Common.{sym, ap, subst, ◌∙◌}
 use Rattle.std.proofs.Math.Bool.{or-false}

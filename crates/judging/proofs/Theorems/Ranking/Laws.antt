@@ -1,4 +1,5 @@
--- Of specs/Ranking/Laws, the theorems that an edit of a definition breaks.
+-- The theorems of specs/Ranking/Laws that rest on a definition which a must-fail edit turns: there they could not be read under the edit.
+-- Laws: Laws of ranks as they are found: from zeros to level 1, from level to level, and at the end all ranks; what a row that leans on a popped pair needs to be done.
 use Rattle.std.specs.Prelude.{◌≡◌, refl, ◌⊎◌, Bool, true, false, not, cond, ◌&&◌, List, ℕ, suc, ◌*◌, ◌≤◌, ◌<◌, eqb, leb}
 use Rattle.std.proofs.Common.{sym, ◌∙◌, inl, inr, arith, T_not, leb→le, le→leb}
 use Rattle.std.proofs.Math.Dec.{T, not_T}

@@ -1,4 +1,5 @@
--- Of specs/Ranking/Stores, the theorems that an edit of a definition breaks.
+-- The theorems of specs/Ranking/Stores that rest on a definition which a must-fail edit turns: there they could not be read under the edit.
+-- Stores: What giving a pair its rank does to the buffer: the pair's rank, the queue's end, and nothing else; and that it keeps what is known while a level is found.
 use Rattle.std.specs.Prelude.{◌≡◌, ◌⊎◌, Bool, not, cond, List}
 use Rattle.std.proofs.Math.Path.{refl, sym, ap, subst}
 use Rattle.std.proofs.Common.{◌∙◌, inl, inr, le_refl, arith, eqb→eq}

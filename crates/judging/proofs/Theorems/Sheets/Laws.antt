@@ -1,4 +1,5 @@
--- Of specs/Sheets/Laws, the theorems that an edit of a definition breaks.
+-- The theorems of specs/Sheets/Laws that rest on a definition which a must-fail edit turns: there they could not be read under the edit.
+-- Laws: Laws of the fault sheet in a lent buffer: ranks read off their cells, the lowest failing entry, and the foremost target of a box, edge by edge.
 use Rattle.std.specs.Prelude.{◌≡◌, Bool, true, false, not, cond, List, ℕ, suc, ◌*◌, ◌<◌, T, eqb, length}
 use Rattle.std.proofs.Math.Path.{refl}
 use Rattle.std.proofs.Common.{sym, ap, subst, ◌∙◌, arith, T_not, eq-eqb, ne_eqb}

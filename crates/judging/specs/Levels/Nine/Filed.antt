@@ -1,4 +1,5 @@
 -- The nine boxes of an accepted property are an accepted file again where their rows fit: so what is said of two files, one with operator 10 and one with nine boxes, is said of something.
+-- Its theorems that rest on a definition which a must-fail edit turns stand in proofs/Theorems/Levels/Nine/Filed.
 use Rattle.std.specs.Prelude.{◌≡◌, refl, ◌⊎◌, Bool, false, List, [], ◌∷◌, ◌++◌, ℕ, zero, suc, ◌+◌, ◌≤◌, ◌<◌, length, set}
 use Rattle.std.proofs.Common.{sym, ap, ◌∙◌, inl, inr, suc-le-suc, arith}
 use Rattle.std.proofs.Math.Option.{Option, none, some}

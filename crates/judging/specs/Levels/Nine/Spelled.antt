@@ -1,6 +1,7 @@
 -- One operator 10 and its nine boxes hold at the same nodes, for properties and flow graphs of any size whose labels are 0 to 8, however the boxes are joined.
 -- From the one to the nine: the rows that hold, and every new row wherever the operator 10 is true, solve the longer equations. Back: what holds of the longer property,
 -- cut to the rows of the shorter, solves the shorter equations, since every edge has one of the nine labels.
+-- Its theorems that rest on a definition which a must-fail edit turns stand in proofs/Theorems/Levels/Nine/Spelled.
 use Rattle.std.specs.Prelude.{◌≡◌, refl, ◌⊎◌, ◌↔◌, Bool, true, false, cond, ◌&&◌, ℕ, suc, ◌≤◌, ◌<◌, T, eqb, ltb, length}
 use Rattle.std.proofs.Common.{sym, subst, inl, inr, arith, ltb→lt, lt→ltb, lt-ltb, le-ltb}
 use mathlib.Core.List.{List, Memᴰ}

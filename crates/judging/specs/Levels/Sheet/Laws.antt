@@ -1,5 +1,6 @@
 -- What the fault sheet lists: it starts at the lowest failing entry, and has what is reached from there by causes, breadth first, each pair once, and
 -- nothing else. Each of its records is a pair that is listed, with its causes.
+-- Its theorems that rest on a definition which a must-fail edit turns stand in proofs/Theorems/Levels/Sheet/Laws.
 use Rattle.std.specs.Prelude.{◌≡◌, ◌⊎◌, Bool, not, ◌&&◌, ◌||◌, ℕ, suc, ◌*◌, ◌<◌, eqb, ltb, leb}
 use Rattle.std.proofs.Math.Path.{refl, ap, subst}
 use Rattle.std.proofs.Common.{ap₂, ◌∙◌, inl, inr, eqb→eq, T_not}

@@ -1,4 +1,5 @@
--- Of specs/Charting/Anew, the theorems that an edit of a definition breaks.
+-- The theorems of specs/Charting/Anew that rest on a definition which a must-fail edit turns: there they could not be read under the edit.
+-- Anew: A slot that is worked anew: once the minimal supports of what it asks for are entered with either flag, its row has what follows its state.
 use Rattle.std.specs.Prelude.{◌≡◌, ◌⊎◌, Bool, ◌&&◌, ◌||◌, ℕ, ◌+◌, ◌*◌, ◌/◌, ◌^◌, ◌≤◌, ◌<◌, T, eqb, ltb, length}
 use Rattle.std.proofs.Common.{sym, ap, ap₂, subst, ◌∙◌, inl, inr, arith, eqb→eq, ltb→lt, lt→ltb}
 use mathlib.Core.List.{List, Memᴰ}

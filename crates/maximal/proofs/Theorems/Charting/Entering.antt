@@ -1,4 +1,5 @@
--- Of specs/Charting/Entering, the theorems that an edit of a definition breaks.
+-- The theorems of specs/Charting/Entering that rest on a definition which a must-fail edit turns: there they could not be read under the edit.
+-- Entering: What entering states keeps: lists entered one after another are one list entered, and slots and entries that were right stay right.
 use Rattle.std.specs.Prelude.{◌≡◌, refl, ◌&&◌, ℕ, ◌/◌, ◌%◌, ◌<◌, ltb}
 use Rattle.std.proofs.Common.{sym, ap, subst, ◌∙◌, arith}
 use mathlib.Core.List.{List}

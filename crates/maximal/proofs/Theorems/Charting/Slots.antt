@@ -1,4 +1,5 @@
--- Of specs/Charting/Slots, the theorems that an edit of a definition breaks.
+-- The theorems of specs/Charting/Slots that rest on a definition which a must-fail edit turns: there they could not be read under the edit.
+-- Slots: A slot without a label, and one that asks as an earlier one did; and that the model is found once all slots are worked, or at once where no method is provided.
 use Rattle.std.specs.Prelude.{◌≡◌, ◌⊎◌, Bool, false, not, ◌&&◌, List, ℕ, ◌+◌, ◌*◌, ◌/◌, ◌%◌, ◌^◌, ◌≤◌, ◌<◌, T, eqb, ltb, length, get_or}
 use Rattle.std.proofs.Common.{sym, ap, ap₂, subst, ◌∙◌, inl, inr, arith, T_not, ltb→lt}
 use Rattle.std.proofs.Math.Decide.{dec_lt, ℕ_discrete}

@@ -1,4 +1,6 @@
--- Of specs/Charting/States, the theorems that an edit of a definition breaks.
+-- The theorems of specs/Charting/States that rest on a definition which a must-fail edit turns: there they could not be read under the edit.
+-- States: Kinds and sets as states: which state a kind and a set stand for, which sets are collected for the entries and for what follows a state, and that a buffer that
+-- has no room for one more state of the model shows that the model has more.
 use Rattle.std.specs.Prelude.{◌≡◌, refl, ◌⊎◌, Bool, ◌&&◌, ℕ, ◌/◌, ◌^◌, ◌≤◌, ◌<◌, T, eqb, length}
 use Rattle.std.proofs.Common.{sym, subst, inl, inr, arith, T_not, eqb→eq}
 use mathlib.Core.List.Memᴰ

@@ -1,4 +1,5 @@
--- Of specs/Listing/Laws, the theorems that an edit of a definition breaks.
+-- The theorems of specs/Listing/Laws that rest on a definition which a must-fail edit turns: there they could not be read under the edit.
+-- Laws: A model that stands in the buffer is the definition's: its nodes and edges by the states' order, their bytes, and how many edges there are.
 use Rattle.std.specs.Prelude.{◌≡◌, List, [], ◌∷◌, ◌++◌, map, length, get_or}
 use Rattle.std.proofs.Math.Path.{refl, ap}
 use Rattle.std.proofs.Common.{sym, ap₂, ◌∙◌, arith, length-append}

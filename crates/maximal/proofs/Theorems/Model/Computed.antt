@@ -1,4 +1,5 @@
--- Of specs/Model/Computed, the theorems that an edit of a definition breaks.
+-- The theorems of specs/Model/Computed that rest on a definition which a must-fail edit turns: there they could not be read under the edit.
+-- Computed: The computed tests say what the predicates say, and the computed graph is the model.
 use Rattle.std.specs.Prelude.{◌≡◌, ◌⊎◌, ◌↔◌, ℕ, ◌<◌, eqb}
 use Rattle.std.proofs.Math.Path.{refl}
 use Rattle.std.proofs.Common.{arith}

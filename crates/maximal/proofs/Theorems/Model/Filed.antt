@@ -1,4 +1,5 @@
--- Of specs/Model/Filed, the theorems that an edit of a definition breaks.
+-- The theorems of specs/Model/Filed that rest on a definition which a must-fail edit turns: there they could not be read under the edit.
+-- Filed: The model, where it is within the limits, is a graph that a file can hold.
 use Rattle.std.proofs.Common.{subst, arith}
 use Rattle.std.specs.Prelude.{List, suc, ◌≤◌, T, length}
 use Rattle.files.specs.Basics.Lists.{index_i}

@@ -1,4 +1,5 @@
--- Of specs/Model/Maximal, the theorems that an edit of a definition breaks.
+-- The theorems of specs/Model/Maximal that rest on a definition which a must-fail edit turns: there they could not be read under the edit.
+-- Maximal: The theorem of the maximal model: it simulates a flow graph of the interface, of any size, exactly where the graph satisfies the property.
 use Rattle.std.specs.Prelude.{◌≡◌, refl, ◌↔◌, ℕ, ◌<◌, T, length}
 use Rattle.std.proofs.Common.{sym, ap, subst, ◌∙◌, eqb→eq}
 use mathlib.Core.List.{List, Memᴰ}

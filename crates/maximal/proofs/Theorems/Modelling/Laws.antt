@@ -1,4 +1,5 @@
--- Of specs/Modelling/Laws, the theorems that an edit of a definition breaks.
+-- The theorems of specs/Modelling/Laws that rest on a definition which a must-fail edit turns: there they could not be read under the edit.
+-- Laws: Modelling is refused by the first line of its published order that applies, and otherwise says what `Models` says.
 use Rattle.std.specs.Prelude.{◌≡◌, ◌↔◌, List, [], ◌∷◌, ℕ, ◌<◌, length}
 use Rattle.std.proofs.Common.{sym, ap, subst, ◌∙◌, arith}
 use Rattle.std.proofs.Math.Decide.{dec_lt}

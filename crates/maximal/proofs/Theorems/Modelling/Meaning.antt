@@ -1,4 +1,5 @@
--- Of specs/Modelling/Meaning, the theorems that an edit of a definition breaks.
+-- The theorems of specs/Modelling/Meaning that rest on a definition which a must-fail edit turns: there they could not be read under the edit.
+-- Meaning: What a returned value of modelling means. The only hypothesis is what the contract of `model` states.
 use Rattle.std.specs.Prelude.{◌≡◌, refl, List, ℕ, ◌+◌, ◌*◌, ◌<◌, length, take}
 use Rattle.std.proofs.Common.{sym, ap, subst, ◌∙◌}
 use Rattle.files.specs.Decode.{decode_property, decode_interface}

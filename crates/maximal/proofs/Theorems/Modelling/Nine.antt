@@ -1,4 +1,5 @@
--- Of specs/Modelling/Nine, the theorems that an edit of a definition breaks.
+-- The theorems of specs/Modelling/Nine that rest on a definition which a must-fail edit turns: there they could not be read under the edit.
+-- Nine: The models of a property and of the same with operators 10 written as boxes: other states, but the same graphs of the interface are simulated.
 use Rattle.std.specs.Prelude.{◌≡◌, ◌↔◌, List, ℕ}
 use Rattle.files.specs.Decode.{decode_graph, decode_property, decode_interface}
 use Rattle.files.specs.Decode.Properties.{decoded_property}

@@ -1,4 +1,6 @@
--- Of specs/Composing/Entries, the theorems that an edit of a definition breaks.
+-- The theorems of specs/Composing/Entries that rest on a definition which a must-fail edit turns: there they could not be read under the edit.
+-- Entries: "A method needs an entry": of the modules that conform those that load, with an entry for each provided method; and that the model lacks one exactly where none loads. For request
+-- 6, in composed verdicts only: judging, comparing, modelling and watching speak of conforming graphs.
 use Rattle.std.specs.Prelude.{◌≡◌, refl, ◌⊎◌, ◌↔◌, Bool, true, false, not, cond, ◌||◌, ℕ, T}
 use Rattle.std.proofs.Common.{sym, ap, subst, inl, inr, arith}
 use Rattle.std.proofs.Math.Logic.Iff

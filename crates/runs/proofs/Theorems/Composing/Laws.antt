@@ -1,4 +1,6 @@
--- Of specs/Composing/Laws, the theorems that an edit of a definition breaks.
+-- The theorems of specs/Composing/Laws that rest on a definition which a must-fail edit turns: there they could not be read under the edit.
+-- Laws: The composed verdict is refused by the first line of its published order that applies; where it is not, the known graph has its entries, and the verdict is that on the known
+-- graph and the unwritten side.
 use Rattle.std.specs.Prelude.{◌≡◌, List, ℕ}
 use Rattle.std.proofs.Math.Dec.{not_T}
 use Rattle.files.specs.Decode.{decode_graph, decode_property, decode_interface, decode_rules}

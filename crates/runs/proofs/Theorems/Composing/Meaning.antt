@@ -1,4 +1,5 @@
--- Of specs/Composing/Meaning, the theorems that an edit of a definition breaks.
+-- The theorems of specs/Composing/Meaning that rest on a definition which a must-fail edit turns: there they could not be read under the edit.
+-- Meaning: What a returned value of the composed verdict means. The only hypothesis is what the contract of `compose` states.
 use Rattle.std.specs.Prelude.{refl, List, ℕ, length}
 use Rattle.std.proofs.Common.{sym, subst, inr}
 use Rattle.files.specs.Graph.{Graph}

@@ -1,4 +1,6 @@
--- Of specs/Composing/Sides, the theorems that an edit of a definition breaks.
+-- The theorems of specs/Composing/Sides that rest on a definition which a must-fail edit turns: there they could not be read under the edit.
+-- Sides: Any two sides, each a graph that is known or one that is not written yet: what they give is watched for all that may stand on them. The verdicts with a known graph and
+-- with two unwritten sides are cases of it.
 use Rattle.std.specs.Prelude.{◌↔◌, ℕ}
 use Rattle.files.specs.Graph.{Graph}
 use Rattle.files.specs.Join.{join}

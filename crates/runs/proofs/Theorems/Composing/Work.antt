@@ -1,4 +1,6 @@
--- Of specs/Composing/Work, the theorems that an edit of a definition breaks.
+-- The theorems of specs/Composing/Work that rest on a definition which a must-fail edit turns: there they could not be read under the edit.
+-- Work: The composed verdict as the code comes to it: what is known where its checks passed; then what modelling answers, for any side that is not written yet, and the verdict on
+-- the known graph joined with the model.
 use Rattle.std.specs.Prelude.{◌≡◌, Bool, false, ◌||◌, List, ℕ, length}
 use Rattle.std.proofs.Common.{sym, ap, ◌∙◌}
 use Rattle.files.specs.Decode.{decode_interface}

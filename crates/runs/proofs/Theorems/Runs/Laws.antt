@@ -1,4 +1,5 @@
--- Of specs/Runs/Laws, the theorems that an edit of a definition breaks.
+-- The theorems of specs/Runs/Laws that rest on a definition which a must-fail edit turns: there they could not be read under the edit.
+-- Laws: A graph that simulates another has its bad runs, whatever the naming, if related configurations show the same.
 use Rattle.std.specs.Prelude.{ℕ}
 use Rattle.std.proofs.Common.{ap, ap₂}
 use Rattle.std.proofs.Math.Option.{some}

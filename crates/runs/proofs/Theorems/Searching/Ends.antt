@@ -1,4 +1,6 @@
--- Of specs/Searching/Ends, the theorems that an edit of a definition breaks.
+-- The theorems of specs/Searching/Ends that rest on a definition which a must-fail edit turns: there they could not be read under the edit.
+-- Ends: The turns of the search: its start in a buffer of zeros, the next item's turn once all records of one are looked at, and what it says where a bad place has its turn,
+-- or where no item is left.
 use Rattle.std.specs.Prelude.{refl, ◌⊎◌, not, ℕ, suc, ◌≤◌, ◌<◌}
 use Rattle.std.proofs.Common.{sym, inl, inr, arith}
 use Rattle.std.proofs.Math.Path.{subst}

@@ -1,4 +1,5 @@
--- Of specs/Summary/Balanced, the theorems that an edit of a definition breaks.
+-- The theorems of specs/Summary/Balanced that rest on a definition which a must-fail edit turns: there they could not be read under the edit.
+-- Balanced: A summary holds a return state exactly when some run of the method, on an unbounded stack that it never pops below, gives it.
 use Rattle.std.specs.Prelude.{◌≡◌, refl, ◌↔◌, List, [], ◌∷◌, ℕ, T}
 use Rattle.std.proofs.Common.{sym, subst, ◌∙◌}
 use Rattle.files.specs.Graph.{Graph, node, EntryOf}

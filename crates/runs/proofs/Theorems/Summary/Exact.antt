@@ -1,4 +1,5 @@
--- Of specs/Summary/Exact, the theorems that an edit of a definition breaks.
+-- The theorems of specs/Summary/Exact that rest on a definition which a must-fail edit turns: there they could not be read under the edit.
+-- Exact: Summaries are exact: a trail reaches what runs with an unbounded stack reach, and nothing else.
 use Rattle.std.specs.Prelude.{refl, ◌↔◌, List, [], ◌∷◌, ℕ}
 use Rattle.std.proofs.Common.{sym, append-nil}
 use Rattle.files.specs.Graph.{Graph, EntryOf}

@@ -1,4 +1,5 @@
--- Of specs/Summary/Frames, the theorems that an edit of a definition breaks.
+-- The theorems of specs/Summary/Frames that rest on a definition which a must-fail edit turns: there they could not be read under the edit.
+-- Frames: The frames of a stack above a stack t on which method m was entered in state p: steps that stay above t keep them.
 use Rattle.std.specs.Prelude.{ℕ}
 use mathlib.Core.List.{List}
 use Rattle.files.specs.Graph.{Graph}

@@ -1,4 +1,6 @@
--- Of specs/Summary/Places, the theorems that an edit of a definition breaks.
+-- The theorems of specs/Summary/Places that rest on a definition which a must-fail edit turns: there they could not be read under the edit.
+-- Places: The computed verdict is exact: the places listed are those that a trail reaches, so the verdict is "clean" where no run with an unbounded stack is bad, and
+-- only there.
 use Rattle.std.specs.Prelude.{not, ℕ, ◌<◌}
 use mathlib.Core.List.{Memᴰ}
 use Rattle.std.proofs.Math.Dec.{T, eqb, eqb→eq, T_not}

@@ -1,4 +1,5 @@
--- Of specs/Unwritten/Laws, the theorems that an edit of a definition breaks.
+-- The theorems of specs/Unwritten/Laws that rest on a definition which a must-fail edit turns: there they could not be read under the edit.
+-- Laws: The verdict of two unwritten sides is refused by the first line of its published order that applies; where it is not, it is that of watching the two models joined.
 use Rattle.std.specs.Prelude.{◌≡◌, List, ℕ}
 use Rattle.files.specs.Decode.{decode_property, decode_interface, decode_rules}
 use Rattle.files.specs.Decode.Properties.{decoded_property}

@@ -1,4 +1,5 @@
--- Of specs/Unwritten/Meaning, the theorems that an edit of a definition breaks.
+-- The theorems of specs/Unwritten/Meaning that rest on a definition which a must-fail edit turns: there they could not be read under the edit.
+-- Meaning: What a returned value of the verdict on two unwritten sides means. The only hypothesis is what the contract of `compose_both` states.
 use Rattle.std.specs.Prelude.{List, ℕ, length}
 use Rattle.files.specs.Decode.{decode_rules}
 use Rattle.files.specs.Outcome.{NoneOf, DoesBoth}

@@ -1,4 +1,6 @@
--- Of specs/Unwritten/Work, the theorems that an edit of a definition breaks.
+-- The theorems of specs/Unwritten/Work that rest on a definition which a must-fail edit turns: there they could not be read under the edit.
+-- Work: The verdict of two unwritten sides as the code comes to it: what is known where its checks passed; and that, once the first model stands, what is left is the composed verdict
+-- with that model as the known graph.
 use Rattle.std.specs.Prelude.{◌≡◌, Bool, false, ◌||◌, List, ℕ, length}
 use Rattle.std.proofs.Common.{sym, ap, ◌∙◌}
 use Rattle.files.specs.Decode.{decode_graph, decode_interface}

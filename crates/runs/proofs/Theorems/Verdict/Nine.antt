@@ -1,4 +1,5 @@
--- Of specs/Verdict/Nine, the theorems that an edit of a definition breaks.
+-- The theorems of specs/Verdict/Nine that rest on a definition which a must-fail edit turns: there they could not be read under the edit.
+-- Nine: Composed verdicts of a property and of the same with operators 10 written as boxes are equal, where neither is refused.
 use Rattle.std.specs.Prelude.{◌≡◌, ◌⊎◌, ◌↔◌, List, ℕ}
 use Rattle.std.proofs.Common.{sym, ◌∙◌, inl, inr}
 use Rattle.files.specs.Decode.{decode_property, decode_interface}

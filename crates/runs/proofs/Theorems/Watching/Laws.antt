@@ -1,4 +1,5 @@
--- Of specs/Watching/Laws, the theorems that an edit of a definition breaks.
+-- The theorems of specs/Watching/Laws that rest on a definition which a must-fail edit turns: there they could not be read under the edit.
+-- Laws: Watching is refused by the first line of its published order that applies, and otherwise says what `Watches` says.
 use Rattle.std.specs.Prelude.{◌≡◌, Bool, not, ℕ, ◌<◌}
 use Rattle.std.proofs.Math.Path.{refl, ap}
 use Rattle.std.proofs.Common.{sym, subst, arith}

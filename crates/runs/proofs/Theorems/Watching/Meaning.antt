@@ -1,4 +1,5 @@
--- Of specs/Watching/Meaning, the theorems that an edit of a definition breaks.
+-- The theorems of specs/Watching/Meaning that rest on a definition which a must-fail edit turns: there they could not be read under the edit.
+-- Meaning: What a returned verdict on runs means, and so a returned value of watching. The only hypothesis is what the contract of `watch` states.
 use Rattle.std.specs.Prelude.{List, ℕ, length}
 use Rattle.files.specs.Decode.{decode_graph, decode_rules}
 use Rattle.files.specs.Outcome.{Does, refusal_at, NoneOf}

@@ -1,4 +1,5 @@
 -- The trail is a way to a bad state wherever there is a bad run, has the fewest records and, of those, the smallest bytes.
+-- Its theorems that rest on a definition which a must-fail edit turns stand in proofs/Theorems/Summary/Trails/Laws.
 use Rattle.std.specs.Prelude.{◌≡◌, refl, ◌⊎◌, Bool, true, false, not, ◌&&◌, ℕ, suc, ◌≤◌, ◌*◌, ◌<◌, T, ltb, length, get_or}
 use Rattle.std.proofs.Common.{sym, ap₂, ◌∙◌, inl, inr, arith, ltb→lt, lt→ltb, lit<}
 use Rattle.std.proofs.Math.Path.{ap, subst}

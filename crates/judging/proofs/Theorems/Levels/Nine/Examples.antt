@@ -1,4 +1,5 @@
--- Of specs/Levels/Nine/Examples, the theorems that an edit of a definition breaks.
+-- The theorems of specs/Levels/Nine/Examples that rest on a definition which a must-fail edit turns: there they could not be read under the edit.
+-- Examples: One operator 10 against nine boxes, computed; and why the labels must be 0 to 8.
 use Rattle.std.specs.Prelude.{◌≡◌, refl, List, ◌≤◌, length}
 use Rattle.std.proofs.Common.{sym, subst, arith}
 use Rattle.std.proofs.Math.Option.{none}

@@ -1,4 +1,5 @@
--- Of specs/Levels/Nine/Filed, the theorems that an edit of a definition breaks.
+-- The theorems of specs/Levels/Nine/Filed that rest on a definition which a must-fail edit turns: there they could not be read under the edit.
+-- Filed: The nine boxes of an accepted property are an accepted file again where their rows fit: so what is said of two files, one with operator 10 and one with nine boxes, is said of something.
 use Rattle.std.specs.Prelude.{◌≡◌, List, ℕ, ◌≤◌, length}
 use Rattle.std.proofs.Common.{sym, subst}
 use Rattle.std.proofs.Math.Option.{none}

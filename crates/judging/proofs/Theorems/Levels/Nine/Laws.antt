@@ -1,4 +1,5 @@
--- Of specs/Levels/Nine/Laws, the theorems that an edit of a definition breaks.
+-- The theorems of specs/Levels/Nine/Laws that rest on a definition which a must-fail edit turns: there they could not be read under the edit.
+-- Laws: Nine boxes, written out: a property in which every operator 10 is written as nine boxes has none left, has sixteen rows more for each, and is satisfied by the same graphs.
 use Rattle.std.specs.Prelude.{◌≡◌, ◌↔◌, List}
 use Prim.Native.Nat.{ℕ, ◌<◌}
 use Rattle.std.proofs.Math.ListN.{length}

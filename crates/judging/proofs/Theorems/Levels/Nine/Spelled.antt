@@ -1,4 +1,7 @@
--- Of specs/Levels/Nine/Spelled, the theorems that an edit of a definition breaks.
+-- The theorems of specs/Levels/Nine/Spelled that rest on a definition which a must-fail edit turns: there they could not be read under the edit.
+-- Spelled: One operator 10 and its nine boxes hold at the same nodes, for properties and flow graphs of any size whose labels are 0 to 8, however the boxes are joined.
+-- From the one to the nine: the rows that hold, and every new row wherever the operator 10 is true, solve the longer equations. Back: what holds of the longer property,
+-- cut to the rows of the shorter, solves the shorter equations, since every edge has one of the nine labels.
 use Rattle.std.specs.Prelude.{◌≡◌, ◌⊎◌, ◌↔◌, ℕ, ◌≤◌, ◌<◌, T, length}
 use Rattle.std.proofs.Common.{sym, subst, inl, inr, arith}
 use mathlib.Core.List.{List}

@@ -1,4 +1,6 @@
--- Of specs/Levels/Sheet/Causes, the theorems that an edit of a definition breaks.
+-- The theorems of specs/Levels/Sheet/Causes that rest on a definition which a must-fail edit turns: there they could not be read under the edit.
+-- Causes: Why a pair of the fault sheet is false: its causes are the reason that its row gives, are false themselves, and have a lower rank.
+-- The cause of a box is the foremost of its targets, the cause of an "and" the lower of its operands.
 use Rattle.std.specs.Prelude.{◌≡◌, ◌⊎◌, not, ltb}
 use Rattle.std.proofs.Math.Path.{refl, ap, subst}
 use Rattle.std.proofs.Common.{sym, le_refl, arith}

@@ -1,4 +1,5 @@
--- Of specs/Levels/Sheet/Examples, the theorems that an edit of a definition breaks.
+-- The theorems of specs/Levels/Sheet/Examples that rest on a definition which a must-fail edit turns: there they could not be read under the edit.
+-- Examples: The sheets of P5 and P6, and some of our own, computed.
 use Rattle.std.specs.Prelude.{◌≡◌, refl, true, false, [], ◌∷◌, ◌++◌, map, ℕ}
 use Rattle.files.specs.Property.{never, returns, both, either, box_all}
 use Rattle.files.specs.Course.{bytes, nd, ed, gr, entry_graph}

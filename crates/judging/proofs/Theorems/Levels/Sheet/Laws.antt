@@ -1,4 +1,6 @@
--- Of specs/Levels/Sheet/Laws, the theorems that an edit of a definition breaks.
+-- The theorems of specs/Levels/Sheet/Laws that rest on a definition which a must-fail edit turns: there they could not be read under the edit.
+-- Laws: What the fault sheet lists: it starts at the lowest failing entry, and has what is reached from there by causes, breadth first, each pair once, and
+-- nothing else. Each of its records is a pair that is listed, with its causes.
 use Rattle.std.specs.Prelude.{◌≡◌, not, ℕ}
 use Rattle.std.proofs.Math.Path.{refl, ap, subst}
 use Rattle.std.proofs.Common.{sym, ◌∙◌}

@@ -1,4 +1,5 @@
--- Of specs/Summary/Trails/AnyRun, the theorems that an edit of a definition breaks.
+-- The theorems of specs/Summary/Trails/AnyRun that rest on a definition which a must-fail edit turns: there they could not be read under the edit.
+-- AnyRun: Every list of records that has one run behind it is a valid trail: so the shortest and smallest of the valid ones are so among all of these.
 use Rattle.std.specs.Prelude.{◌≡◌, ℕ, ◌<◌}
 use Rattle.std.proofs.Common.{sym, ap, subst, ◌∙◌, lit<}
 use mathlib.Core.List.{List, [], ◌∷◌, Memᴰ}

@@ -1,4 +1,5 @@
--- Of specs/Summary/Trails/Kinds, the theorems that an edit of a definition breaks.
+-- The theorems of specs/Summary/Trails/Kinds that rest on a definition which a must-fail edit turns: there they could not be read under the edit.
+-- Kinds: What kind of step it is shows in the stack, and with it where it ends and in which state.
 use Rattle.std.specs.Prelude.{◌≡◌, ℕ, T, length}
 use Rattle.std.proofs.Common.{sym, ap, ◌∙◌, arith}
 use mathlib.Core.List.{◌∷◌, head-eq_of_cons-eq}

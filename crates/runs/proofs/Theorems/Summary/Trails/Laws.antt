@@ -1,4 +1,5 @@
--- Of specs/Summary/Trails/Laws, the theorems that an edit of a definition breaks.
+-- The theorems of specs/Summary/Trails/Laws that rest on a definition which a must-fail edit turns: there they could not be read under the edit.
+-- Laws: The trail is a way to a bad state wherever there is a bad run, has the fewest records and, of those, the smallest bytes.
 use Rattle.std.specs.Prelude.{refl, ◌↔◌, ℕ, ◌<◌}
 use mathlib.Core.List.{List, [], Memᴰ}
 use Rattle.files.specs.Basics.Shortest.{there}

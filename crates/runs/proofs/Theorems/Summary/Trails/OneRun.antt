@@ -1,4 +1,5 @@
--- Of specs/Summary/Trails/OneRun, the theorems that an edit of a definition breaks.
+-- The theorems of specs/Summary/Trails/OneRun that rest on a definition which a must-fail edit turns: there they could not be read under the edit.
+-- OneRun: The valid trails are the lists of records that have one run behind them, which passes their pairs of a node and a state in order.
 use Rattle.std.specs.Prelude.{◌≡◌, refl, ◌↔◌, ℕ, ◌<◌, T}
 use Rattle.std.proofs.Common.{sym, ap, subst, subst₂, ◌∙◌, arith, eqb→eq}
 use mathlib.Core.List.{List, [], ◌∷◌, Memᴰ}
