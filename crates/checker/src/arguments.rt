@@ -4,7 +4,8 @@ ghost use Rattle.checker.specs.Places.{number_most};
 
 use crate::lengths::Lengths;
 use files::cells::wide;
-use printing::stdout::BUFFERED;
+use printing::input::{arg, buffer};
+use printing::stdout::Buffered;
 use printing::{at_most, say};
 
 // A decimal, or none.
@@ -15,28 +16,18 @@ pub struct Decimal {
 }
 
 fn same(a: &[u8], b: &[u8]) -> bool {
-    if a.len() != b.len() {
-        return false;
-    }
-    let mut i = 0;
-    while i < a.len() {
-        if a[i] != b[i] {
-            return false;
-        }
-        i += 1;
-    }
-    true
+    a == b
 }
 
-pub fn is_word(i: usize, word: &[u8]) -> bool {
-    let mut name = io::buffer();
-    let n = os::arg(i, &mut name);
+pub fn is_word(stdout: &Buffered, i: usize, word: &[u8]) -> bool {
+    let mut name = buffer();
+    let n = arg(stdout.rt, i, &mut name);
     same(&name[..n], word)
 }
 
-pub fn say_argument(stdout: &mut [u8; BUFFERED], i: usize) {
-    let mut name = io::buffer();
-    let n = os::arg(i, &mut name);
+pub fn say_argument(stdout: &mut Buffered, i: usize) {
+    let mut name = buffer();
+    let n = arg(stdout.rt, i, &mut name);
     say(stdout, &name[..n]);
 }
 
@@ -54,16 +45,14 @@ pub fn longer(value: usize, digit: u8) -> usize
 
 fn decimal_of(text: &[u8]) -> Decimal {
     let mut value: usize = 0;
-    let mut i = 0;
-    while i < text.len() {
-        if !is_digit(text[i]) {
+    for b in text {
+        if !is_digit(*b) {
             return Decimal {
                 ok: false,
                 value: 0,
             };
         }
-        value = longer(value, text[i]);
-        i += 1;
+        value = longer(value, *b);
     }
     Decimal {
         ok: text.len() > 0,
@@ -72,9 +61,9 @@ fn decimal_of(text: &[u8]) -> Decimal {
 }
 
 // Argument i as a number; where it is none, a line says so.
-pub fn number(stdout: &mut [u8; BUFFERED], i: usize) -> Decimal {
-    let mut name = io::buffer();
-    let n = os::arg(i, &mut name);
+pub fn number(stdout: &mut Buffered, i: usize) -> Decimal {
+    let mut name = buffer();
+    let n = arg(stdout.rt, i, &mut name);
     let d = decimal_of(&name[..n]);
     if !d.ok {
         say(stdout, b"error not a number: ");

@@ -6,11 +6,11 @@ use crate::ranges::say_ranges;
 use files::cells::{put_bit, wide};
 use files::encode::LINE;
 use files::record::Record;
-use printing::stdout::BUFFERED;
+use printing::stdout::Buffered;
 use printing::{say, say_decimal};
 
 // An arrow up to its label. The spaces around a label keep it apart from the next arrow's.
-pub fn say_ends(stdout: &mut [u8; BUFFERED], from: u8, to: u8) {
+pub fn say_ends(stdout: &mut Buffered, from: u8, to: u8) {
     say(stdout, b"  ");
     say_decimal(stdout, from as u64);
     say(stdout, b" -> ");
@@ -30,12 +30,10 @@ fn joins(edges: &[u8], i: usize, from: u8, to: u8) -> bool
 fn joined_before(edges: &[u8], i: usize, from: u8, to: u8) -> bool
     requires { record_len * i ≤ length edges.now }
 {
-    let mut j = 0;
-    while j < i {
+    for j in 0..i {
         if joins(edges, j, from, to) {
             return true;
         }
-        j += 1;
     }
     false
 }
@@ -53,16 +51,14 @@ fn add_label(labels: &mut [u8; LINE], edges: &[u8], i: usize, from: u8, to: u8)
 fn labels_between(edges: &[u8], from: u8, to: u8) -> [u8; LINE] {
     let mut labels = [0u8; LINE];
     let end = edges.len() / Record::LEN;
-    let mut i = 0;
-    while i < end {
+    for i in 0..end {
         add_label(&mut labels, edges, i, from, to);
-        i += 1;
     }
     labels
 }
 
 // The arrow of edge i and of all later ones between its nodes, where no earlier edge has drawn it.
-fn say_arrow(stdout: &mut [u8; BUFFERED], edges: &[u8], i: usize)
+fn say_arrow(stdout: &mut Buffered, edges: &[u8], i: usize)
     requires { record_len * i + record_len ≤ length edges.now }
 {
     let p = Record::LEN * i;
@@ -76,11 +72,9 @@ fn say_arrow(stdout: &mut [u8; BUFFERED], edges: &[u8], i: usize)
     }
 }
 
-pub fn say_arrows(stdout: &mut [u8; BUFFERED], edges: &[u8]) {
+pub fn say_arrows(stdout: &mut Buffered, edges: &[u8]) {
     let end = edges.len() / Record::LEN;
-    let mut i = 0;
-    while i < end {
+    for i in 0..end {
         say_arrow(stdout, edges, i);
-        i += 1;
     }
 }

@@ -17,7 +17,8 @@ use files::record::Limits;
 use judging::shape::Shape;
 use judging::sizes::Sizes;
 use maximal::places::Places;
-use printing::stdout::BUFFERED;
+use printing::input::large_buffer;
+use printing::stdout::Buffered;
 use runs::answers::{Shown, Verdict};
 use runs::regions::Regions;
 
@@ -58,12 +59,12 @@ fn compose_buffer() -> [u8; Regions::TWO_GRAPHS]
     [0; Regions::TWO_GRAPHS]
 }
 
-pub fn judge(stdout: &mut [u8; BUFFERED], at: usize) {
-    let mut graph = io::large_buffer();
-    let mut property = io::large_buffer();
+pub fn judge(stdout: &mut Buffered, at: usize) {
+    let mut graph = large_buffer();
+    let mut property = large_buffer();
     let files = load_two(stdout, 2, &mut graph, &mut property);
     if files.ok {
-        let mut out = io::large_buffer();
+        let mut out = large_buffer();
         let mut work = judge_buffer();
         let graph_end = files.first;
         let property_end = files.second;
@@ -78,18 +79,18 @@ pub fn judge(stdout: &mut [u8; BUFFERED], at: usize) {
 }
 
 // The graph of the deliveries that stand, of a file that is loaded.
-pub fn assemble(stdout: &mut [u8; BUFFERED], deliveries: &[u8], at: usize) {
-    let mut out = io::large_buffer();
+pub fn assemble(stdout: &mut Buffered, deliveries: &[u8], at: usize) {
+    let mut out = large_buffer();
     let answer = files::assemble(deliveries, &mut out);
     say_assembled(stdout, answer, &out, at);
 }
 
 // That graph judged by the property, which is the file after the deliveries.
-pub fn judge_deliveries(stdout: &mut [u8; BUFFERED], deliveries: &[u8], at: usize) {
-    let mut property = io::large_buffer();
+pub fn judge_deliveries(stdout: &mut Buffered, deliveries: &[u8], at: usize) {
+    let mut property = large_buffer();
     let p = load(stdout, 3, &mut property);
     if p.ok {
-        let mut out = io::large_buffer();
+        let mut out = large_buffer();
         let mut store = store_buffer();
         let mut work = judge_buffer();
         let property_end = p.length;
@@ -112,12 +113,12 @@ fn nodes_in(graph: &[u8]) -> usize {
     }
 }
 
-pub fn compare(stdout: &mut [u8; BUFFERED], at: usize) {
-    let mut first = io::large_buffer();
-    let mut second = io::large_buffer();
+pub fn compare(stdout: &mut Buffered, at: usize) {
+    let mut first = large_buffer();
+    let mut second = large_buffer();
     let files = load_two(stdout, 2, &mut first, &mut second);
     if files.ok {
-        let mut out = io::large_buffer();
+        let mut out = large_buffer();
         let mut work = compare_buffer();
         let first_end = files.first;
         let second_end = files.second;
@@ -132,12 +133,12 @@ pub fn compare(stdout: &mut [u8; BUFFERED], at: usize) {
     }
 }
 
-pub fn model(stdout: &mut [u8; BUFFERED], at: usize) {
-    let mut interface = io::large_buffer();
-    let mut property = io::large_buffer();
+pub fn model(stdout: &mut Buffered, at: usize) {
+    let mut interface = large_buffer();
+    let mut property = large_buffer();
     let files = load_two(stdout, 2, &mut interface, &mut property);
     if files.ok {
-        let mut out = io::large_buffer();
+        let mut out = large_buffer();
         let mut work = model_buffer();
         let interface_end = files.first;
         let property_end = files.second;
@@ -152,12 +153,12 @@ pub fn model(stdout: &mut [u8; BUFFERED], at: usize) {
 }
 
 // The join with the second side's files, of the first side's, which are loaded. A function with four buffers of its own takes several times as long to prove.
-fn join_with(stdout: &mut [u8; BUFFERED], interface1: &[u8], graph1: &[u8], at: usize) {
-    let mut interface2 = io::large_buffer();
-    let mut graph2 = io::large_buffer();
+fn join_with(stdout: &mut Buffered, interface1: &[u8], graph1: &[u8], at: usize) {
+    let mut interface2 = large_buffer();
+    let mut graph2 = large_buffer();
     let files = load_two(stdout, 4, &mut interface2, &mut graph2);
     if files.ok {
-        let mut out = io::large_buffer();
+        let mut out = large_buffer();
         let interface2_end = files.first;
         let graph2_end = files.second;
         let answer = runs::join(
@@ -171,9 +172,9 @@ fn join_with(stdout: &mut [u8; BUFFERED], interface1: &[u8], graph1: &[u8], at: 
     }
 }
 
-pub fn join(stdout: &mut [u8; BUFFERED], at: usize) {
-    let mut interface1 = io::large_buffer();
-    let mut graph1 = io::large_buffer();
+pub fn join(stdout: &mut Buffered, at: usize) {
+    let mut interface1 = large_buffer();
+    let mut graph1 = large_buffer();
     let files = load_two(stdout, 2, &mut interface1, &mut graph1);
     if files.ok {
         let interface1_end = files.first;
@@ -187,9 +188,9 @@ pub fn join(stdout: &mut [u8; BUFFERED], at: usize) {
     }
 }
 
-pub fn show(stdout: &mut [u8; BUFFERED], at: usize) {
-    let mut graph1 = io::large_buffer();
-    let mut graph2 = io::large_buffer();
+pub fn show(stdout: &mut Buffered, at: usize) {
+    let mut graph1 = large_buffer();
+    let mut graph2 = large_buffer();
     let files = load_two(stdout, 2, &mut graph1, &mut graph2);
     let node = number(stdout, 4);
     if files.ok & node.ok {
@@ -212,15 +213,15 @@ fn method_of(value: usize) -> u8 {
     if value < 256 { value as u8 } else { 255 }
 }
 
-pub fn watch(stdout: &mut [u8; BUFFERED], at: usize) {
-    let mut interface = io::large_buffer();
-    let mut graph = io::large_buffer();
+pub fn watch(stdout: &mut Buffered, at: usize) {
+    let mut interface = large_buffer();
+    let mut graph = large_buffer();
     let files = load_two(stdout, 2, &mut interface, &mut graph);
-    let mut rules = io::large_buffer();
+    let mut rules = large_buffer();
     let r = load(stdout, 4, &mut rules);
     let start = number(stdout, 5);
     if files.ok & r.ok & start.ok {
-        let mut out = io::large_buffer();
+        let mut out = large_buffer();
         let mut work = watch_buffer();
         let interface_end = files.first;
         let graph_end = files.second;
@@ -270,7 +271,7 @@ fn composed(
 }
 
 fn say_composed(
-    stdout: &mut [u8; BUFFERED],
+    stdout: &mut Buffered,
     answer: Verdict,
     out: &[u8],
     start: u8,
@@ -300,7 +301,7 @@ fn say_composed(
 
 // The composed verdict by the rules, of both sides' files, which are loaded.
 fn compose_by(
-    stdout: &mut [u8; BUFFERED],
+    stdout: &mut Buffered,
     interface1: &[u8],
     first: &[u8],
     interface2: &[u8],
@@ -308,11 +309,11 @@ fn compose_by(
     at: usize,
     both: bool,
 ) {
-    let mut rules = io::large_buffer();
+    let mut rules = large_buffer();
     let r = load(stdout, 6, &mut rules);
     let start = number(stdout, 7);
     if r.ok & start.ok {
-        let mut out = io::large_buffer();
+        let mut out = large_buffer();
         let rules_end = r.length;
         let method = method_of(start.value);
         let answer = composed(
@@ -330,15 +331,9 @@ fn compose_by(
 }
 
 // The composed verdict with the second side's files, of the first side's, which are loaded.
-fn compose_with(
-    stdout: &mut [u8; BUFFERED],
-    interface1: &[u8],
-    first: &[u8],
-    at: usize,
-    both: bool,
-) {
-    let mut interface2 = io::large_buffer();
-    let mut property2 = io::large_buffer();
+fn compose_with(stdout: &mut Buffered, interface1: &[u8], first: &[u8], at: usize, both: bool) {
+    let mut interface2 = large_buffer();
+    let mut property2 = large_buffer();
     let files = load_two(stdout, 4, &mut interface2, &mut property2);
     if files.ok {
         let interface2_end = files.first;
@@ -356,9 +351,9 @@ fn compose_with(
 }
 
 // With one side known by its graph, or `both` by properties only.
-pub fn compose(stdout: &mut [u8; BUFFERED], at: usize, both: bool) {
-    let mut interface1 = io::large_buffer();
-    let mut first = io::large_buffer();
+pub fn compose(stdout: &mut Buffered, at: usize, both: bool) {
+    let mut interface1 = large_buffer();
+    let mut first = large_buffer();
     let files = load_two(stdout, 2, &mut interface1, &mut first);
     if files.ok {
         let interface1_end = files.first;

@@ -8,21 +8,15 @@ use crate::load::{load, load_two};
 use crate::refusals::say_refused;
 use files::check::{Checked, check_graph};
 use files::record::{Limits, Record};
-use printing::stdout::BUFFERED;
+use printing::input::large_buffer;
+use printing::stdout::Buffered;
 use printing::{at_most, end_of, say, say_decimal};
 
 // No graph has more nodes.
 const MOST: usize = 256;
 
 // Node i by its number, then the lines that a trail or a sheet adds.
-fn say_node(
-    stdout: &mut [u8; BUFFERED],
-    trail: &[u8],
-    sheet: &[u8],
-    i: usize,
-    returns: u8,
-    entry: u8,
-) {
+fn say_node(stdout: &mut Buffered, trail: &[u8], sheet: &[u8], i: usize, returns: u8, entry: u8) {
     let node = (i % 256) as u8;
     say(stdout, b"    ");
     say_decimal(stdout, i as u64);
@@ -40,7 +34,7 @@ fn say_node(
 
 // Record i of the nodes, where it is of the method.
 fn say_node_of(
-    stdout: &mut [u8; BUFFERED],
+    stdout: &mut Buffered,
     nodes: &[u8],
     trail: &[u8],
     sheet: &[u8],
@@ -55,17 +49,15 @@ fn say_node_of(
     }
 }
 
-fn say_nodes(stdout: &mut [u8; BUFFERED], nodes: &[u8], trail: &[u8], sheet: &[u8], method: u8) {
+fn say_nodes(stdout: &mut Buffered, nodes: &[u8], trail: &[u8], sheet: &[u8], method: u8) {
     let end = nodes.len() / Record::LEN;
-    let mut i = 0;
-    while i < end {
+    for i in 0..end {
         say_node_of(stdout, nodes, trail, sheet, i, method);
-        i += 1;
     }
 }
 
 // The box of a method, where it has nodes.
-fn say_method(stdout: &mut [u8; BUFFERED], nodes: &[u8], trail: &[u8], sheet: &[u8], method: u8) {
+fn say_method(stdout: &mut Buffered, nodes: &[u8], trail: &[u8], sheet: &[u8], method: u8) {
     if is_in(nodes, 1, method) {
         say(stdout, b"  subgraph cluster_");
         say_decimal(stdout, method as u64);
@@ -77,16 +69,14 @@ fn say_method(stdout: &mut [u8; BUFFERED], nodes: &[u8], trail: &[u8], sheet: &[
     }
 }
 
-fn say_methods(stdout: &mut [u8; BUFFERED], nodes: &[u8], trail: &[u8], sheet: &[u8]) {
-    let mut method = 1;
-    while method < 9 {
+fn say_methods(stdout: &mut Buffered, nodes: &[u8], trail: &[u8], sheet: &[u8]) {
+    for method in 1..9 {
         say_method(stdout, nodes, trail, sheet, method);
-        method += 1;
     }
 }
 
 // Sizes by which a joined graph of 24 nodes fits a screen.
-fn say_head(stdout: &mut [u8; BUFFERED]) {
+fn say_head(stdout: &mut Buffered) {
     say(stdout, b"digraph flow {\n  nodesep=0.3;\n  ranksep=0.4;\n");
     say(
         stdout,
@@ -96,7 +86,7 @@ fn say_head(stdout: &mut [u8; BUFFERED]) {
 }
 
 // The legend stands last: what is set for the whole picture holds for the boxes that follow it.
-fn say_legend(stdout: &mut [u8; BUFFERED], trail: &[u8], sheet: &[u8]) {
+fn say_legend(stdout: &mut Buffered, trail: &[u8], sheet: &[u8]) {
     say(
         stdout,
         b"  fontsize=10;\n  label=\"grey: entry, double line: return\\n0: internal step, 1-8: call of that method",
@@ -110,7 +100,7 @@ fn say_legend(stdout: &mut [u8; BUFFERED], trail: &[u8], sheet: &[u8]) {
     say(stdout, b"\";\n}\n");
 }
 
-fn draw(stdout: &mut [u8; BUFFERED], graph: &[u8], trail: &[u8], sheet: &[u8]) {
+fn draw(stdout: &mut Buffered, graph: &[u8], trail: &[u8], sheet: &[u8]) {
     match check_graph(graph, 1, Limits::desk()) {
         Checked::Refused(r) => say_refused(stdout, r),
         Checked::Accepted { nodes, .. } => {
@@ -124,8 +114,8 @@ fn draw(stdout: &mut [u8; BUFFERED], graph: &[u8], trail: &[u8], sheet: &[u8]) {
     }
 }
 
-pub fn dot(stdout: &mut [u8; BUFFERED]) {
-    let mut graph = io::large_buffer();
+pub fn dot(stdout: &mut Buffered) {
+    let mut graph = large_buffer();
     let g = load(stdout, 2, &mut graph);
     if g.ok {
         let end = g.length;
@@ -134,9 +124,9 @@ pub fn dot(stdout: &mut [u8; BUFFERED]) {
 }
 
 // The graph with a trail or, where `sheet` says so, a fault sheet. No byte of a file tells the two apart.
-pub fn dot_with(stdout: &mut [u8; BUFFERED], sheet: bool) {
-    let mut graph = io::large_buffer();
-    let mut lit = io::large_buffer();
+pub fn dot_with(stdout: &mut Buffered, sheet: bool) {
+    let mut graph = large_buffer();
+    let mut lit = large_buffer();
     let files = load_two(stdout, 2, &mut graph, &mut lit);
     if files.ok {
         let graph_end = files.first;

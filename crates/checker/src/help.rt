@@ -1,9 +1,9 @@
 // What the program takes and prints.
 use printing::say;
-use printing::stdout::BUFFERED;
+use printing::stdout::Buffered;
 
 // The calls on graphs.
-fn say_calls(stdout: &mut [u8; BUFFERED]) {
+fn say_calls(stdout: &mut Buffered) {
     say(
         stdout,
         b"checker judge GRAPH PROPERTY                                does the graph satisfy the property?\n",
@@ -39,7 +39,7 @@ fn say_calls(stdout: &mut [u8; BUFFERED]) {
 }
 
 // The calls on deliveries.
-fn say_deliveries(stdout: &mut [u8; BUFFERED]) {
+fn say_deliveries(stdout: &mut Buffered) {
     say(
         stdout,
         b"checker assemble DELIVERIES                                 the graph of the deliveries that stand\n",
@@ -51,7 +51,7 @@ fn say_deliveries(stdout: &mut [u8; BUFFERED]) {
 }
 
 // Listings and pictures.
-fn say_views(stdout: &mut [u8; BUFFERED]) {
+fn say_views(stdout: &mut Buffered) {
     say(
         stdout,
         b"checker text FILE                                           a file as a readable listing\n",
@@ -75,7 +75,7 @@ fn say_views(stdout: &mut [u8; BUFFERED]) {
 }
 
 // What a delivery is, and how long a file may be.
-fn say_files(stdout: &mut [u8; BUFFERED]) {
+fn say_files(stdout: &mut Buffered) {
     say(
         stdout,
         b"\nA delivery is a record 6, method, revision 1 to 255, 0, 0, 0, then that method's nodes and edges, its nodes numbered from 0. A file of deliveries holds any number of them;\n",
@@ -87,7 +87,7 @@ fn say_files(stdout: &mut [u8; BUFFERED]) {
     say(stdout, b"6,670,800 bytes, every other up to 65,536.\n");
 }
 
-pub fn say_help(stdout: &mut [u8; BUFFERED]) {
+pub fn say_help(stdout: &mut Buffered) {
     say_calls(stdout);
     say_deliveries(stdout);
     say_views(stdout);

@@ -8,10 +8,10 @@ use crate::ranges::say_ranges;
 use files::cells::{put_bit, wide};
 use files::encode::LINE;
 use files::record::{Record, Step};
-use printing::stdout::BUFFERED;
+use printing::stdout::Buffered;
 use printing::{say, say_decimal};
 
-pub fn say_if(stdout: &mut [u8; BUFFERED], test: bool, words: &[u8]) {
+pub fn say_if(stdout: &mut Buffered, test: bool, words: &[u8]) {
     if test {
         say(stdout, words);
     }
@@ -29,12 +29,10 @@ pub fn is_in(records: &[u8], k: usize, value: u8) -> bool
     requires { k < 6 }
 {
     let end = records.len() / Record::LEN;
-    let mut i = 0;
-    while i < end {
+    for i in 0..end {
         if is_at(records, i, k, value) {
             return true;
         }
-        i += 1;
     }
     false
 }
@@ -45,7 +43,7 @@ pub fn is_lit(trail: &[u8], sheet: &[u8], node: u8) -> bool {
 }
 
 // A node's line for the trail's start.
-pub fn say_start(stdout: &mut [u8; BUFFERED], trail: &[u8], node: u8) {
+pub fn say_start(stdout: &mut Buffered, trail: &[u8], node: u8) {
     if trail.len() >= Record::LEN {
         say_if(
             stdout,
@@ -68,22 +66,20 @@ fn add_row(rows: &mut [u8; LINE], sheet: &[u8], i: usize, node: u8)
 fn rows_at(sheet: &[u8], node: u8) -> [u8; LINE] {
     let mut rows = [0u8; LINE];
     let end = sheet.len() / Record::LEN;
-    let mut i = 0;
-    while i < end {
+    for i in 0..end {
         add_row(&mut rows, sheet, i, node);
-        i += 1;
     }
     rows
 }
 
 // A node's line for the rows that are false there.
-pub fn say_rows(stdout: &mut [u8; BUFFERED], sheet: &[u8], node: u8) {
+pub fn say_rows(stdout: &mut Buffered, sheet: &[u8], node: u8) {
     let rows = rows_at(sheet, node);
     say_ranges(stdout, &rows, 0, b"\\nrow ", b", ");
 }
 
 // What a step does: an internal one, a call entered, or a call passed over.
-fn say_kind(stdout: &mut [u8; BUFFERED], kind: u8, label: u8) {
+fn say_kind(stdout: &mut Buffered, kind: u8, label: u8) {
     if kind == Step::INTERNAL {
         say(stdout, b": step");
         return;
@@ -97,7 +93,7 @@ fn say_kind(stdout: &mut [u8; BUFFERED], kind: u8, label: u8) {
 }
 
 // The arrow of record i of the trail, where it is no start. A call entered leads where no edge of the graph does, so it is dashed.
-fn say_step(stdout: &mut [u8; BUFFERED], trail: &[u8], i: usize)
+fn say_step(stdout: &mut Buffered, trail: &[u8], i: usize)
     requires { record_len * i + record_len ≤ length trail.now }
 {
     let p = Record::LEN * i;
@@ -112,17 +108,15 @@ fn say_step(stdout: &mut [u8; BUFFERED], trail: &[u8], i: usize)
     }
 }
 
-fn say_steps(stdout: &mut [u8; BUFFERED], trail: &[u8]) {
+fn say_steps(stdout: &mut Buffered, trail: &[u8]) {
     let end = trail.len() / Record::LEN;
-    let mut i = 0;
-    while i < end {
+    for i in 0..end {
         say_step(stdout, trail, i);
-        i += 1;
     }
 }
 
 // The arrow to a cause at another node; one at the same node is told by that node's rows, since loops beside each other cannot be read.
-fn say_cause(stdout: &mut [u8; BUFFERED], node: u8, row: u8, cause: u8, cause_row: u8) {
+fn say_cause(stdout: &mut Buffered, node: u8, row: u8, cause: u8, cause_row: u8) {
     if (cause_row != 255) & (cause != node) {
         say_ends(stdout, node, cause);
         say(stdout, b"row ");
@@ -134,7 +128,7 @@ fn say_cause(stdout: &mut [u8; BUFFERED], node: u8, row: u8, cause: u8, cause_ro
 }
 
 // Both causes of record i of the sheet.
-fn say_both(stdout: &mut [u8; BUFFERED], sheet: &[u8], i: usize)
+fn say_both(stdout: &mut Buffered, sheet: &[u8], i: usize)
     requires { record_len * i + record_len ≤ length sheet.now }
 {
     let p = Record::LEN * i;
@@ -142,17 +136,15 @@ fn say_both(stdout: &mut [u8; BUFFERED], sheet: &[u8], i: usize)
     say_cause(stdout, sheet[p], sheet[p + 1], sheet[p + 4], sheet[p + 5]);
 }
 
-fn say_causes(stdout: &mut [u8; BUFFERED], sheet: &[u8]) {
+fn say_causes(stdout: &mut Buffered, sheet: &[u8]) {
     let end = sheet.len() / Record::LEN;
-    let mut i = 0;
-    while i < end {
+    for i in 0..end {
         say_both(stdout, sheet, i);
-        i += 1;
     }
 }
 
 // The red arrows, behind one line that makes them red.
-pub fn say_red(stdout: &mut [u8; BUFFERED], trail: &[u8], sheet: &[u8]) {
+pub fn say_red(stdout: &mut Buffered, trail: &[u8], sheet: &[u8]) {
     if (trail.len() > 0) | (sheet.len() > 0) {
         say(stdout, b"  edge [color=red, fontcolor=red];\n");
         say_steps(stdout, trail);

@@ -1,10 +1,13 @@
 // Files by name: read whole or not at all, and written.
 ghost use Rattle.std.specs.Prelude.{◌<◌};
-ghost use Rattle.io.specs.Counts.{IsPrefixLen};
+ghost use Rattle.printing.specs.Places.{IsPrefixLen};
 
 use crate::arguments::say_argument;
+use printing::input::{arg, buffer, open_read, path, read_full};
 use printing::say;
-use printing::stdout::BUFFERED;
+use printing::stdout::Buffered;
+use std::io::Read;
+use std::{fs, io};
 
 // So many bytes were read, or a line said why not.
 #[derive(Clone, Copy)]
@@ -21,7 +24,7 @@ pub struct LoadedTwo {
     pub second: usize,
 }
 
-fn complain(stdout: &mut [u8; BUFFERED], words: &[u8], i: usize) {
+fn complain(stdout: &mut Buffered, words: &[u8], i: usize) {
     say(stdout, b"error ");
     say(stdout, words);
     say(stdout, b": ");
@@ -30,35 +33,39 @@ fn complain(stdout: &mut [u8; BUFFERED], words: &[u8], i: usize) {
 }
 
 // Reads the file that argument i names to the start of buf. One more read tells whether that was all of it, so no file is taken in part.
-pub fn load(stdout: &mut [u8; BUFFERED], i: usize, buf: &mut [u8]) -> Loaded
+pub fn load(stdout: &mut Buffered, i: usize, buf: &mut [u8]) -> Loaded
     ensures { IsPrefixLen result.length buf.new }
 {
-    let mut name = io::buffer();
-    let n = os::arg(i, &mut name);
-    let fd = os::open_read(&name[..n]);
-    let length = io::read_full(fd, buf);
-    let mut further = io::buffer();
-    let more = libc::read(fd, &mut further);
-    libc::close(fd);
-    if more < 0 {
+    let mut name = buffer();
+    let n = arg(stdout.rt, i, &mut name);
+    let Ok(mut file) = open_read(stdout.rt, &name[..n]) else {
         complain(stdout, b"this file cannot be read", i);
-    }
-    if more > 0 {
-        complain(stdout, b"this file is too long to read", i);
+        return Loaded {
+            ok: false,
+            length: 0,
+        };
+    };
+    let length = read_full(&mut file, buf);
+    let mut further = buffer();
+    let more = file.read(&mut further);
+    match more {
+        Err(_) => complain(stdout, b"this file cannot be read", i),
+        Ok(0) => {
+            return Loaded {
+                ok: true,
+                length: length,
+            };
+        }
+        Ok(_) => complain(stdout, b"this file is too long to read", i),
     }
     Loaded {
-        ok: more == 0,
+        ok: false,
         length: length,
     }
 }
 
 // Reads the files that argument i and the next one name.
-pub fn load_two(
-    stdout: &mut [u8; BUFFERED],
-    i: usize,
-    first: &mut [u8],
-    second: &mut [u8],
-) -> LoadedTwo
+pub fn load_two(stdout: &mut Buffered, i: usize, first: &mut [u8], second: &mut [u8]) -> LoadedTwo
     requires { i < 100 }
     ensures { (IsPrefixLen result.first first.new) × (IsPrefixLen result.second second.new) }
 {
@@ -71,14 +78,16 @@ pub fn load_two(
     }
 }
 
+// Writes bytes to the file of this name.
+fn overwrite(rt: HostRuntime, name: &[u8], bytes: &[u8]) -> io::Result<()> {
+    fs::write(&rt, path(name)?, bytes)
+}
+
 // Writes bytes to the file that argument i names.
-pub fn save(stdout: &mut [u8; BUFFERED], i: usize, bytes: &[u8]) {
-    let mut name = io::buffer();
-    let n = os::arg(i, &mut name);
-    let fd = os::open_overwrite(&name[..n]);
-    let done = io::write_all(fd, bytes);
-    libc::close(fd);
-    if (fd < 0) | !done {
+pub fn save(stdout: &mut Buffered, i: usize, bytes: &[u8]) {
+    let mut name = buffer();
+    let n = arg(stdout.rt, i, &mut name);
+    if overwrite(stdout.rt, &name[..n], bytes).is_err() {
         complain(stdout, b"this file cannot be written", i);
     }
 }

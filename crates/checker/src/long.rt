@@ -8,7 +8,7 @@ use crate::lengths::Lengths;
 use crate::load::load;
 use crate::pack::pack;
 use crate::text::list;
-use printing::stdout::BUFFERED;
+use printing::stdout::Buffered;
 
 // The longest file of these that is read: all 255 revisions of all eight methods, each round of them within the limits, 8 openings, 256 nodes and 4,096 edges of six bytes. The
 // stack is all the memory there is, 8 MiB by default, and what the program has beside this buffer takes less than 1, so arguments and environment have 0.8 left. Unoptimised, as
@@ -24,14 +24,14 @@ enum Long {
 }
 
 // The command by its word, which is one of the four.
-fn command() -> Long {
-    if is_word(1, b"assemble") {
+fn command(stdout: &Buffered) -> Long {
+    if is_word(stdout, 1, b"assemble") {
         return Long::Assemble;
     }
-    if is_word(1, b"judge-deliveries") {
+    if is_word(stdout, 1, b"judge-deliveries") {
         return Long::Judge;
     }
-    if is_word(1, b"text") {
+    if is_word(stdout, 1, b"text") {
         return Long::Text;
     }
     Long::Pack
@@ -45,12 +45,12 @@ fn long_buffer() -> [u8; LONGEST]
 
 // One function has the buffer for all four: two of them are past the stack. It asks for the command itself, so that its calls are alike and the compiler gives it a frame of its
 // own; in that of `main` every command would touch the buffer's pages.
-pub fn run(stdout: &mut [u8; BUFFERED], at: usize) {
+pub fn run(stdout: &mut Buffered, at: usize) {
     let mut file = long_buffer();
     let f = load(stdout, 2, &mut file);
     if f.ok {
         let end = f.length;
-        match command() {
+        match command(stdout) {
             Long::Assemble => assemble(stdout, &file[..end], at),
             Long::Judge => judge_deliveries(stdout, &file[..end], at),
             Long::Text => list(stdout, &file[..end]),

@@ -1,9 +1,12 @@
 // The command-line program: one call of the library on files by name. It holds no rule of its own: what it prints is what the proved calls answer and write.
 #![tactic(auto)]
+
 use arguments::{is_word, say_argument};
 use help::say_help;
-use printing::stdout::{BUFFERED, flush, stdout};
+use printing::input::arg_count;
+use printing::stdout::{Buffered, finish, stdout};
 use printing::{say, say_number};
+use std::io;
 
 mod arguments;
 mod arrows;
@@ -22,7 +25,7 @@ mod results;
 mod text;
 
 // The command has as many arguments as it takes, or a line says how many.
-fn takes(stdout: &mut [u8; BUFFERED], given: usize, wanted: usize) -> bool {
+fn takes(stdout: &mut Buffered, given: usize, wanted: usize) -> bool {
     if given != wanted {
         say(stdout, b"error ");
         say_argument(stdout, 1);
@@ -38,20 +41,20 @@ fn takes(stdout: &mut [u8; BUFFERED], given: usize, wanted: usize) -> bool {
     given == wanted
 }
 
-fn run_on_two(stdout: &mut [u8; BUFFERED], given: usize, at: usize) -> bool {
-    if is_word(1, b"judge") {
+fn run_on_two(stdout: &mut Buffered, given: usize, at: usize) -> bool {
+    if is_word(stdout, 1, b"judge") {
         if takes(stdout, given, 2) {
             commands::judge(stdout, at);
         }
         return true;
     }
-    if is_word(1, b"compare") {
+    if is_word(stdout, 1, b"compare") {
         if takes(stdout, given, 2) {
             commands::compare(stdout, at);
         }
         return true;
     }
-    if is_word(1, b"model") {
+    if is_word(stdout, 1, b"model") {
         if takes(stdout, given, 2) {
             commands::model(stdout, at);
         }
@@ -60,27 +63,27 @@ fn run_on_two(stdout: &mut [u8; BUFFERED], given: usize, at: usize) -> bool {
     false
 }
 
-fn run_on_sides(stdout: &mut [u8; BUFFERED], given: usize, at: usize) -> bool {
-    if is_word(1, b"join") {
+fn run_on_sides(stdout: &mut Buffered, given: usize, at: usize) -> bool {
+    if is_word(stdout, 1, b"join") {
         if takes(stdout, given, 4) {
             commands::join(stdout, at);
         }
         return true;
     }
-    if is_word(1, b"show") {
+    if is_word(stdout, 1, b"show") {
         if takes(stdout, given, 3) {
             commands::show(stdout, at);
         }
         return true;
     }
-    if is_word(1, b"watch") {
+    if is_word(stdout, 1, b"watch") {
         if takes(stdout, given, 4) {
             commands::watch(stdout, at);
         }
         return true;
     }
-    let both = is_word(1, b"compose-both");
-    if both | is_word(1, b"compose") {
+    let both = is_word(stdout, 1, b"compose-both");
+    if both | is_word(stdout, 1, b"compose") {
         if takes(stdout, given, 6) {
             commands::compose(stdout, at, both);
         }
@@ -93,14 +96,14 @@ fn less(count: usize, words: usize) -> usize {
     if count < words { 0 } else { count - words }
 }
 
-fn run_on_deliveries(stdout: &mut [u8; BUFFERED], given: usize, at: usize) -> bool {
-    if is_word(1, b"assemble") {
+fn run_on_deliveries(stdout: &mut Buffered, given: usize, at: usize) -> bool {
+    if is_word(stdout, 1, b"assemble") {
         if takes(stdout, given, 1) {
             long::run(stdout, at);
         }
         return true;
     }
-    if is_word(1, b"judge-deliveries") {
+    if is_word(stdout, 1, b"judge-deliveries") {
         if takes(stdout, given, 2) {
             long::run(stdout, at);
         }
@@ -109,14 +112,14 @@ fn run_on_deliveries(stdout: &mut [u8; BUFFERED], given: usize, at: usize) -> bo
     false
 }
 
-fn run_on_listings(stdout: &mut [u8; BUFFERED], given: usize, at: usize) -> bool {
-    if is_word(1, b"text") | is_word(1, b"pack") {
+fn run_on_listings(stdout: &mut Buffered, given: usize, at: usize) -> bool {
+    if is_word(stdout, 1, b"text") | is_word(stdout, 1, b"pack") {
         if takes(stdout, given, 1) {
             long::run(stdout, at);
         }
         return true;
     }
-    if is_word(1, b"dot") {
+    if is_word(stdout, 1, b"dot") {
         if given == 2 {
             dot::dot_with(stdout, false);
         } else if takes(stdout, given, 1) {
@@ -124,7 +127,7 @@ fn run_on_listings(stdout: &mut [u8; BUFFERED], given: usize, at: usize) -> bool
         }
         return true;
     }
-    if is_word(1, b"dot-sheet") {
+    if is_word(stdout, 1, b"dot-sheet") {
         if takes(stdout, given, 2) {
             dot::dot_with(stdout, true);
         }
@@ -134,11 +137,11 @@ fn run_on_listings(stdout: &mut [u8; BUFFERED], given: usize, at: usize) -> bool
 }
 
 // The argument that names the output file, or 0: it stands last, after -o.
-fn output_at(count: usize) -> usize {
+fn output_at(stdout: &Buffered, count: usize) -> usize {
     if count < 4 {
         return 0;
     }
-    if is_word(count - 2, b"-o") {
+    if is_word(stdout, count - 2, b"-o") {
         count - 1
     } else {
         0
@@ -146,13 +149,13 @@ fn output_at(count: usize) -> usize {
 }
 
 // What the arguments ask for.
-fn run(stdout: &mut [u8; BUFFERED]) {
-    let count = os::arg_count();
-    if (count < 2) | is_word(1, b"help") {
+fn run(stdout: &mut Buffered) {
+    let count = arg_count(stdout.rt);
+    if (count < 2) | is_word(stdout, 1, b"help") {
         say_help(stdout);
         return;
     }
-    let at = output_at(count);
+    let at = output_at(stdout, count);
     let given = if at == 0 {
         less(count, 2)
     } else {
@@ -175,8 +178,8 @@ fn run(stdout: &mut [u8; BUFFERED]) {
     say(stdout, b"; checker help lists them\n");
 }
 
-fn main() {
-    let mut stdout = stdout();
+fn main(rt: HostRuntime) -> io::Result<()> {
+    let mut stdout = stdout(rt);
     run(&mut stdout);
-    flush(&mut stdout);
+    finish(stdout)
 }

@@ -8,11 +8,11 @@ use crate::text::{say_about, say_decimals, say_formula, say_record};
 use files::cells::wide;
 use files::encode::LINE;
 use files::record::{Record, Step};
-use printing::stdout::BUFFERED;
+use printing::stdout::Buffered;
 use printing::{say, say_number};
 
 // The node and the state that a step ends in.
-fn say_reached(stdout: &mut [u8; BUFFERED], node: u8, state: u8) {
+fn say_reached(stdout: &mut Buffered, node: u8, state: u8) {
     say_about(stdout, b" node", node);
     say_about(stdout, b" in state", state);
     if state == 7 {
@@ -21,7 +21,7 @@ fn say_reached(stdout: &mut [u8; BUFFERED], node: u8, state: u8) {
 }
 
 // What a step does, by its kind: an internal step, a call entered, or a call passed over.
-fn say_act(stdout: &mut [u8; BUFFERED], kind: u8, label: u8) {
+fn say_act(stdout: &mut Buffered, kind: u8, label: u8) {
     if kind == Step::INTERNAL {
         say(stdout, b", steps to");
         return;
@@ -35,7 +35,7 @@ fn say_act(stdout: &mut [u8; BUFFERED], kind: u8, label: u8) {
 }
 
 // The step that a record of six bytes is, made in the method.
-fn say_step(stdout: &mut [u8; BUFFERED], r: &[u8], method: u8)
+fn say_step(stdout: &mut Buffered, r: &[u8], method: u8)
     requires { 6 ≤ length r.now }
 {
     if r[2] == 0 {
@@ -51,7 +51,7 @@ fn say_step(stdout: &mut [u8; BUFFERED], r: &[u8], method: u8)
 }
 
 // The line of record i of a trail, which is in the method. Answers the method after it: only a call entered leaves one.
-fn say_trail_line(stdout: &mut [u8; BUFFERED], trail: &[u8], i: usize, method: u8) -> u8
+fn say_trail_line(stdout: &mut Buffered, trail: &[u8], i: usize, method: u8) -> u8
     requires { record_len * i + record_len ≤ length trail.now }
 {
     let p = Record::LEN * i;
@@ -68,18 +68,16 @@ fn say_trail_line(stdout: &mut [u8; BUFFERED], trail: &[u8], i: usize, method: u
 }
 
 // A trail from the start method on.
-pub fn say_trail(stdout: &mut [u8; BUFFERED], trail: &[u8], start: u8) {
+pub fn say_trail(stdout: &mut Buffered, trail: &[u8], start: u8) {
     let end = trail.len() / Record::LEN;
     let mut method = start;
-    let mut i = 0;
-    while i < end {
+    for i in 0..end {
         method = say_trail_line(stdout, trail, i, method);
-        i += 1;
     }
 }
 
 // What the row asks for, in brackets.
-fn say_asked(stdout: &mut [u8; BUFFERED], property: &[u8], row: u8) {
+fn say_asked(stdout: &mut Buffered, property: &[u8], row: u8) {
     let p = Record::LEN * wide(row);
     if p + Record::LEN <= property.len() {
         say(stdout, b" (");
@@ -89,7 +87,7 @@ fn say_asked(stdout: &mut [u8; BUFFERED], property: &[u8], row: u8) {
 }
 
 // A cause behind its first word, where there is one: row 255 is none.
-fn say_cause(stdout: &mut [u8; BUFFERED], word: &[u8], node: u8, row: u8) {
+fn say_cause(stdout: &mut Buffered, word: &[u8], node: u8, row: u8) {
     if row != 255 {
         say_about(stdout, word, row);
         say_about(stdout, b" is false at node", node);
@@ -97,7 +95,7 @@ fn say_cause(stdout: &mut [u8; BUFFERED], word: &[u8], node: u8, row: u8) {
 }
 
 // The line of record i of a fault sheet.
-fn say_sheet_line(stdout: &mut [u8; BUFFERED], sheet: &[u8], property: &[u8], i: usize)
+fn say_sheet_line(stdout: &mut Buffered, sheet: &[u8], property: &[u8], i: usize)
     requires { record_len * i + record_len ≤ length sheet.now }
 {
     let p = Record::LEN * i;
@@ -111,17 +109,15 @@ fn say_sheet_line(stdout: &mut [u8; BUFFERED], sheet: &[u8], property: &[u8], i:
     say(stdout, b"\n");
 }
 
-pub fn say_sheet(stdout: &mut [u8; BUFFERED], sheet: &[u8], property: &[u8]) {
+pub fn say_sheet(stdout: &mut Buffered, sheet: &[u8], property: &[u8]) {
     let end = sheet.len() / Record::LEN;
-    let mut i = 0;
-    while i < end {
+    for i in 0..end {
         say_sheet_line(stdout, sheet, property, i);
-        i += 1;
     }
 }
 
 // The nodes of the line from `base` on.
-fn say_related(stdout: &mut [u8; BUFFERED], lines: &[u8], base: usize)
+fn say_related(stdout: &mut Buffered, lines: &[u8], base: usize)
     requires { base + 32 ≤ length lines.now }
 {
     let n = members(lines, base);
@@ -138,7 +134,7 @@ fn say_related(stdout: &mut [u8; BUFFERED], lines: &[u8], base: usize)
 }
 
 // The line of node g in a relation.
-fn say_relation_line(stdout: &mut [u8; BUFFERED], lines: &[u8], g: usize)
+fn say_relation_line(stdout: &mut Buffered, lines: &[u8], g: usize)
     requires { 32 * g + 32 ≤ length lines.now }
 {
     let p = LINE * g;
@@ -150,11 +146,9 @@ fn say_relation_line(stdout: &mut [u8; BUFFERED], lines: &[u8], g: usize)
     say(stdout, b"\n");
 }
 
-pub fn say_relation(stdout: &mut [u8; BUFFERED], lines: &[u8]) {
+pub fn say_relation(stdout: &mut Buffered, lines: &[u8]) {
     let end = lines.len() / LINE;
-    let mut g = 0;
-    while g < end {
+    for g in 0..end {
         say_relation_line(stdout, lines, g);
-        g += 1;
     }
 }

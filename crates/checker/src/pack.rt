@@ -3,7 +3,7 @@
 use crate::arguments::{is_digit, longer};
 use crate::lengths::Lengths;
 use crate::load::save;
-use printing::stdout::BUFFERED;
+use printing::stdout::Buffered;
 use printing::{at_most, end_of, say, say_number};
 
 // Where the reading of a listing stands: so many bytes are written, on this line, inside a comment, inside a decimal of this value, and all was right so far.
@@ -101,7 +101,7 @@ fn pack_all(listing: &mut [u8]) -> Packing {
     ended(p, listing)
 }
 
-fn give(stdout: &mut [u8; BUFFERED], out: &[u8], p: Packing, at: usize) {
+fn give(stdout: &mut Buffered, out: &[u8], p: Packing, at: usize) {
     if !p.ok {
         say(stdout, b"error no decimal from 0 to 255 on line");
         say_number(stdout, p.line as u64);
@@ -117,7 +117,7 @@ fn give(stdout: &mut [u8; BUFFERED], out: &[u8], p: Packing, at: usize) {
 }
 
 // The listing is spent: its bytes stand where it stood.
-pub fn pack(stdout: &mut [u8; BUFFERED], listing: &mut [u8], at: usize) {
+pub fn pack(stdout: &mut Buffered, listing: &mut [u8], at: usize) {
     let p = pack_all(listing);
     give(stdout, listing, p, at);
 }

@@ -2,7 +2,7 @@
 ghost use Rattle.std.specs.Prelude.{◌+◌, ◌≤◌, ◌<◌, length};
 
 use files::cells::has_bit;
-use printing::stdout::BUFFERED;
+use printing::stdout::Buffered;
 use printing::{say, say_decimal};
 
 // The set from `base` on has the number before h.
@@ -26,7 +26,7 @@ fn has_after(sets: &[u8], base: usize, h: usize) -> bool
 }
 
 // Number h of the set: a range's first, behind the comma, or its last, or none of both.
-fn say_end(stdout: &mut [u8; BUFFERED], sets: &[u8], base: usize, h: usize, comma: &[u8])
+fn say_end(stdout: &mut Buffered, sets: &[u8], base: usize, h: usize, comma: &[u8])
     requires { (base + 32 ≤ length sets.now) × (h < 256) }
 {
     if !has_before(sets, base, h) {
@@ -42,7 +42,7 @@ fn say_end(stdout: &mut [u8; BUFFERED], sets: &[u8], base: usize, h: usize, comm
 
 // Number h, where the set has it. Answers whether any number was met by now.
 fn say_member(
-    stdout: &mut [u8; BUFFERED],
+    stdout: &mut Buffered,
     sets: &[u8],
     base: usize,
     h: usize,
@@ -76,22 +76,18 @@ pub fn members(sets: &[u8], base: usize) -> usize
     requires { base + 32 ≤ length sets.now }
 {
     let mut n = 0;
-    let mut h = 0;
-    while h < 256 {
+    for h in 0..256 {
         n = counted(sets, base, h, n);
-        h += 1;
     }
     n
 }
 
 // The set from `base` on, with `first` before its first range and `comma` before every other.
-pub fn say_ranges(stdout: &mut [u8; BUFFERED], sets: &[u8], base: usize, first: &[u8], comma: &[u8])
+pub fn say_ranges(stdout: &mut Buffered, sets: &[u8], base: usize, first: &[u8], comma: &[u8])
     requires { base + 32 ≤ length sets.now }
 {
     let mut any = false;
-    let mut h = 0;
-    while h < 256 {
+    for h in 0..256 {
         any = say_member(stdout, sets, base, h, first, comma, any);
-        h += 1;
     }
 }

@@ -1,11 +1,11 @@
 // A refusal in words: its number, what it means, the file by name and the record.
 use crate::arguments::say_argument;
 use files::refusal::Refusal;
-use printing::stdout::BUFFERED;
+use printing::stdout::Buffered;
 use printing::{say, say_number};
 
 // What a number means that is about a record of one file.
-fn say_record_fault(stdout: &mut [u8; BUFFERED], number: u8) {
+fn say_record_fault(stdout: &mut Buffered, number: u8) {
     if number == 2 {
         say(
             stdout,
@@ -33,7 +33,7 @@ fn say_record_fault(stdout: &mut [u8; BUFFERED], number: u8) {
 }
 
 // What a number means that is about one file as a whole.
-fn say_file_fault(stdout: &mut [u8; BUFFERED], number: u8) {
+fn say_file_fault(stdout: &mut Buffered, number: u8) {
     if number == 1 {
         say(stdout, b"length is no multiple of 6");
     }
@@ -52,7 +52,7 @@ fn say_file_fault(stdout: &mut [u8; BUFFERED], number: u8) {
 }
 
 // What a number means that is about no single file.
-fn say_call_fault(stdout: &mut [u8; BUFFERED], number: u8) {
+fn say_call_fault(stdout: &mut Buffered, number: u8) {
     if number == 3 {
         say(stdout, b"start method not 1 to 8");
     }
@@ -92,12 +92,12 @@ fn say_call_fault(stdout: &mut [u8; BUFFERED], number: u8) {
 }
 
 // File f of a call is the argument after the one that names the command and the f - 1 before it.
-fn say_file(stdout: &mut [u8; BUFFERED], file: u8) {
+fn say_file(stdout: &mut Buffered, file: u8) {
     say(stdout, b", in ");
     say_argument(stdout, file as usize + 1);
 }
 
-pub fn say_refused(stdout: &mut [u8; BUFFERED], r: Refusal) {
+pub fn say_refused(stdout: &mut Buffered, r: Refusal) {
     let number = r.number;
     let file = r.file;
     say(stdout, b"refused by");

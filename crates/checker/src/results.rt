@@ -1,5 +1,5 @@
 // Verdicts in one line of plain words, the first of them fit for scripts; then what the call wrote, as decimals with notes, or to the file that argument `at` names where `at` is not 0.
-ghost use Rattle.io.specs.Counts.{IsPrefixLen};
+ghost use Rattle.printing.specs.Places.{IsPrefixLen};
 
 use crate::lengths::Lengths;
 use crate::load::save;
@@ -10,7 +10,7 @@ use files::encode::LINE;
 use files::record::Record;
 use judging::answers::{Compared, Judged};
 use maximal::answers::Modelled;
-use printing::stdout::BUFFERED;
+use printing::stdout::Buffered;
 use printing::{at_most, end_of, say, say_bytes, say_number, say_records};
 use runs::answers::{Joined, Verdict};
 
@@ -21,7 +21,7 @@ fn records_end(out: &[u8], records: usize) -> usize
     end_of(out, Record::LEN * at_most(records, Lengths::RECORDS))
 }
 
-fn give_graph(stdout: &mut [u8; BUFFERED], out: &[u8], nodes: usize, edges: usize, at: usize) {
+fn give_graph(stdout: &mut Buffered, out: &[u8], nodes: usize, edges: usize, at: usize) {
     let records = at_most(nodes, Lengths::RECORDS) + at_most(edges, Lengths::RECORDS);
     if at == 0 {
         say_records(stdout, out, records);
@@ -31,7 +31,7 @@ fn give_graph(stdout: &mut [u8; BUFFERED], out: &[u8], nodes: usize, edges: usiz
     }
 }
 
-fn give_relation(stdout: &mut [u8; BUFFERED], out: &[u8], nodes: usize, at: usize) {
+fn give_relation(stdout: &mut Buffered, out: &[u8], nodes: usize, at: usize) {
     let end = end_of(out, LINE * at_most(nodes, Lengths::RECORDS));
     if at == 0 {
         say_relation(stdout, &out[..end]);
@@ -40,7 +40,7 @@ fn give_relation(stdout: &mut [u8; BUFFERED], out: &[u8], nodes: usize, at: usiz
     }
 }
 
-fn give_sheet(stdout: &mut [u8; BUFFERED], out: &[u8], records: usize, property: &[u8], at: usize) {
+fn give_sheet(stdout: &mut Buffered, out: &[u8], records: usize, property: &[u8], at: usize) {
     let end = records_end(out, records);
     if at == 0 {
         say_sheet(stdout, &out[..end], property);
@@ -49,7 +49,7 @@ fn give_sheet(stdout: &mut [u8; BUFFERED], out: &[u8], records: usize, property:
     }
 }
 
-fn give_trail(stdout: &mut [u8; BUFFERED], out: &[u8], records: usize, start: u8, at: usize) {
+fn give_trail(stdout: &mut Buffered, out: &[u8], records: usize, start: u8, at: usize) {
     let end = records_end(out, records);
     if at == 0 {
         say_trail(stdout, &out[..end], start);
@@ -58,7 +58,7 @@ fn give_trail(stdout: &mut [u8; BUFFERED], out: &[u8], records: usize, start: u8
     }
 }
 
-fn say_counts(stdout: &mut [u8; BUFFERED], nodes: usize, edges: usize) {
+fn say_counts(stdout: &mut Buffered, nodes: usize, edges: usize) {
     say(stdout, b"written with");
     say_number(stdout, nodes as u64);
     say(stdout, b" nodes and");
@@ -67,13 +67,7 @@ fn say_counts(stdout: &mut [u8; BUFFERED], nodes: usize, edges: usize) {
 }
 
 // The property's rows are what the sheet's notes speak of.
-pub fn say_judged(
-    stdout: &mut [u8; BUFFERED],
-    answer: Judged,
-    out: &[u8],
-    property: &[u8],
-    at: usize,
-) {
+pub fn say_judged(stdout: &mut Buffered, answer: Judged, out: &[u8], property: &[u8], at: usize) {
     match answer {
         Judged::Holds => {
             say(stdout, b"holds at every entry\n");
@@ -89,13 +83,7 @@ pub fn say_judged(
     }
 }
 
-pub fn say_compared(
-    stdout: &mut [u8; BUFFERED],
-    answer: Compared,
-    out: &[u8],
-    nodes: usize,
-    at: usize,
-) {
+pub fn say_compared(stdout: &mut Buffered, answer: Compared, out: &[u8], nodes: usize, at: usize) {
     match answer {
         Compared::Yes => {
             say(stdout, b"yes the second simulates the first\n");
@@ -112,27 +100,27 @@ pub fn say_compared(
 }
 
 // A graph of which nothing is told but its counts.
-fn say_written(stdout: &mut [u8; BUFFERED], out: &[u8], nodes: usize, edges: usize, at: usize) {
+fn say_written(stdout: &mut Buffered, out: &[u8], nodes: usize, edges: usize, at: usize) {
     say_counts(stdout, nodes, edges);
     say(stdout, b"\n");
     give_graph(stdout, out, nodes, edges, at);
 }
 
-pub fn say_modelled(stdout: &mut [u8; BUFFERED], answer: Modelled, out: &[u8], at: usize) {
+pub fn say_modelled(stdout: &mut Buffered, answer: Modelled, out: &[u8], at: usize) {
     match answer {
         Modelled::Written(nodes, edges) => say_written(stdout, out, nodes, edges, at),
         Modelled::Refused(r) => say_refused(stdout, r),
     }
 }
 
-pub fn say_assembled(stdout: &mut [u8; BUFFERED], answer: Assembled, out: &[u8], at: usize) {
+pub fn say_assembled(stdout: &mut Buffered, answer: Assembled, out: &[u8], at: usize) {
     match answer {
         Assembled::Written { nodes, edges } => say_written(stdout, out, nodes, edges, at),
         Assembled::Refused(r) => say_refused(stdout, r),
     }
 }
 
-pub fn say_joined(stdout: &mut [u8; BUFFERED], answer: Joined, out: &[u8], at: usize) {
+pub fn say_joined(stdout: &mut Buffered, answer: Joined, out: &[u8], at: usize) {
     match answer {
         Joined::Written {
             nodes,
@@ -152,7 +140,7 @@ pub fn say_joined(stdout: &mut [u8; BUFFERED], answer: Joined, out: &[u8], at: u
     }
 }
 
-pub fn say_shown(stdout: &mut [u8; BUFFERED], part: &[u8], at: usize) {
+pub fn say_shown(stdout: &mut Buffered, part: &[u8], at: usize) {
     say(stdout, b"shown\n");
     if at == 0 {
         say_bytes(stdout, part);
@@ -162,7 +150,7 @@ pub fn say_shown(stdout: &mut [u8; BUFFERED], part: &[u8], at: usize) {
 }
 
 pub fn say_watched(
-    stdout: &mut [u8; BUFFERED],
+    stdout: &mut Buffered,
     answer: Verdict,
     clean: &[u8],
     out: &[u8],

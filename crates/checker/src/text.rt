@@ -3,21 +3,21 @@ ghost use Rattle.std.specs.Prelude.{◌+◌, ◌*◌, ◌≤◌, length};
 ghost use Rattle.files.specs.Places.{record_len};
 
 use files::record::{Operator, Record};
-use printing::stdout::BUFFERED;
+use printing::stdout::Buffered;
 use printing::{say, say_decimal, say_number};
 
-fn say_field(stdout: &mut [u8; BUFFERED], b: u8) {
+fn say_field(stdout: &mut Buffered, b: u8) {
     say_number(stdout, b as u64);
 }
 
 // A flag in words, where it is set.
-fn say_flag(stdout: &mut [u8; BUFFERED], b: u8, words: &[u8]) {
+fn say_flag(stdout: &mut Buffered, b: u8, words: &[u8]) {
     if b != 0 {
         say(stdout, words);
     }
 }
 
-fn say_node(stdout: &mut [u8; BUFFERED], i: usize, method: u8, returns: u8, entry: u8) {
+fn say_node(stdout: &mut Buffered, i: usize, method: u8, returns: u8, entry: u8) {
     say(stdout, b"node");
     say_number(stdout, i as u64);
     say(stdout, b" in method");
@@ -26,12 +26,12 @@ fn say_node(stdout: &mut [u8; BUFFERED], i: usize, method: u8, returns: u8, entr
     say_flag(stdout, entry, b", entry");
 }
 
-fn say_opening(stdout: &mut [u8; BUFFERED], method: u8, revision: u8) {
+fn say_opening(stdout: &mut Buffered, method: u8, revision: u8) {
     say_about(stdout, b"delivery of method", method);
     say_about(stdout, b", revision", revision);
 }
 
-fn say_edge(stdout: &mut [u8; BUFFERED], from: u8, label: u8, to: u8) {
+fn say_edge(stdout: &mut Buffered, from: u8, label: u8, to: u8) {
     say(stdout, b"from node");
     say_field(stdout, from);
     if label == 0 {
@@ -45,7 +45,7 @@ fn say_edge(stdout: &mut [u8; BUFFERED], from: u8, label: u8, to: u8) {
 }
 
 // A row whose operator names two rows, or a label and a row.
-fn say_operands(stdout: &mut [u8; BUFFERED], op: u8, a: u8, b: u8) {
+fn say_operands(stdout: &mut Buffered, op: u8, a: u8, b: u8) {
     if op == Operator::BOX {
         say(stdout, b"after every edge with label");
         say_field(stdout, a);
@@ -64,13 +64,13 @@ fn say_operands(stdout: &mut [u8; BUFFERED], op: u8, a: u8, b: u8) {
 }
 
 // Words about one number.
-pub fn say_about(stdout: &mut [u8; BUFFERED], words: &[u8], number: u8) {
+pub fn say_about(stdout: &mut Buffered, words: &[u8], number: u8) {
     say(stdout, words);
     say_field(stdout, number);
 }
 
 // What a row asks for.
-pub fn say_formula(stdout: &mut [u8; BUFFERED], op: u8, a: u8, b: u8) {
+pub fn say_formula(stdout: &mut Buffered, op: u8, a: u8, b: u8) {
     match op {
         Operator::TRUE => say(stdout, b"true"),
         Operator::FALSE => say(stdout, b"false"),
@@ -86,14 +86,14 @@ pub fn say_formula(stdout: &mut [u8; BUFFERED], op: u8, a: u8, b: u8) {
     }
 }
 
-fn say_row(stdout: &mut [u8; BUFFERED], i: usize, op: u8, a: u8, b: u8) {
+fn say_row(stdout: &mut Buffered, i: usize, op: u8, a: u8, b: u8) {
     say(stdout, b"row");
     say_number(stdout, i as u64);
     say(stdout, b": ");
     say_formula(stdout, op, a, b);
 }
 
-fn say_rule(stdout: &mut [u8; BUFFERED], state: u8, event: u8, m1: u8, m2: u8, next: u8) {
+fn say_rule(stdout: &mut Buffered, state: u8, event: u8, m1: u8, m2: u8, next: u8) {
     say(stdout, b"in state");
     say_field(stdout, state);
     say(stdout, b" method");
@@ -109,7 +109,7 @@ fn say_rule(stdout: &mut [u8; BUFFERED], state: u8, event: u8, m1: u8, m2: u8, n
 }
 
 // Method k + 1, where its bit of weight 2^k is set.
-fn say_member(stdout: &mut [u8; BUFFERED], set: u8, k: u8) {
+fn say_member(stdout: &mut Buffered, set: u8, k: u8) {
     if k < 8 {
         if (set >> k) % 2 == 1 {
             say_field(stdout, k + 1);
@@ -118,18 +118,16 @@ fn say_member(stdout: &mut [u8; BUFFERED], set: u8, k: u8) {
 }
 
 // The methods of a set.
-fn say_methods(stdout: &mut [u8; BUFFERED], set: u8) {
-    let mut k = 0;
-    while k < 8 {
+fn say_methods(stdout: &mut Buffered, set: u8) {
+    for k in 0..8 {
         say_member(stdout, set, k);
-        k += 1;
     }
     if set == 0 {
         say(stdout, b" nothing");
     }
 }
 
-fn say_interface(stdout: &mut [u8; BUFFERED], provided: u8, required: u8) {
+fn say_interface(stdout: &mut Buffered, provided: u8, required: u8) {
     say(stdout, b"provides");
     say_methods(stdout, provided);
     say(stdout, b", requires");
@@ -137,7 +135,7 @@ fn say_interface(stdout: &mut [u8; BUFFERED], provided: u8, required: u8) {
 }
 
 // What a record says, whose six bytes these are, and which is record i behind the last opening.
-fn say_meaning(stdout: &mut [u8; BUFFERED], i: usize, r: &[u8])
+fn say_meaning(stdout: &mut Buffered, i: usize, r: &[u8])
     requires { 6 ≤ length r.now }
 {
     let kind = r[0];
@@ -153,21 +151,19 @@ fn say_meaning(stdout: &mut [u8; BUFFERED], i: usize, r: &[u8])
 }
 
 // Bytes as decimals, with a space after each.
-pub fn say_decimals(stdout: &mut [u8; BUFFERED], bytes: &[u8]) {
-    let mut k = 0;
-    while k < bytes.len() {
-        say_byte(stdout, bytes[k]);
-        k += 1;
+pub fn say_decimals(stdout: &mut Buffered, bytes: &[u8]) {
+    for b in bytes {
+        say_byte(stdout, *b);
     }
 }
 
-fn say_byte(stdout: &mut [u8; BUFFERED], b: u8) {
+fn say_byte(stdout: &mut Buffered, b: u8) {
     say_decimal(stdout, b as u64);
     say(stdout, b" ");
 }
 
 // Record i up to its note.
-pub fn say_record(stdout: &mut [u8; BUFFERED], file: &[u8], i: usize)
+pub fn say_record(stdout: &mut Buffered, file: &[u8], i: usize)
     requires { record_len * i + record_len ≤ length file.now }
 {
     let p = Record::LEN * i;
@@ -176,7 +172,7 @@ pub fn say_record(stdout: &mut [u8; BUFFERED], file: &[u8], i: usize)
 }
 
 // The line of record i, the k-th behind the last opening. Answers the k of the next record: a delivery numbers its nodes from 0.
-fn say_line(stdout: &mut [u8; BUFFERED], file: &[u8], i: usize, k: usize) -> usize
+fn say_line(stdout: &mut Buffered, file: &[u8], i: usize, k: usize) -> usize
     requires { (record_len * i + record_len ≤ length file.now) × (k ≤ i) }
     ensures { result ≤ i + 1 }
 {
@@ -191,7 +187,7 @@ fn say_line(stdout: &mut [u8; BUFFERED], file: &[u8], i: usize, k: usize) -> usi
 }
 
 // The bytes after the last whole record.
-fn say_rest(stdout: &mut [u8; BUFFERED], file: &[u8]) {
+fn say_rest(stdout: &mut Buffered, file: &[u8]) {
     let whole = Record::LEN * (file.len() / Record::LEN);
     if whole < file.len() {
         say_decimals(stdout, &file[whole..]);
@@ -199,13 +195,11 @@ fn say_rest(stdout: &mut [u8; BUFFERED], file: &[u8]) {
     }
 }
 
-pub fn list(stdout: &mut [u8; BUFFERED], file: &[u8]) {
+pub fn list(stdout: &mut Buffered, file: &[u8]) {
     let end = file.len() / Record::LEN;
     let mut k = 0;
-    let mut i = 0;
-    while i < end {
+    for i in 0..end {
         k = say_line(stdout, file, i, k);
-        i += 1;
     }
     say_rest(stdout, file);
 }

@@ -4,18 +4,18 @@ use files::check::Checked;
 use files::refusal::Refusal;
 use judging::answers::{Compared, Judged};
 use maximal::answers::Modelled;
-use printing::stdout::BUFFERED;
+use printing::stdout::Buffered;
 use printing::{say, say_graph, say_lines, say_number, say_records};
 use runs::answers::{Joined, Verdict};
 
-pub(crate) fn say_refused(stdout: &mut [u8; BUFFERED], r: Refusal) {
+pub(crate) fn say_refused(stdout: &mut Buffered, r: Refusal) {
     say(stdout, b": refused");
     say_number(stdout, r.number as u64);
     say_number(stdout, r.file as u64);
     say_number(stdout, r.record as u64);
 }
 
-pub(crate) fn say_checked(stdout: &mut [u8; BUFFERED], c: Checked) {
+pub(crate) fn say_checked(stdout: &mut Buffered, c: Checked) {
     match c {
         Checked::Accepted { nodes, records } => {
             say(stdout, b": accepted");
@@ -27,7 +27,7 @@ pub(crate) fn say_checked(stdout: &mut [u8; BUFFERED], c: Checked) {
     say(stdout, b"\n");
 }
 
-pub(crate) fn say_judged(stdout: &mut [u8; BUFFERED], answer: Judged, out: &[u8]) {
+pub(crate) fn say_judged(stdout: &mut Buffered, answer: Judged, out: &[u8]) {
     match answer {
         Judged::Holds => say(stdout, b": holds\n"),
         Judged::Fails(n) => {
@@ -43,7 +43,7 @@ pub(crate) fn say_judged(stdout: &mut [u8; BUFFERED], answer: Judged, out: &[u8]
     }
 }
 
-pub(crate) fn say_compared(stdout: &mut [u8; BUFFERED], answer: Compared, out: &[u8]) {
+pub(crate) fn say_compared(stdout: &mut Buffered, answer: Compared, out: &[u8]) {
     match answer {
         Compared::Yes => {
             say(stdout, b": yes\n");
@@ -63,7 +63,7 @@ pub(crate) fn say_compared(stdout: &mut [u8; BUFFERED], answer: Compared, out: &
 }
 
 // A graph of so many nodes and edges that stands in the output.
-fn say_written(stdout: &mut [u8; BUFFERED], nodes: usize, edges: usize, out: &[u8]) {
+fn say_written(stdout: &mut Buffered, nodes: usize, edges: usize, out: &[u8]) {
     say(stdout, b": written");
     say_number(stdout, nodes as u64);
     say_number(stdout, edges as u64);
@@ -71,7 +71,7 @@ fn say_written(stdout: &mut [u8; BUFFERED], nodes: usize, edges: usize, out: &[u
     say_graph(stdout, out, nodes, edges);
 }
 
-pub(crate) fn say_modelled(stdout: &mut [u8; BUFFERED], answer: Modelled, out: &[u8]) {
+pub(crate) fn say_modelled(stdout: &mut Buffered, answer: Modelled, out: &[u8]) {
     match answer {
         Modelled::Written(nodes, edges) => say_written(stdout, nodes, edges, out),
         Modelled::Refused(r) => {
@@ -81,7 +81,7 @@ pub(crate) fn say_modelled(stdout: &mut [u8; BUFFERED], answer: Modelled, out: &
     }
 }
 
-pub(crate) fn say_assembled(stdout: &mut [u8; BUFFERED], answer: Assembled, out: &[u8]) {
+pub(crate) fn say_assembled(stdout: &mut Buffered, answer: Assembled, out: &[u8]) {
     match answer {
         Assembled::Written { nodes, edges } => say_written(stdout, nodes, edges, out),
         Assembled::Refused(r) => {
@@ -91,7 +91,7 @@ pub(crate) fn say_assembled(stdout: &mut [u8; BUFFERED], answer: Assembled, out:
     }
 }
 
-pub(crate) fn say_joined(stdout: &mut [u8; BUFFERED], answer: Joined, out: &[u8]) {
+pub(crate) fn say_joined(stdout: &mut Buffered, answer: Joined, out: &[u8]) {
     match answer {
         Joined::Written {
             nodes,
@@ -114,7 +114,7 @@ pub(crate) fn say_joined(stdout: &mut [u8; BUFFERED], answer: Joined, out: &[u8]
     }
 }
 
-pub(crate) fn say_watched(stdout: &mut [u8; BUFFERED], answer: Verdict, out: &[u8]) {
+pub(crate) fn say_watched(stdout: &mut Buffered, answer: Verdict, out: &[u8]) {
     match answer {
         Verdict::Clean => say(stdout, b": clean\n"),
         Verdict::Bad(n) => {

@@ -4,9 +4,9 @@ ghost use Rattle.std.specs.Prelude.{◌≤◌, length};
 use crate::answers::{say_assembled, say_judged};
 use crate::lengths::{OUTPUT, two_bytes, work_buffer, work_length};
 use files::record::Record;
-use printing::stdout::BUFFERED;
+use printing::stdout::Buffered;
 
-fn assemble_on(stdout: &mut [u8; BUFFERED], deliveries: &[u8], out: &mut [u8], room: usize)
+fn assemble_on(stdout: &mut Buffered, deliveries: &[u8], out: &mut [u8], room: usize)
     requires { room ≤ length out.old }
 {
     let answer = files::assemble(deliveries, &mut out[..room]);
@@ -14,7 +14,7 @@ fn assemble_on(stdout: &mut [u8; BUFFERED], deliveries: &[u8], out: &mut [u8], r
 }
 
 // Assembling. The example starts with the output's length, two bytes, low byte first; the deliveries follow.
-pub(crate) fn assemble_standing(stdout: &mut [u8; BUFFERED], example: &[u8]) {
+pub(crate) fn assemble_standing(stdout: &mut Buffered, example: &[u8]) {
     if example.len() < 2 {
         return;
     }
@@ -24,7 +24,7 @@ pub(crate) fn assemble_standing(stdout: &mut [u8; BUFFERED], example: &[u8]) {
 }
 
 fn judge_on(
-    stdout: &mut [u8; BUFFERED],
+    stdout: &mut Buffered,
     deliveries: &[u8],
     property: &[u8],
     out: &mut [u8],
@@ -48,7 +48,7 @@ fn judge_on(
 
 // Judging. The example starts with the lengths of the deliveries and of the output, two bytes each, low byte first, then 1 for a store of the published length or 0
 // for none, and the same for a work buffer; the deliveries and the property follow.
-pub(crate) fn judge_standing(stdout: &mut [u8; BUFFERED], example: &[u8]) {
+pub(crate) fn judge_standing(stdout: &mut Buffered, example: &[u8]) {
     if example.len() < Record::LEN {
         return;
     }

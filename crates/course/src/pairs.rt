@@ -5,7 +5,7 @@ use crate::answers::{say_compared, say_judged, say_modelled};
 use crate::lengths::{OUTPUT, two_bytes, work_buffer, work_length};
 use files::check::Checked;
 use files::record::{Limits, Record};
-use printing::stdout::BUFFERED;
+use printing::stdout::Buffered;
 
 pub(crate) fn check(letter: u8, file: &[u8]) -> Checked {
     if letter == b'g' {
@@ -21,7 +21,7 @@ pub(crate) fn check(letter: u8, file: &[u8]) -> Checked {
 }
 
 fn call_on(
-    stdout: &mut [u8; BUFFERED],
+    stdout: &mut Buffered,
     letter: u8,
     first: &[u8],
     second: &[u8],
@@ -48,7 +48,7 @@ fn call_on(
 
 // A call on two files. The example starts with the first file's length and the output's length, two bytes each, low byte first, then 1 for a work buffer of the
 // published length or 0 for none, then 0; the first file and the second follow.
-pub(crate) fn call(stdout: &mut [u8; BUFFERED], letter: u8, example: &[u8]) {
+pub(crate) fn call(stdout: &mut Buffered, letter: u8, example: &[u8]) {
     if example.len() < Record::LEN {
         return;
     }

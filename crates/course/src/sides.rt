@@ -3,12 +3,12 @@ ghost use Rattle.std.specs.Prelude.{◌≤◌, length};
 
 use crate::answers::{say_joined, say_refused};
 use crate::lengths::{OUTPUT, two_bytes};
-use printing::stdout::BUFFERED;
+use printing::stdout::Buffered;
 use printing::{say, say_bytes};
 use runs::answers::Shown;
 
 fn join_on(
-    stdout: &mut [u8; BUFFERED],
+    stdout: &mut Buffered,
     interface1: &[u8],
     graph1: &[u8],
     interface2: &[u8],
@@ -23,7 +23,7 @@ fn join_on(
 }
 
 // Joining. The example starts with the lengths of the first three files and of the output, two bytes each, low byte first; the four files follow.
-pub(crate) fn join_sides(stdout: &mut [u8; BUFFERED], example: &[u8]) {
+pub(crate) fn join_sides(stdout: &mut Buffered, example: &[u8]) {
     if example.len() < 8 {
         return;
     }
@@ -47,7 +47,7 @@ pub(crate) fn join_sides(stdout: &mut [u8; BUFFERED], example: &[u8]) {
 }
 
 // Showing. The example starts with the first graph's length and the number, two bytes each, low byte first; both graphs follow.
-pub(crate) fn show_node(stdout: &mut [u8; BUFFERED], example: &[u8]) {
+pub(crate) fn show_node(stdout: &mut Buffered, example: &[u8]) {
     if example.len() < 4 {
         return;
     }

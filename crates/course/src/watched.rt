@@ -3,11 +3,11 @@ ghost use Rattle.std.specs.Prelude.{◌≤◌, length};
 
 use crate::answers::say_watched;
 use crate::lengths::{OUTPUT, two_bytes, work_buffer, work_length};
-use printing::stdout::BUFFERED;
+use printing::stdout::Buffered;
 use runs::answers::Verdict;
 
 fn watch_on(
-    stdout: &mut [u8; BUFFERED],
+    stdout: &mut Buffered,
     interface: &[u8],
     graph: &[u8],
     rules: &[u8],
@@ -32,7 +32,7 @@ fn watch_on(
 
 // Watching. The example starts with the lengths of the first two files and of the output, two bytes each, low byte first, then 1 for a work buffer of the published
 // length or 0 for none, and the start method; the three files follow.
-pub(crate) fn watch_runs(stdout: &mut [u8; BUFFERED], example: &[u8]) {
+pub(crate) fn watch_runs(stdout: &mut Buffered, example: &[u8]) {
     if example.len() < 8 {
         return;
     }
@@ -83,7 +83,7 @@ fn composed(
 }
 
 fn compose_on(
-    stdout: &mut [u8; BUFFERED],
+    stdout: &mut Buffered,
     both: bool,
     interface1: &[u8],
     first: &[u8],
@@ -122,7 +122,7 @@ fn store_letter(both: bool) -> u8 {
 
 // The composed verdict. The example starts with the lengths of the first four files and of the output, two bytes each, low byte first, then 1 for a store of the
 // published length or 0 for none, the same for a work buffer, and the start method; the five files follow.
-pub(crate) fn compose_sides(stdout: &mut [u8; BUFFERED], both: bool, example: &[u8]) {
+pub(crate) fn compose_sides(stdout: &mut Buffered, both: bool, example: &[u8]) {
     if example.len() < 13 {
         return;
     }

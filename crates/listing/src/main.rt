@@ -1,15 +1,17 @@
 // The model program: reads an interface record and a property on standard input and prints the maximal model, six decimals to a line, or a refusal's number.
 #![tactic(auto)]
+
 ghost use Rattle.std.specs.Prelude.{◌≡◌, min, length};
 ghost use Rattle.files.specs.Places.{graph_room};
 ghost use Rattle.maximal.specs.Places.{model_room};
 
 use files::record::{Limits, Record};
-use libc::STDIN_FILENO;
 use maximal::answers::Modelled;
 use maximal::places::Places;
-use printing::stdout::{BUFFERED, flush, stdout};
+use printing::input::read_full;
+use printing::stdout::{Buffered, finish, stdout};
 use printing::{say, say_decimal, say_graph};
+use std::io;
 
 // Bytes past these stay unread.
 const LONGEST: usize = 60000;
@@ -27,7 +29,7 @@ fn cut(n: usize) -> usize
     Record::LEN
 }
 
-fn list(stdout: &mut [u8; BUFFERED], input: &[u8], out: &mut [u8], work: &mut [u8]) {
+fn list(stdout: &mut Buffered, input: &[u8], out: &mut [u8], work: &mut [u8]) {
     let at = cut(input.len());
     match maximal::model(&input[..at], &input[at..], out, work) {
         Modelled::Written(nodes, edges) => {
@@ -52,12 +54,12 @@ fn work_buffer() -> [u8; Places::ROOM]
     [0; Places::ROOM]
 }
 
-fn main() {
+fn main(rt: HostRuntime) -> io::Result<()> {
     let mut input = [0u8; LONGEST];
-    let n = io::read_full(STDIN_FILENO, &mut input);
+    let n = read_full(&mut rt.stdin(), &mut input);
     let mut out = output();
     let mut work = work_buffer();
-    let mut stdout = stdout();
+    let mut stdout = stdout(rt);
     list(&mut stdout, &input[..n], &mut out, &mut work);
-    flush(&mut stdout);
+    finish(stdout)
 }

@@ -1,51 +1,48 @@
-// What the programs print on standard output: words, numbers, and bytes as decimals, a record or a relation's line to a line. What is printed is tested, not proved; it is proved
-// that nothing is read past its end and that every call returns.
+// What the programs print on standard output: words, numbers, and bytes as decimals, a record or a relation's line to a line; and what they are given, arguments and files. What is
+// printed is tested, not proved; it is proved that nothing is read past its end and that every call returns.
 #![tactic(auto)]
-ghost use Rattle.std.specs.Prelude.{◌≡◌, min};
-ghost use Rattle.io.specs.Counts.{IsPrefixLen};
 
+ghost use Rattle.std.specs.Prelude.{◌≡◌, min};
+ghost use Rattle.printing.specs.Places.{IsPrefixLen};
+
+pub mod input;
 mod parts;
 pub mod stdout;
 
 use crate::parts::{say_line, say_record};
-use crate::stdout::{BUFFERED, put};
-use files::cells::wide;
+use crate::stdout::{Buffered, put};
 use files::encode::LINE;
 use files::record::Record;
+use itoa::Buffer;
 
-pub fn say(stdout: &mut [u8; BUFFERED], words: &[u8]) {
-    let mut i = 0;
-    while i < words.len() {
-        put(stdout, words[i]);
-        i += 1;
+pub fn say(stdout: &mut Buffered, words: &[u8]) {
+    for b in words {
+        put(stdout, *b);
     }
 }
 
-pub fn say_decimal(stdout: &mut [u8; BUFFERED], n: u64) {
-    let mut digits = [0u8; 20];
-    let k = io::decimal(n, &mut digits);
-    say(stdout, &digits[..k]);
+pub fn say_decimal(stdout: &mut Buffered, n: u64) {
+    let mut digits = Buffer::new();
+    say(stdout, digits.format(n).as_bytes());
 }
 
 // A number after a space.
-pub fn say_number(stdout: &mut [u8; BUFFERED], n: u64) {
+pub fn say_number(stdout: &mut Buffered, n: u64) {
     say(stdout, b" ");
     say_decimal(stdout, n);
 }
 
-fn say_byte(stdout: &mut [u8; BUFFERED], b: u8) {
+fn say_byte(stdout: &mut Buffered, b: u8) {
     say_number(stdout, b as u64);
 }
 
 // Bytes as decimals, in a line.
-pub fn say_bytes(stdout: &mut [u8; BUFFERED], bytes: &[u8]) {
-    if bytes.len() > 0 {
-        say_decimal(stdout, wide(bytes[0]) as u64);
-    }
-    let mut i = 1;
-    while i < bytes.len() {
-        say_byte(stdout, bytes[i]);
-        i += 1;
+pub fn say_bytes(stdout: &mut Buffered, bytes: &[u8]) {
+    if let [first, others @ ..] = bytes {
+        say_decimal(stdout, *first as u64);
+        for b in others {
+            say_byte(stdout, *b);
+        }
     }
     say(stdout, b"\n");
 }
@@ -64,28 +61,24 @@ pub fn end_of(out: &[u8], bytes: usize) -> usize
 }
 
 // The first n records of what a call wrote, or all that there are.
-pub fn say_records(stdout: &mut [u8; BUFFERED], out: &[u8], n: usize) {
+pub fn say_records(stdout: &mut Buffered, out: &[u8], n: usize) {
     let end = at_most(n, out.len() / Record::LEN);
-    let mut i = 0;
-    while i < end {
+    for i in 0..end {
         say_record(stdout, out, i);
-        i += 1;
     }
 }
 
 // The records of so many nodes and edges.
-pub fn say_graph(stdout: &mut [u8; BUFFERED], out: &[u8], nodes: usize, edges: usize) {
+pub fn say_graph(stdout: &mut Buffered, out: &[u8], nodes: usize, edges: usize) {
     let all = out.len() / Record::LEN;
     let first = at_most(nodes, all);
     say_records(stdout, out, first + at_most(edges, all - first));
 }
 
 // The lines of a relation.
-pub fn say_lines(stdout: &mut [u8; BUFFERED], out: &[u8]) {
+pub fn say_lines(stdout: &mut Buffered, out: &[u8]) {
     let end = out.len() / LINE;
-    let mut g = 0;
-    while g < end {
+    for g in 0..end {
         say_line(stdout, out, g);
-        g += 1;
     }
 }

@@ -3,12 +3,12 @@ ghost use Rattle.std.specs.Prelude.{◌+◌, ◌*◌, ◌≤◌, length};
 ghost use Rattle.files.specs.Places.{record_len};
 
 use crate::say_bytes;
-use crate::stdout::BUFFERED;
+use crate::stdout::Buffered;
 use files::encode::LINE;
 use files::record::Record;
 
 // Record i of what a call wrote.
-pub(crate) fn say_record(stdout: &mut [u8; BUFFERED], out: &[u8], i: usize)
+pub(crate) fn say_record(stdout: &mut Buffered, out: &[u8], i: usize)
     requires { record_len * i + record_len ≤ length out.now }
 {
     let p = Record::LEN * i;
@@ -16,7 +16,7 @@ pub(crate) fn say_record(stdout: &mut [u8; BUFFERED], out: &[u8], i: usize)
 }
 
 // Line g of a relation.
-pub(crate) fn say_line(stdout: &mut [u8; BUFFERED], out: &[u8], g: usize)
+pub(crate) fn say_line(stdout: &mut Buffered, out: &[u8], g: usize)
     requires { 32 * g + 32 ≤ length out.now }
 {
     let p = LINE * g;

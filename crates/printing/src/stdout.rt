@@ -1,53 +1,77 @@
-// Standard output by the bufferful. A reference to a struct is no parameter that the proofs cover, so a buffer carries its own count: 65,536 bytes of text, then how many of them
-// are used, as four bytes. Nothing is asked of its contents: a count past the end counts as full.
+// Standard output by the bufferful: 65,536 bytes of text, how many of them are used, and the runtime that they go to. The first failed write is kept until the end, so that what
+// prints has no failure to pass on; nothing is written behind it.
 ghost use Rattle.std.specs.Prelude.{◌≡◌, ◌≤◌, length};
-ghost use Rattle.printing.specs.Places.{buffered, text_room};
+ghost use Rattle.printing.specs.Places.{text_room};
 
-use crate::{at_most, end_of};
-use files::cells::{get32, put32};
-use libc::STDOUT_FILENO;
+use crate::end_of;
+use std::io;
 
 // Bytes written at once.
 const ROOM: usize = 65536;
 
-// A buffer's bytes: the text and its count.
-pub const BUFFERED: usize = ROOM + 4;
-
-// A buffer with nothing in it.
-pub fn stdout() -> [u8; BUFFERED]
-    ensures { buffered ≡ length result }
-{
-    [0; BUFFERED]
+pub struct Buffered {
+    pub rt: HostRuntime,
+    text: [u8; ROOM],
+    used: usize,
+    outcome: io::Result<()>,
+    ghost in_room: { used ≤ text_room },
 }
 
-fn used(stdout: &[u8; BUFFERED]) -> usize
+// A buffer with nothing in it.
+pub fn stdout(rt: HostRuntime) -> Buffered
+    ensures empty { result.used ≡ 0 }
+    ensures room { text_room ≡ length result.text }
+{
+    Buffered {
+        rt,
+        text: [0; ROOM],
+        used: 0,
+        outcome: Ok(()),
+    }
+}
+
+fn used(stdout: &Buffered) -> usize
     ensures { result ≤ text_room }
 {
-    at_most(get32(stdout, ROOM, 0) as usize, ROOM)
+    stdout.used
 }
 
 // The first n bytes, or all that there are.
-fn write_first(bytes: &[u8], n: usize) {
+fn write_first(rt: HostRuntime, bytes: &[u8], n: usize) -> io::Result<()> {
     let end = end_of(bytes, n);
-    io::write_all(STDOUT_FILENO, &bytes[..end]);
+    rt.write_all(&bytes[..end])
 }
 
 // Writes what the buffer holds and empties it.
-pub fn flush(stdout: &mut [u8; BUFFERED]) {
+pub fn flush(stdout: &mut Buffered) {
     let end = used(stdout);
-    write_first(stdout, end);
-    put32(stdout, ROOM, 0, 0);
+    if stdout.outcome.is_ok() {
+        stdout.outcome = write_first(stdout.rt, &stdout.text, end);
+    }
+    stdout.used = 0;
 }
 
 // One byte more, behind a full buffer's writing.
-pub(crate) fn put(stdout: &mut [u8; BUFFERED], b: u8) {
+pub(crate) fn put(stdout: &mut Buffered, b: u8) {
     let full = used(stdout) == ROOM;
     if full {
         flush(stdout);
     }
     let at = used(stdout);
     if at < ROOM {
-        stdout[at] = b;
-        put32(stdout, ROOM, 0, (at + 1) as u32);
+        stdout.text[at] = b;
+        stdout.used = at + 1;
     }
+}
+
+// Writes what the buffer still holds, and answers the first failure of all writes.
+pub fn finish(mut stdout: Buffered) -> io::Result<()> {
+    flush(&mut stdout);
+    let Buffered {
+        rt: _,
+        text: _,
+        used: _,
+        outcome,
+    } = stdout;
+    outcome
 }
