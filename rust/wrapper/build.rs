@@ -1,4 +1,4 @@
-//! Links the static library that `rt staticlib exports` writes below target/ of the repository.
+//! Links the static library that `rt lib` in crates/exports makes, and that the gate copies below target/ of the repository.
 
 use std::path::PathBuf;
 
