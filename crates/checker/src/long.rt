@@ -11,8 +11,8 @@ use crate::text::list;
 use printing::stdout::Buffered;
 
 // The longest file of these that is read: all 255 revisions of all eight methods, each round of them within the limits, 8 openings, 256 nodes and 4,096 edges of six bytes. The
-// stack is all the memory there is, 8 MiB by default, and what the program has beside this buffer takes less than 1, so arguments and environment have 0.8 left. Unoptimised, as
-// in `rt try`, it has the buffer three times, and these commands do not fit.
+// buffer stands on the stack, 8 MiB by default, and what the program has beside it takes less than 1, so arguments and environment have 0.8 left. Unoptimised, as
+// in `rt try`, the program has it three times, and these commands do not fit.
 const LONGEST: usize = Lengths::FILE;
 
 #[derive(Clone, Copy)]

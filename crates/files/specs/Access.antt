@@ -45,7 +45,7 @@ edge_held e = record { from = e.from; label = e.label; to = e.to }
 abbrev pub row_held : Row → PropertyRow
 row_held x = record { operator = (row_rec x).first; a = (row_rec x).second; b = (row_rec x).third }
 
--- whether a row as it is read looks along a label, and at which row (Boxes, `looks-obliged`: what the row obliges to)
+-- whether a row as it is read looks along a label, and at which row (Boxes, `looks_obliged`: what the row obliges to)
 abbrev pub looks : PropertyRow → ℕ → Looks
 looks x l = record { along = aims x.operator x.a l; at = box_row x.operator x.a x.b }
 

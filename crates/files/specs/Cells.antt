@@ -1,5 +1,5 @@
 -- Numbers of several bytes, bits and runs of bytes, as they stand in a lent list of bytes, and the list after one of them is stored. The code's stores equal these.
-use Rattle.std.specs.Prelude.{Bool, List, ◌++◌, ℕ, zero, suc, ◌+◌, ◌*◌, ◌-◌, ◌/◌, ◌%◌, ◌^◌, eqb, length, get_or, set, take, drop}
+use Rattle.std.specs.Prelude.{Bool, List, ◌++◌, ℕ, zero, suc, ◌+◌, ◌*◌, ◌/◌, ◌%◌, ◌^◌, eqb, length, get_or, set, take, drop}
 use Rattle.std.specs.Int.Bits.{bit_or}
 use Rattle.files.specs.Places.{byte_end}
 pub mod Laws

@@ -1,4 +1,4 @@
-// What the call of this layer answers. The definition `assembled-answer` of specs/ gives the paper's number and values for each case.
+// What the call of this layer answers. The definition `assembled_answer` of specs/ gives the paper's number and values for each case.
 use crate::refusal::Refusal;
 
 // The standing graph of a file of deliveries, with its nodes and edges counted.

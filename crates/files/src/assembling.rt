@@ -1,5 +1,5 @@
 // Assembling a file of deliveries: all refusals in the published order, then the standing graph's bytes. States to the layer above that the answer and the output are those of
-// the definition `assembled-outcome`, for any limits within which a node number is a byte.
+// the definition `assembled_outcome`, for any limits within which a node number is a byte.
 ghost use Rattle.std.specs.Prelude.{◌≤◌, length};
 ghost use Rattle.files.specs.Assemble.{DeliveriesFile, assemble_first, assemble_said, from_standing, assembled_outcome, assembled_answer};
 ghost use Rattle.files.specs.Outcome.{Answers, answered};

@@ -1,5 +1,5 @@
 // 14 of a file of deliveries, and which of them stand. States of `repeats` that it tells 14, and of `latest_openings` that it has, for each method, the opening kept by one pass
-// over the file, which `latest-stands` says is that of the highest revision.
+// over the file, which `latest_stands` says is that of the highest revision.
 ghost use Rattle.std.specs.Prelude.{◌≡◌, ◌+◌, ◌≤◌, ◌<◌, length};
 ghost use Rattle.files.specs.Record.{count};
 ghost use Rattle.files.specs.Deliveries.{decode_deliveries, repeated};

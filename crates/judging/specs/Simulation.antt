@@ -46,11 +46,11 @@ pub refined : Graph → Graph → ℕ → ℕ → ℕ → Bool
 refined G H zero g h = true
 refined G H (suc k) g h = keeps G H (refined G H k) g h
 
--- the largest simulation (Laws, `related-simulation` and `largest`)
+-- the largest simulation (Laws, `related_simulation` and `largest`)
 pub related : Graph → Graph → ℕ → ℕ → Bool
 related G H g h = ltb g (size G) && (ltb h (size H) && refined G H (size G * size H) g h)
 
--- the same, computed: an entry of the second is related to g by the largest simulation (Laws, `covered-e` and `covered-i`)
+-- the same, computed: an entry of the second is related to g by the largest simulation (Laws, `covered_e` and `covered_i`)
 pub covered : Graph → Graph → ℕ → Bool
 covered G H g = any (λ (h : ℕ). (node H h).entry && related G H g h) (upto (size H))
 

@@ -1,4 +1,4 @@
-// What the calls of this layer answer. The definitions `judged-answer` and `compared-answer` of specs/ give the paper's number and values for each case.
+// What the calls of this layer answer. The definitions `judged_answer` and `compared_answer` of specs/ give the paper's number and values for each case.
 use files::refusal::Refusal;
 
 // Whether a graph satisfies a property; a failure carries the number of records of its fault sheet.

@@ -1,5 +1,5 @@
 -- The composed verdict of two sides that are both not written yet: what the call answers and writes, from the bytes of its files, the start method and the lengths of its buffers.
-use Rattle.std.specs.Prelude.{◌⊎◌, ◌||◌, List, ℕ, ◌+◌, ◌*◌, ◌<◌}
+use Rattle.std.specs.Prelude.{◌⊎◌, ◌||◌, List, ℕ, ◌*◌, ◌<◌}
 use Rattle.files.specs.Decode.{decode_property, decode_interface, decode_rules}
 use Rattle.files.specs.Graph.{Graph}
 use Rattle.files.specs.Interface.{Interface, united}

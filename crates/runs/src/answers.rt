@@ -1,4 +1,4 @@
-// What the calls of this layer answer. The definitions `joined-answer`, `shown-answer` and `verdict-answer` of specs/ give the paper's number and values for
+// What the calls of this layer answer. The definitions `joined_answer`, `shown_answer` and `verdict_answer` of specs/ give the paper's number and values for
 // each case.
 use files::refusal::Refusal;
 

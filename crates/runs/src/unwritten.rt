@@ -1,5 +1,5 @@
 // The composed verdict of two unwritten sides: refusals in the published order, then both models in `store`, one behind the other, joined in `work`, and the runs watched. States
-// to the layer above that the answer, the output and both buffers are those of the definition `composed-both`, for any limits that the buffers allow.
+// to the layer above that the answer, the output and both buffers are those of the definition `composed_both`, for any limits that the buffers allow.
 ghost use Rattle.std.specs.Prelude.{◌≡◌, ◌*◌, ◌+◌, ◌≤◌, length, take, drop};
 ghost use Rattle.files.specs.Access.{RulesFile};
 ghost use Rattle.files.specs.Decode.{decode_graph, decode_rules};

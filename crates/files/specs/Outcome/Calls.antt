@@ -1,5 +1,5 @@
 -- Which numbers each call can be refused by, and with which files, in the published order: one table from document 01. The lines of each call are shown to be its row
--- (`judge-row` .. `compose-row`, beside the calls), so that no line can be left out of a call's definition and of its checks alike.
+-- (`judge_row` .. `compose_row`, beside the calls), so that no line can be left out of a call's definition and of its checks alike.
 use Rattle.std.specs.Prelude.{◌≡◌, Bool, true, false, cond, ◌&&◌, List, [], ◌∷◌, ◌++◌, ℕ, suc, leb}
 use Rattle.files.specs.Deliveries.{Delivers}
 use Rattle.files.specs.Outcome.{Lines, no_lines, line, file_lines, numbered_lines}

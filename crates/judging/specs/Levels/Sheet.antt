@@ -53,7 +53,7 @@ module _ (G : Graph) where
   targets g x = each (λ (e : Edge). obliged_pair e.to (obliged x e.label)) (keep (λ (e : Edge). eqb e.from g) G.edges)
 
 module _ (G : Graph) (P : List Row) where
-  -- '"And" has the lower-ranked false operand, ties to a'. (The rank of a row that holds is past every other: Ranks, `rank-bound` and `low-false`.)
+  -- '"And" has the lower-ranked false operand, ties to a'. (The rank of a row that holds is past every other: Ranks, `rank_bound` and `low_false`.)
   unfoldable pub lower : ℕ → ℕ → ℕ → ℕ
   lower g a b = cond (leb (rank G P g a) (rank G P g b)) a b
 

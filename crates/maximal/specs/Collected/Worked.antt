@@ -1,5 +1,5 @@
--- Rows worked one after the other. `worked-fulfilled`: every "and" that is worked has its operands in the set, every "or" one in the set's completion. `ended`: where the taking
--- of rows stops, all are worked, or the row that was to be taken next is an open "or". `looked-stopped` and `looked-named`: in every set that is looked at, rows were worked
+-- Rows worked one after the other. `worked_fulfilled`: every "and" that is worked has its operands in the set, every "or" one in the set's completion. `ended`: where the taking
+-- of rows stops, all are worked, or the row that was to be taken next is an open "or". `looked_stopped` and `looked_named`: in every set that is looked at, rows were worked
 -- from the highest down, and `bound` is the set's completion.
 use Rattle.std.specs.Prelude.{◌≡◌, ◌⊎◌, Bool, true, false, not, ◌&&◌, ◌||◌, List, T, eqb, ltb, length}
 use Rattle.std.proofs.Math.Path.{refl}

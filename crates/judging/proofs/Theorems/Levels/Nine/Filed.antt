@@ -16,7 +16,7 @@ use Rattle.judging.specs.Levels.Nine.Filed.{all_in, all_nine_in, row_in, spelled
 
 -- ---- the file
 
--- sixteen rows more for each operator 10 (Laws, `all-nine-length`), and those alone must fit: no "or" comes
+-- sixteen rows more for each operator 10 (Laws, `all_nine_length`), and those alone must fit: no "or" comes
 pub all_nine_filed : (L : Limits) (P : List Row) → FiledRows L P → length (all_nine P) ≤ L.rows → FiledRows L (all_nine P)
 all_nine_filed L P f fits = record {
   rows_named = all_nine_property P f.rows_named;
