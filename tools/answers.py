@@ -12,12 +12,10 @@ import glob
 import json
 import os
 import re
-import shutil
 import sys
 
 FIELD = r"[^\s(){}\[\];,.@\"]+"
 PATH = re.compile(rf"(?<![\w.'_-])([A-Za-z_][\w'₀-₉-]*)((?:\.{FIELD})+)")
-PATH_END = "→λ"
 
 
 def norm(word):
@@ -343,10 +341,8 @@ def turn(crate, path, of, params, folder):
             cur.append(l)
     if cur:
         blocks.append("\n".join(cur))
-    needs = [b for b in blocks if NEED.match(b)]
     old = {norm(o): (o, n) for o, n in of["needs"]}
     invariants, answers, local = [], [], []
-    used_goals = set()
     for b in blocks:
         m = INVARIANT.match(b)
         if m:
@@ -392,7 +388,6 @@ def turn(crate, path, of, params, folder):
                 continue
             more = args.split()[2 if goal.split("-")[-1] == "requires" or "-requires-" in goal else 1:]
             answers.append(f"{comment}pub {goal} : goal.{goal}\n{unfolding}{goal} {' '.join(['c'] + more)} ={new}")
-            used_goals.add(goal)
             continue
         local.append(fn.lemma(b) if "tie." in b else b)
     proofs = f"Rattle.{crate}.proofs.{path}"

@@ -225,6 +225,16 @@ def cites(text, names):
     return {n for n in names if ("[]" in flat if n == "[]" else n in words if "◌" not in n else n in words or all(f"{x}" in flat for x in operator(n)))}
 
 
+def goes_whole(comment, gone):
+    """Whether all that a section's comment stands over goes; then it goes along."""
+    after, beside = [], comment.parent.children
+    for n in beside[beside.index(comment) + 1 :]:
+        if n.kind == "comment":
+            break
+        after += [n] if n.kind == "decl" else list(decls_in(n))
+    return bool(after) and all(n.name in gone for n in after)
+
+
 def main(argv):
     crate, seeds = argv[0], argv[1:]
     base = f"crates/{crate}/specs/"
@@ -293,17 +303,7 @@ def main(argv):
                             unfold.add(found[w])
             return out
 
-        def section(c):
-            # a section's comment goes along where all of its section goes
-            after = []
-            sib = c.parent.children
-            for x in sib[sib.index(c) + 1 :]:
-                if x.kind == "comment":
-                    break
-                after += [x] if x.kind == "decl" else list(decls_in(x))
-            return bool(after) and all(x.name in gone for x in after)
-
-        body = f.emit(lambda n: n.name in gone if n.kind == "decl" else section(n), edit)
+        body = f.emit(lambda n: n.name in gone if n.kind == "decl" else goes_whole(n, gone), edit)
         headers = "\n".join(n.text() for d in f.decls.values() if d.name in gone for n in d.chain())
         for s in cites(headers, set(f.decls) - gone):
             needs.add(s)
@@ -331,8 +331,6 @@ def main(argv):
         if needs:
             lines.append(f"use {mod}.{{{', '.join(sorted(needs))}}}")
         texts[new_of(mod)] = (f, mod, lines, body)
-        keep = f.emit(lambda n: n.name not in gone if n.kind == "decl" else not section(n))
-        f.stay = keep
     # what they open can be opened from there, and what they use of their old file can be named
     for mod, f in files.items():
         own = {n for m, n in unfold if m == mod}
@@ -363,20 +361,13 @@ def main(argv):
         gone = {n for m, n in moved if m == mod}
         path = f"crates/{crate}/proofs/" + new.split(".proofs.")[1].replace(".", "/") + ".antt"
         os.makedirs(os.path.dirname(path), exist_ok=True)
-        # opened names of the same file
-        def again(n):
-            return n.name in gone
-        for n in f.decls.values():
-            pass
         rel = mod.split(".specs.")[1].replace(".", "/")
         with open(path, "w", encoding="utf-8") as out:
             out.write(f"-- Of specs/{rel}, the theorems that an edit of a definition breaks.\n" + "\n".join(lines) + "\n\n" + body + "\n")
     for mod, f in files.items():
         gone = {n for m, n in moved if m == mod}
         if gone or f.changed:
-            text = f.emit(lambda n: n.name not in gone if n.kind == "decl" else True) if not gone else f.emit(
-                lambda n: n.name not in gone if n.kind == "decl" else not _section(n, gone)
-            )
+            text = f.emit(lambda n: n.name not in gone if n.kind == "decl" else not goes_whole(n, gone))
             top = "\n".join(f.head + f.uses + f.mods)
             with open(f.path, "w", encoding="utf-8") as out:
                 out.write(top + "\n" + ("\n" + text + "\n" if text else ""))
@@ -395,7 +386,7 @@ def main(argv):
         mods = "".join(f"pub mod {b}\n" for b in sorted(below))
         if have:
             ls = have.split("\n")
-            k = max((i for i, l in enumerate(ls) if l.startswith(("use ", "--"))), default=-1) if False else next(i for i, l in enumerate(ls + [""]) if not l.startswith(("--", "use ")))
+            k = next(i for i, l in enumerate(ls + [""]) if not l.startswith(("--", "use ")))
             have = "\n".join(ls[:k]) + "\n" + mods + "\n".join(ls[k:])
         else:
             have = mods
@@ -436,16 +427,6 @@ def main(argv):
                 f.write("\n".join(out))
     print(f"theorems: {len(moved)} of {crate} moved, from {len(texts)} files; {len(unfold)} opened, {len(publish)} used of their old files")
     return 0
-
-
-def _section(c, gone):
-    after = []
-    sib = c.parent.children
-    for x in sib[sib.index(c) + 1 :]:
-        if x.kind == "comment":
-            break
-        after += [x] if x.kind == "decl" else list(decls_in(x))
-    return bool(after) and all(x.name in gone for x in after)
 
 
 if __name__ == "__main__":
