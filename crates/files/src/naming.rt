@@ -8,7 +8,7 @@ ghost use Rattle.files.specs.FileKind.{kind_of};
 ghost use Rattle.files.specs.Checking.{test, found_at, bound_of, names_past, Sound};
 ghost use Rattle.files.specs.declared.record.Parsed.TheVariants.{Wrong, Other};
 
-use crate::offence::{FileKind, Found, unread};
+use crate::offence::{FileKind, unread};
 use crate::parse::{parse_edge, parse_node, parse_row, read};
 use crate::record::{Operator, Parsed, Record};
 use crate::refusal::Refusal;
@@ -46,21 +46,21 @@ pub(crate) fn name_nodes(
     i: usize,
     first: usize,
     position: u8,
-) -> Found
+) -> Result<(), Refusal>
     requires { (Sound graph records.now) × ((nodes ≡ nodes_of records.now) × ((i < count records.now) × (first + i < usize_end))) }
     ensures { result ≡ found_at 2 7 (test graph records.now) first position i }
 {
     let Parsed::Edge { from, to, .. } = parse_edge(records, i) else {
-        return Found::Nothing;
+        return Ok(());
     };
     let Parsed::Node { method, .. } = node_named(records, nodes, from) else {
-        return Found::At(Refusal::at(7, position, first + i));
+        return Err(Refusal::at(7, position, first + i));
     };
     let beside = node_beside(records, nodes, to, method);
     let Parsed::Node { .. } = beside else {
-        return Found::At(unread(beside, 7, position, first + i));
+        return Err(unread(beside, 7, position, first + i));
     };
-    Found::Nothing
+    Ok(())
 }
 
 // A row's record names a row that is not below n.
@@ -87,14 +87,20 @@ fn row_within(records: &[u8], rows: usize, i: usize) -> Parsed
 }
 
 // 7 of a row: the rows that it names are there.
-fn name_rows(records: &[u8], rows: usize, i: usize, first: usize, position: u8) -> Found
+fn name_rows(
+    records: &[u8],
+    rows: usize,
+    i: usize,
+    first: usize,
+    position: u8,
+) -> Result<(), Refusal>
     requires { (Sound property records.now) × ((rows ≡ count records.now) × ((i < count records.now) × (first + i < usize_end))) }
     ensures { result ≡ found_at 2 7 (test property records.now) first position i }
 {
     let Parsed::Row { .. } = row_within(records, rows, i) else {
-        return Found::At(Refusal::at(7, position, first + i));
+        return Err(Refusal::at(7, position, first + i));
     };
-    Found::Nothing
+    Ok(())
 }
 
 // Numbers 7 and 8 at record i, where so many nodes or rows can be named: the lower that applies, or nothing. Rules and interfaces name none.
@@ -105,14 +111,14 @@ pub(crate) fn name(
     i: usize,
     first: usize,
     position: u8,
-) -> Found
+) -> Result<(), Refusal>
     requires { (Sound (kind_of kind) records.now) × ((bound ≡ bound_of (kind_of kind) records.now) × ((i < count records.now) × (first + i < usize_end))) }
     ensures { result ≡ found_at 2 7 (test (kind_of kind) records.now) first position i }
 {
     match kind {
         FileKind::Graph => name_nodes(records, bound, i, first, position),
         FileKind::Property => name_rows(records, bound, i, first, position),
-        FileKind::Rules => Found::Nothing,
-        FileKind::Interface => Found::Nothing,
+        FileKind::Rules => Ok(()),
+        FileKind::Interface => Ok(()),
     }
 }

@@ -22,13 +22,6 @@ pub enum FileKind {
     Interface,
 }
 
-// What was found: nothing, or a refusal.
-#[derive(Clone, Copy)]
-pub enum Found {
-    Nothing,
-    At(Refusal),
-}
-
 // Whether (a, b, c) comes strictly before (x, y, z).
 fn before3(a: u8, b: u8, c: u8, x: u8, y: u8, z: u8) -> bool
     ensures { result ≡ before (a ∷ b ∷ c ∷ []) (x ∷ y ∷ z ∷ []) }
@@ -96,36 +89,41 @@ pub(crate) fn unread(p: Parsed, low: u8, position: u8, record: usize) -> Refusal
 }
 
 // A record of kind 1 in a graph.
-fn look_node(records: &[u8], i: usize, first: usize, position: u8) -> Found
+fn look_node(records: &[u8], i: usize, first: usize, position: u8) -> Result<(), Refusal>
     requires { (record_len * i + record_len ≤ length records.now) × ((first + i < usize_end) × (kind_at records.now i ≡ 1)) }
     ensures { result ≡ found_at 3 2 (test graph records.now) first position i }
 {
     if edge_before(records, i) {
-        return Found::At(Refusal::at(2, position, first + i));
+        return Err(Refusal::at(2, position, first + i));
     }
     let p = parse_node(records, i);
     let Parsed::Node { .. } = p else {
-        return Found::At(unread(p, 2, position, first + i));
+        return Err(unread(p, 2, position, first + i));
     };
-    Found::Nothing
+    Ok(())
 }
 
 // A record of a graph that is no node: an edge, or misplaced.
-fn look_edge(records: &[u8], i: usize, first: usize, position: u8) -> Found
+fn look_edge(records: &[u8], i: usize, first: usize, position: u8) -> Result<(), Refusal>
     requires { (record_len * i + record_len ≤ length records.now) × ((first + i < usize_end) × (kind_at records.now i ≡ 1 → ⊥)) }
     ensures { result ≡ found_at 3 2 (test graph records.now) first position i }
 {
     let p = parse_edge(records, i);
     let Parsed::Edge { .. } = p else {
-        return Found::At(unread(p, 2, position, first + i));
+        return Err(unread(p, 2, position, first + i));
     };
     if edge_disordered(records, i) {
-        return Found::At(Refusal::at(4, position, first + i));
+        return Err(Refusal::at(4, position, first + i));
     }
-    Found::Nothing
+    Ok(())
 }
 
-pub(crate) fn look_graph(records: &[u8], i: usize, first: usize, position: u8) -> Found
+pub(crate) fn look_graph(
+    records: &[u8],
+    i: usize,
+    first: usize,
+    position: u8,
+) -> Result<(), Refusal>
     requires { (record_len * i + record_len ≤ length records.now) × (first + i < usize_end) }
     ensures { result ≡ found_at 3 2 (test graph records.now) first position i }
 {
@@ -135,48 +133,54 @@ pub(crate) fn look_graph(records: &[u8], i: usize, first: usize, position: u8) -
     look_edge(records, i, first, position)
 }
 
-fn look_row(records: &[u8], i: usize, first: usize, position: u8) -> Found
+fn look_row(records: &[u8], i: usize, first: usize, position: u8) -> Result<(), Refusal>
     requires { (record_len * i + record_len ≤ length records.now) × (first + i < usize_end) }
     ensures { result ≡ found_at 3 2 (test property records.now) first position i }
 {
     let p = parse_row(records, i);
     let Parsed::Row { .. } = p else {
-        return Found::At(unread(p, 2, position, first + i));
+        return Err(unread(p, 2, position, first + i));
     };
-    Found::Nothing
+    Ok(())
 }
 
-fn look_rule(records: &[u8], i: usize, first: usize, position: u8) -> Found
+fn look_rule(records: &[u8], i: usize, first: usize, position: u8) -> Result<(), Refusal>
     requires { (record_len * i + record_len ≤ length records.now) × (first + i < usize_end) }
     ensures { result ≡ found_at 3 2 (test rules records.now) first position i }
 {
     let p = parse_rule(records, i);
     let Parsed::Rule { .. } = p else {
-        return Found::At(unread(p, 2, position, first + i));
+        return Err(unread(p, 2, position, first + i));
     };
     if rule_disordered(records, i) {
-        return Found::At(Refusal::at(4, position, first + i));
+        return Err(Refusal::at(4, position, first + i));
     }
-    Found::Nothing
+    Ok(())
 }
 
 // An interface file holds one record: a second one is out of place.
-fn look_interface(records: &[u8], i: usize, first: usize, position: u8) -> Found
+fn look_interface(records: &[u8], i: usize, first: usize, position: u8) -> Result<(), Refusal>
     requires { (record_len * i + record_len ≤ length records.now) × (first + i < usize_end) }
     ensures { result ≡ found_at 3 2 (test interface records.now) first position i }
 {
     if 1 <= i {
-        return Found::At(Refusal::at(2, position, first + i));
+        return Err(Refusal::at(2, position, first + i));
     }
     let p = parse_interface(records, i);
     let Parsed::Interface { .. } = p else {
-        return Found::At(unread(p, 2, position, first + i));
+        return Err(unread(p, 2, position, first + i));
     };
-    Found::Nothing
+    Ok(())
 }
 
 // Numbers 2 to 4 at record i, which is record `first + i` of the file: the lowest that applies, or nothing.
-pub(crate) fn look(kind: FileKind, records: &[u8], i: usize, first: usize, position: u8) -> Found
+pub(crate) fn look(
+    kind: FileKind,
+    records: &[u8],
+    i: usize,
+    first: usize,
+    position: u8,
+) -> Result<(), Refusal>
     requires { (record_len * i + record_len ≤ length records.now) × (first + i < usize_end) }
     ensures { result ≡ found_at 3 2 (test (kind_of kind) records.now) first position i }
 {

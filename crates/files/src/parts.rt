@@ -10,7 +10,7 @@ ghost use Rattle.files.specs.Deliveries.Steps.{delivery_test};
 
 use crate::check::over;
 use crate::naming::name_nodes;
-use crate::offence::{FileKind, Found};
+use crate::offence::FileKind;
 use crate::parse::{kind_at, read};
 use crate::record::{Limits, Record};
 use crate::refusal::Refusal;
@@ -92,20 +92,20 @@ pub(crate) fn passed_deliveries(file: &[u8], limits: Limits) -> bool
 }
 
 // 8 of a node: it is of another method than its opening.
-fn name_own(file: &[u8], part: Part, i: usize, position: u8) -> Found
+fn name_own(file: &[u8], part: Part, i: usize, position: u8) -> Result<(), Refusal>
     requires { (SoundParts file.now) × ((i < count file.now) × ((Held file.now i part) × (kind_at file.now i ≡ 1))) }
     ensures { result ≡ found_at 2 7 (delivery_test file.now) 0 position i }
 {
     let opening = read(file, part.start - 1);
     let node = read(file, i);
     if node.first == opening.first {
-        return Found::Nothing;
+        return Ok(());
     }
-    Found::At(Refusal::at(8, position, i))
+    Err(Refusal::at(8, position, i))
 }
 
 // 7 and 8 of an edge, in the graph that its delivery is.
-fn name_edge(file: &[u8], part: Part, i: usize, position: u8) -> Found
+fn name_edge(file: &[u8], part: Part, i: usize, position: u8) -> Result<(), Refusal>
     requires { (SoundParts file.now) × ((i < count file.now) × ((Held file.now i part) × ((kind_at file.now i ≡ 1 → ⊥) × (kind_at file.now i ≡ 6 → ⊥)))) }
     ensures { result ≡ found_at 2 7 (delivery_test file.now) 0 position i }
 {
@@ -120,13 +120,13 @@ fn name_edge(file: &[u8], part: Part, i: usize, position: u8) -> Found
     )
 }
 
-fn name_delivery(file: &[u8], part: Part, i: usize, position: u8) -> Found
+fn name_delivery(file: &[u8], part: Part, i: usize, position: u8) -> Result<(), Refusal>
     requires { (SoundParts file.now) × ((i < count file.now) × (Held file.now i part)) }
     ensures { result ≡ found_at 2 7 (delivery_test file.now) 0 position i }
 {
     let kind = kind_at(file, i);
     if kind == Record::OPENING {
-        return Found::Nothing;
+        return Ok(());
     }
     if kind == Record::NODE {
         return name_own(file, part, i, position);
@@ -146,12 +146,12 @@ fn next_part(file: &[u8], part: Part, i: usize) -> Part
 }
 
 // The lower of numbers 7 and 8, at its first record.
-pub(crate) fn name_deliveries(file: &[u8], position: u8) -> Found
+pub(crate) fn name_deliveries(file: &[u8], position: u8) -> Result<(), Refusal>
     requires { SoundParts file.now }
     ensures { result ≡ lowest 2 7 (delivery_test file.now) 0 position (count file.now) }
 {
     let n = file.len() / Record::LEN;
-    let mut found = Found::Nothing;
+    let mut found = Ok(());
     let mut part = Part {
         start: 0,
         end: 0,

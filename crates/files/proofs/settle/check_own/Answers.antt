@@ -2,7 +2,7 @@
 use native.Mathlib.Omega.{arith}
 use Rattle.files.specs.Decode.{decode_interface}
 use Rattle.files.specs.Sides.Reads.{record_found, none_found}
-use Rattle.files.proofs.settle.own_settled.Goals as goal
+use Rattle.files.proofs.settle.check_own.Goals as goal
 
 pub returns-then-foreign-graph : goal.returns-then-foreign-graph
 returns-then-foreign-graph c = let f = c.first_foreign-foreign in rw (c.at.ensures, record_found (decode_interface c.args.interface.now) c.args.graph.now f.result f.ensures (omega (arith, c.if-foreign-graph.true)))
