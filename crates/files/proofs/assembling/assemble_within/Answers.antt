@@ -1,16 +1,14 @@
 -- Where the checks pass the file is accepted, and the rest gives the standing graph.
-use mathlib.Core.Path.{refl}
 use lib.ListN.{length}
 use Rattle.files.specs.Assemble.{assemble_first, assemble_said, from_standing}
 use Rattle.files.specs.Assemble.Work.{assembled_outcome_is, assemble_known}
-use Rattle.files.specs.Outcome.{Passed}
 use Rattle.files.specs.Settling.Calls.{refused_answers, worked_answers}
-use Rattle.files.specs.Settling.Laws.{handed_on, hands_on}
+use Rattle.files.specs.Settling.Laws.{handed_on}
 use Rattle.files.proofs.assembling.assemble_within.Goals as goal
 
 pub assemble_standing-requires : goal.assemble_standing-requires
 assemble_standing-requires c =
-    (assemble_known c.args.limits c.args.deliveries.now c.requires.0 c.requires.1 (hands_on {y = Passed} c.check_assemble.ensures c.in_ok-check_assemble.was refl), c.requires)
+    (assemble_known c.args.limits c.args.deliveries.now c.requires.0 c.requires.1 (c.in_ok-check_assemble.ensures), c.requires)
 
 pub returns-in_err-check_assemble : goal.returns-in_err-check_assemble
 returns-in_err-check_assemble c =
