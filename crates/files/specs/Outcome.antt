@@ -6,6 +6,7 @@ use Rattle.files.specs.Basics.First.{whole, Finds}
 use Rattle.files.specs.declared.check.FileCounts.{FileCounts}
 use Rattle.files.specs.declared.record.Limits.{Limits}
 use Rattle.files.specs.declared.refusal.Refusal.{Refusal}
+use Rattle.files.specs.declared.view.GraphView.{GraphView}
 use Rattle.files.specs.Graph.{Graph, size}
 use Rattle.files.specs.Refusal.{Kind, findings}
 use Rattle.files.specs.Table.{Applies}
@@ -34,6 +35,13 @@ Checked = Result FileCounts Refusal
 
 abbrev pub Accepted : ℕ → ℕ → Checked
 Accepted n c = Ok (record { nodes = n; records = c })
+
+-- what a call answers that writes a graph: its nodes and edges counted, or a refusal
+abbrev pub GraphAnswer : Type 0
+GraphAnswer = Result GraphView Refusal
+
+abbrev pub Written : ℕ → ℕ → GraphAnswer
+Written n e = Ok (record { nodes = n; edges = e })
 
 -- A verdict: 1 for holds, yes, written, shown and clean, 2 for fails, no and bad; its values; and the bytes of the result.
 pub record Said : Type 0 where

@@ -3,7 +3,7 @@ use Rattle.std.specs.Prelude.{◌≡◌, refl, ◌↔◌, Ok, Err, cond, List, [
 use Rattle.std.proofs.Common.{sym, ap, ap₂, subst, ◌∙◌}
 use Rattle.std.proofs.Math.Option.{none}
 use Rattle.std.proofs.Math.Dec.{lit<}
-use Rattle.files.specs.Assemble.{standing_graph, Taken, assemble_said, assemble_checks, assemble_lines, assembled_outcome, Assembled, Written, assembled_answer}
+use Rattle.files.specs.Assemble.{standing_graph, Taken, assemble_said, assemble_checks, assemble_lines, assembled_outcome, Assembled, assembled_answer}
 use Rattle.files.specs.Assemble.Laws.{assemble_refused, assemble_accepted, assemble_says, appended}
 use Rattle.files.specs.Basics.Permuted.{Permuted}
 use Rattle.files.specs.Decode.{decode_graph, graph_bytes}
@@ -12,7 +12,7 @@ use Rattle.files.specs.Deliveries.{Delivery, decode_deliveries, deliveries_bytes
 use Rattle.files.specs.Deliveries.Blocks.{body_of}
 use Rattle.files.specs.Deliveries.Written.{Opened}
 use Rattle.files.specs.Graph.{Graph, size, node}
-use Rattle.files.specs.Outcome.{Said, Outcome, Answer, Answers, answer, out_after, refusal_at, NoneOf, Lines}
+use Rattle.files.specs.Outcome.{Written, Said, Outcome, Answer, Answers, answer, out_after, refusal_at, NoneOf, Lines}
 use Rattle.files.specs.Outcome.Meaning.{Decided, Refuses, Wrote, Enum, Heard, itself, heard_itself, only_verdict, outcome_case, said_iff, refuses_by, wrote_by}
 use Rattle.files.specs.Places.{record_len}
 use Rattle.files.specs.Refusal.{graph, refusal}
