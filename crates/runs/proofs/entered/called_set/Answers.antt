@@ -11,8 +11,8 @@ use Rattle.runs.proofs.SearchLaws.{node_small, edge_owned, first_fits, last_fits
 use Rattle.runs.proofs.entered.called_set.Goals as goal
 use Rattle.runs.proofs.entered.called_set.Goals.{else-e-gt0, then-e-gt0}
 
-pub get16-j-requires : goal.get16-j-requires
-get16-j-requires c =
+pub get16-first-requires : goal.get16-first-requires
+get16-first-requires c =
     let a = c.args in
     let hn = node_in a.s a.graph.now a.rules.now c.requires.0 a.g c.requires.1.0 in
     first_fits a.s a.graph.now a.rules.now c.requires.0 a.g a.work.now hn c.requires.1.1.0
@@ -33,10 +33,8 @@ pub loop-j-init : goal.loop-j-init
 loop-j-init c =
     let a = c.args in
     let hn = node_in a.s a.graph.now a.rules.now c.requires.0 a.g c.requires.1.0 in
-    let e = last_is a.s a.graph.now a.rules.now c.requires.0 a.g a.work.now hn _ c.requires.1.1.1 c.get16-last.ensures in
-    let f = first_is a.s a.graph.now a.rules.now c.requires.0 a.g a.work.now hn _ c.requires.1.1.1 c.get16-j.ensures in (
+    let f = first_is a.s a.graph.now a.rules.now c.requires.0 a.g a.work.now hn _ c.requires.1.1.1 c.get16-first.ensures in (
       omega (arith, f),
-      omega (arith, f, e, first_last a.s a.graph.now a.rules.now c.requires.0 a.g),
       called_none (decode_graph a.graph.now) (watch (decode_rules a.rules.now))
           a.g _ f,
     )
@@ -64,12 +62,6 @@ one_state-set-requires c =
           (member_edge a.s a.graph.now a.rules.now c.requires.0 l.j d.0),
     )
 
-pub overflow_add-j : goal.overflow_add-j
-overflow_add-j c = omega (arith, c.loop-j-test.true)
-
-pub loop-j-smaller : goal.loop-j-smaller
-loop-j-smaller c = omega (arith, c.loop-j-test.true)
-
 pub loop-j-preserved : goal.loop-j-preserved
 loop-j-preserved c =
     let a = c.args in
@@ -79,12 +71,11 @@ loop-j-preserved c =
     let h = c.edge_at-e.ensures in
     let lab = label_is a.s a.graph.now a.rules.now c.requires.0 l.j d.0 _ h in (
       omega (arith, l.invariant.0),
-      omega (arith, c.loop-j-test.true),
       elim c.if-e-gt0.branch [
         | then-e-gt0 w ↦ subst (CalledTo (decode_graph a.graph.now) (watch (decode_rules a.rules.now)) a.g (l.j + 1)) (sym w.set-is)
-            (called_more (decode_graph a.graph.now) (watch (decode_rules a.rules.now)) a.g l.j l.set l.invariant.0 l.invariant.2 _ w.one_state-set.result lab w.if-e-gt0.true w.one_state-set.ensures)
+            (called_more (decode_graph a.graph.now) (watch (decode_rules a.rules.now)) a.g l.j l.set l.invariant.0 l.invariant.1 _ w.one_state-set.result lab w.if-e-gt0.true w.one_state-set.ensures)
         | else-e-gt0 w ↦ subst (CalledTo (decode_graph a.graph.now) (watch (decode_rules a.rules.now)) a.g (l.j + 1)) (sym w.set-is)
-            (called_same (decode_graph a.graph.now) (watch (decode_rules a.rules.now)) a.g l.j l.set l.invariant.0 l.invariant.2 _ lab (omega (arith, w.if-e-gt0.false)))
+            (called_same (decode_graph a.graph.now) (watch (decode_rules a.rules.now)) a.g l.j l.set l.invariant.0 l.invariant.1 _ lab (omega (arith, w.if-e-gt0.false)))
       ],
     )
 
@@ -94,4 +85,5 @@ returns c =
     let l = c.loop-j in
     let hn = node_in a.s a.graph.now a.rules.now c.requires.0 a.g c.requires.1.0 in
     let e = last_is a.s a.graph.now a.rules.now c.requires.0 a.g a.work.now hn _ c.requires.1.1.1 c.get16-last.ensures in
-    called_all (decode_graph a.graph.now) (watch (decode_rules a.rules.now)) a.g l.j l.set (omega (arith, e, l.invariant.1, c.loop-j-test.false)) l.invariant.2
+    let f = first_is a.s a.graph.now a.rules.now c.requires.0 a.g a.work.now hn _ c.requires.1.1.1 c.get16-first.ensures in
+    called_all (decode_graph a.graph.now) (watch (decode_rules a.rules.now)) a.g l.j l.set (omega (arith, e, c.loop-j.auto.j-end (omega (arith, f, e, first_last a.s a.graph.now a.rules.now c.requires.0 a.g)), c.loop-j-test.false)) l.invariant.1

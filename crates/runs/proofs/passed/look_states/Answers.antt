@@ -30,12 +30,6 @@ push-end-requires c =
     may_pass a.s a.graph.now a.rules.now c.requires.0 a.start a.head l.end l.work a.g a.q at a.j c.requires.1.0 c.requires.1.1.0 a.label a.to a.ends c.requires.1.1.1.0 c.requires.1.1.1.1.0 c.requires.1.1.1.1.1.0 c.requires.1.1.1.1.1.1.0 l.r c.loop-r-test.true
     c.has_state.result c.has_state.ensures c.if-has_state.true may
 
-pub overflow_add-r : goal.overflow_add-r
-overflow_add-r c = omega (arith, c.loop-r-test.true)
-
-pub loop-r-smaller : goal.loop-r-smaller
-loop-r-smaller c = omega (arith, c.loop-r-test.true)
-
 pub loop-r-preserved : goal.loop-r-preserved
 loop-r-preserved c =
     let a = c.args in

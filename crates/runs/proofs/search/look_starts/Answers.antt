@@ -17,12 +17,6 @@ look_start-end-requires c =
     let h = c.loop-n-test.true in
     (c.requires.0, (h, (omega (arith, l.invariant.1.longer), one_may (decode_graph a.graph.now) (watch (decode_rules a.rules.now)) a.start 0 (the_starts (decode_graph a.graph.now) (watch (decode_rules a.rules.now)) a.start) 1 a.work.now l.n l.work l.end l.invariant (starts_next (decode_graph a.graph.now) (watch (decode_rules a.rules.now)) a.start l.n (node_in a.s a.graph.now a.rules.now c.requires.0 l.n h)) c.requires.1)))
 
-pub overflow_add-n : goal.overflow_add-n
-overflow_add-n c = omega (arith, c.loop-n-test.true)
-
-pub loop-n-smaller : goal.loop-n-smaller
-loop-n-smaller c = omega (arith, c.loop-n-test.true)
-
 pub loop-n-preserved : goal.loop-n-preserved
 loop-n-preserved c =
     let a = c.args in

@@ -1,4 +1,3 @@
-use mathlib.Core.Path.{refl, ◌∙◌}
 use Prim.Native.Nat.{ℕ}
 use native.Mathlib.Nat.{lt_trans}
 use native.Mathlib.Omega.{arith}
@@ -16,16 +15,10 @@ use Rattle.runs.proofs.summaries.seed.Goals as goal
 pub loop-g-init : goal.loop-g-init
 loop-g-init c =
     let a = c.args in
-    (omega arith, refl, grew_none (decode_graph a.graph.now) (watch (decode_rules a.rules.now)) 0 a.work.now c.requires.1, λ n p h. absurd (omega arith))
+    (grew_none (decode_graph a.graph.now) (watch (decode_rules a.rules.now)) 0 a.work.now c.requires.1, λ n p h. absurd (omega arith))
 
 pub seed_node-end-requires : goal.seed_node-end-requires
-seed_node-end-requires c = let l = c.loop-g in (c.requires.0, (c.loop-g-test.true, l.invariant.2.holding))
-
-pub overflow_add-g : goal.overflow_add-g
-overflow_add-g c = omega (arith, c.loop-g-test.true, c.requires.0.held.few_nodes)
-
-pub loop-g-smaller : goal.loop-g-smaller
-loop-g-smaller c = omega (arith, c.loop-g-test.true)
+seed_node-end-requires c = let l = c.loop-g in (c.requires.0, (c.loop-g-test.true, l.invariant.0.holding))
 
 pub loop-g-preserved : goal.loop-g-preserved
 loop-g-preserved c =
@@ -33,13 +26,11 @@ loop-g-preserved c =
     let a = c.args in
     let l = c.loop-g in
     let x = c.seed_node-end in (
-      omega (arith, if1.true),
-      x.auto.work ∙ l.invariant.1,
-      grew_on (decode_graph a.graph.now) (watch (decode_rules a.rules.now)) 0 l.end x.result a.work.now l.work x.new.work l.invariant.2 x.ensures.0,
+      grew_on (decode_graph a.graph.now) (watch (decode_rules a.rules.now)) 0 l.end x.result a.work.now l.work x.new.work l.invariant.0 x.ensures.0,
       λ n p h hp t. below_more (λ (i : ℕ). T (node (decode_graph a.graph.now) i).entry → T (member (reach x.new.work i p) p)) l.g
-          (λ i hi u. x.ensures.0.reach_kept i p p (node_in a.s a.graph.now a.rules.now c.requires.0 i (lt_trans hi if1.true)) hp (l.invariant.3 i p hi hp u)) (λ u. x.ensures.1 u p hp) n
+          (λ i hi u. x.ensures.0.reach_kept i p p (node_in a.s a.graph.now a.rules.now c.requires.0 i (lt_trans hi if1.true)) hp (l.invariant.1 i p hi hp u)) (λ u. x.ensures.1 u p hp) n
           h t,
     )
 
 pub returns : goal.returns
-returns c = let l = c.loop-g in (l.invariant.2, λ n p h. l.invariant.3 n p (omega (arith, c.loop-g-test.false, h)))
+returns c = let l = c.loop-g in (l.invariant.0, λ n p h. l.invariant.1 n p (omega (arith, c.loop-g-test.false, h)))

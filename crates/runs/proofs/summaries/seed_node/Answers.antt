@@ -1,4 +1,3 @@
-use mathlib.Core.Path.{refl, ◌∙◌}
 use Prim.Native.Nat.{ℕ}
 use native.Mathlib.Nat.{lt_trans}
 use native.Mathlib.Omega.{arith}
@@ -30,7 +29,7 @@ returns-then-not-v c =
 pub loop-p-init : goal.loop-p-init
 loop-p-init c =
     let a = c.args in
-    (omega arith, refl, grew_none (decode_graph a.graph.now) (watch (decode_rules a.rules.now)) a.tail a.work.now c.requires.1.1, λ i h. absurd (omega arith))
+    (grew_none (decode_graph a.graph.now) (watch (decode_rules a.rules.now)) a.tail a.work.now c.requires.1.1, λ i h. absurd (omega arith))
 
 pub one_state-requires : goal.one_state-requires
 one_state-requires c = omega arith
@@ -40,14 +39,8 @@ add-end-requires c =
     let loop-test = c.loop-p-test in
     let a = c.args in
     let l = c.loop-p in
-    may_add a.s a.graph.now a.rules.now c.requires.0 l.end l.work l.invariant.2.holding a.g l.p c.one_state.result
+    may_add a.s a.graph.now a.rules.now c.requires.0 l.end l.work l.invariant.0.holding a.g l.p c.one_state.result
     (node_in a.s a.graph.now a.rules.now c.requires.0 a.g c.requires.1.0) loop-test.true (omega arith)
-
-pub overflow_add-p : goal.overflow_add-p
-overflow_add-p c = omega arith
-
-pub loop-p-smaller : goal.loop-p-smaller
-loop-p-smaller c = omega arith
 
 pub loop-p-preserved : goal.loop-p-preserved
 loop-p-preserved c =
@@ -59,14 +52,12 @@ loop-p-preserved c =
     let x = c.add-end in
     let y = c.one_state in
     let d = seeds a.s a.graph.now a.rules.now c.requires.0 a.g _ c.requires.1.0
-    node_at.ensures if1.false l.end l.work l.invariant.2.holding l.p y.result
+    node_at.ensures if1.false l.end l.work l.invariant.0.holding l.p y.result
     loop-test.true (omega arith) y.ensures x.result x.new.work x.ensures in (
-      omega (arith, loop-test.true),
-      x.auto.work ∙ l.invariant.1,
-      grew_on (decode_graph a.graph.now) (watch (decode_rules a.rules.now)) a.tail l.end x.result a.work.now l.work x.new.work l.invariant.2 d.0,
+      grew_on (decode_graph a.graph.now) (watch (decode_rules a.rules.now)) a.tail l.end x.result a.work.now l.work x.new.work l.invariant.0 d.0,
       below_more (λ (i : ℕ). T (member (reach x.new.work a.g i) i)) l.p
-          (λ i h. d.0.reach_kept a.g i i (node_in a.s a.graph.now a.rules.now c.requires.0 a.g c.requires.1.0) (lt_trans h loop-test.true) (l.invariant.3 i h)) d.1,
+          (λ i h. d.0.reach_kept a.g i i (node_in a.s a.graph.now a.rules.now c.requires.0 a.g c.requires.1.0) (lt_trans h loop-test.true) (l.invariant.1 i h)) d.1,
     )
 
 pub returns : goal.returns
-returns c = let l = c.loop-p in (l.invariant.2, λ t i h. l.invariant.3 i (omega (arith, c.loop-p-test.false, h)))
+returns c = let l = c.loop-p in (l.invariant.0, λ t i h. l.invariant.1 i (omega (arith, c.loop-p-test.false, h)))
