@@ -11,24 +11,6 @@ use Rattle.runs.proofs.SearchLaws.{node_small, edge_owned, first_fits, last_fits
 use Rattle.runs.proofs.entered.called_set.Goals as goal
 use Rattle.runs.proofs.entered.called_set.Goals.{else-e-gt0, then-e-gt0}
 
-pub get16-first-requires : goal.get16-first-requires
-get16-first-requires c =
-    let a = c.args in
-    let hn = node_in a.s a.graph.now a.rules.now c.requires.0 a.g c.requires.1.0 in
-    first_fits a.s a.graph.now a.rules.now c.requires.0 a.g a.work.now hn c.requires.1.1.0
-
-pub overflow_add-g : goal.overflow_add-g
-overflow_add-g c =
-    let a = c.args in
-    let hn = node_in a.s a.graph.now a.rules.now c.requires.0 a.g c.requires.1.0 in
-    omega (arith, node_small a.s a.graph.now a.rules.now c.requires.0 a.g hn)
-
-pub get16-last-requires : goal.get16-last-requires
-get16-last-requires c =
-    let a = c.args in
-    let hn = node_in a.s a.graph.now a.rules.now c.requires.0 a.g c.requires.1.0 in
-    last_fits a.s a.graph.now a.rules.now c.requires.0 a.g a.work.now hn c.requires.1.1.0
-
 pub loop-j-init : goal.loop-j-init
 loop-j-init c =
     let a = c.args in

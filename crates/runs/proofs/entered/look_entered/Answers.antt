@@ -12,24 +12,6 @@ use Rattle.runs.proofs.SearchLaws.{Upto, series_start, series_here, series_end, 
 use Rattle.runs.proofs.entered.look_entered.Goals as goal
 use Rattle.runs.proofs.entered.look_entered.Goals.{else-has_state, then-has_state}
 
-pub loop-l-init : goal.loop-l-init
-loop-l-init c = let a = c.args in series_start (decode_graph a.graph.now) (watch (decode_rules a.rules.now)) a.start a.head (the_entereds (decode_graph a.graph.now) (watch (decode_rules a.rules.now)) a.start (place a.g a.q)) a.tail a.work.now 1 refl
-
-pub overflow_sub-l : goal.overflow_sub-l
-overflow_sub-l c =
-    let l = c.loop-l in
-    omega (arith, l.auto.l)
-
-pub overflow_cast-l : goal.overflow_cast-l
-overflow_cast-l c =
-    let l = c.loop-l in
-    omega (arith, l.auto.l)
-
-pub has_state-requires : goal.has_state-requires
-has_state-requires c =
-    let l = c.loop-l in
-    omega (arith, l.auto.l, c.loop-l-test.true)
-
 pub enter-end-requires : goal.enter-end-requires
 enter-end-requires c =
     let a = c.args in

@@ -8,11 +8,6 @@ use Rattle.runs.proofs.SearchLaws.{series_start, series_here, series_end, one_ma
 use Rattle.runs.proofs.SummaryLaws.{node_in}
 use Rattle.runs.proofs.entered.look_entries.Goals as goal
 
-pub loop-n-init : goal.loop-n-init
-loop-n-init c =
-    let a = c.args in
-    series_start (decode_graph a.graph.now) (watch (decode_rules a.rules.now)) a.start a.head (the_entries (decode_graph a.graph.now) (watch (decode_rules a.rules.now)) a.start (place a.g a.q) a.l) a.tail a.work.now 0 (entries_first (decode_graph a.graph.now) (watch (decode_rules a.rules.now)) a.start (place a.g a.q) a.l)
-
 pub look_entry-end-requires : goal.look_entry-end-requires
 look_entry-end-requires c =
     let a = c.args in

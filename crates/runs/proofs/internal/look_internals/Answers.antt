@@ -7,27 +7,6 @@ use Rattle.runs.specs.Searching.Outgoing.{internals_out}
 use Rattle.runs.proofs.SearchLaws.{series_start, series_here, series_end, one_may, one_looked, the_internals, internals_next, node_small, first_fits, last_fits, first_is, edge_owned, edges_past}
 use Rattle.runs.proofs.internal.look_internals.Goals as goal
 
-pub get16-first-requires : goal.get16-first-requires
-get16-first-requires c =
-    let a = c.args in
-    first_fits a.s a.graph.now a.rules.now c.requires.0 a.g a.work.now c.requires.1.0.at_node c.requires.1.1.searching.room
-
-pub overflow_add-g : goal.overflow_add-g
-overflow_add-g c =
-    let a = c.args in
-    omega (arith, node_small a.s a.graph.now a.rules.now c.requires.0 a.g c.requires.1.0.at_node)
-
-pub get16-last-requires : goal.get16-last-requires
-get16-last-requires c =
-    let a = c.args in
-    last_fits a.s a.graph.now a.rules.now c.requires.0 a.g a.work.now c.requires.1.0.at_node c.requires.1.1.searching.room
-
-pub loop-j-init : goal.loop-j-init
-loop-j-init c =
-    let a = c.args in
-    let f = first_is a.s a.graph.now a.rules.now c.requires.0 a.g a.work.now c.requires.1.0.at_node _ c.requires.1.1.searching.tables c.get16-first.ensures in
-    (omega (arith, f), series_start (decode_graph a.graph.now) (watch (decode_rules a.rules.now)) a.start a.head (the_internals (decode_graph a.graph.now) (watch (decode_rules a.rules.now)) a.start (place a.g a.q)) a.tail a.work.now _ (ap (internals (decode_graph a.graph.now) (watch (decode_rules a.rules.now)) (place a.g a.q)) (sym f)))
-
 pub look_internal-end-requires : goal.look_internal-end-requires
 look_internal-end-requires c =
     let a = c.args in

@@ -9,17 +9,6 @@ use Rattle.runs.proofs.SearchLaws.{Upto, series_start, series_here, series_end, 
 use Rattle.runs.proofs.passed.look_states.Goals as goal
 use Rattle.runs.proofs.passed.look_states.Goals.{else-has_state, then-has_state}
 
-pub loop-r-init : goal.loop-r-init
-loop-r-init c = let a = c.args in series_start (decode_graph a.graph.now) (watch (decode_rules a.rules.now)) a.start a.head (the_states (decode_graph a.graph.now) (watch (decode_rules a.rules.now)) a.start (place a.g a.q) a.j) a.tail a.work.now 0 refl
-
-pub has_state-requires : goal.has_state-requires
-has_state-requires c = c.loop-r-test.true
-
-pub overflow_cast-g : goal.overflow_cast-g
-overflow_cast-g c =
-    let a = c.args in
-    omega (arith, node_small a.s a.graph.now a.rules.now c.requires.0 a.g c.requires.1.1.1.1.1.1.1.0.at_node)
-
 pub push-end-requires : goal.push-end-requires
 push-end-requires c =
     let a = c.args in

@@ -6,11 +6,6 @@ use Rattle.runs.specs.Worklist.Growth.{grew_none}
 use Rattle.runs.proofs.SummaryLaws.{node_in, may_add, row_more}
 use Rattle.runs.proofs.points.add_each.Goals as goal
 
-pub loop-p-init : goal.loop-p-init
-loop-p-init c =
-    let a = c.args in
-    (grew_none (decode_graph a.graph.now) (watch (decode_rules a.rules.now)) a.tail a.work.now c.requires.1.1.0, λ i h. absurd (omega (arith, h)))
-
 pub add-end-requires : goal.add-end-requires
 add-end-requires c =
     let a = c.args in
@@ -26,6 +21,3 @@ loop-p-preserved c =
     let n = row_more a.s a.graph.now a.rules.now c.requires.0 a.tail l.end a.work.now l.work l.invariant.0 a.g c.requires.1.0 a.row.now c.requires.1.1.1 l.p h l.invariant.1
     x.result x.new.work x.ensures in
     n
-
-pub returns : goal.returns
-returns c = let l = c.loop-p in (l.invariant.0, λ p h. l.invariant.1 p (omega (arith, c.loop-p-test.false, h)))

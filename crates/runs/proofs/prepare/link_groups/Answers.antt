@@ -9,12 +9,6 @@ use Rattle.runs.proofs.PrepareLaws.{opened_below, opened_on}
 use Rattle.runs.specs.Regions.{label_heads_base, label_nexts_base}
 use Rattle.runs.proofs.prepare.link_groups.Goals as goal
 
-pub loop-e-init : goal.loop-e-init
-loop-e-init c = (c.requires.1.1, λ q d. refl)
-
-pub opened_label-label-requires : goal.opened_label-label-requires
-opened_label-label-requires c = (c.requires.0, c.loop-e-test.true)
-
 pub link-requires : goal.link-requires
 link-requires c =
     let a = c.args in

@@ -10,9 +10,6 @@ use Rattle.runs.proofs.PrepareLaws.{put_outside, few_first}
 use Rattle.runs.specs.Regions.{firsts_base, label_heads_base}
 use Rattle.runs.proofs.prepare.put_firsts.Goals as goal
 
-pub put16-requires : goal.put16-requires
-put16-requires c = omega (arith, c.requires.1)
-
 pub loop-g-init : goal.loop-g-init
 loop-g-init c =
     let a = c.args in
@@ -23,18 +20,10 @@ loop-g-init c =
       λ q d. refl,
     )
 
-pub next_first-first-requires : goal.next_first-first-requires
-next_first-first-requires c = (c.requires.0.held.views.graph_file, c.requires.0.held.views.nodes_are, c.loop-g.invariant.0)
-
 pub overflow_cast-first : goal.overflow_cast-first
 overflow_cast-first c =
     let a = c.args in
     omega (arith, c.next_first-first.ensures, few_first a.s a.graph.now a.rules.now c.requires.0 (c.loop-g.g + 1))
-
-pub put16-requires-in-loop-g : goal.put16-requires-in-loop-g
-put16-requires-in-loop-g c =
-    let z = c.put16 in
-    omega (arith, c.loop-g-test.true, c.requires.0.held.few_nodes, c.requires.1, z.auto.work)
 
 pub loop-g-preserved : goal.loop-g-preserved
 loop-g-preserved c =

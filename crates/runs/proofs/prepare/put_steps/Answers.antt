@@ -5,24 +5,6 @@ use Rattle.runs.specs.Prepared.{SteppedFrom}
 use Rattle.runs.proofs.PrepareLaws.{steps_all}
 use Rattle.runs.proofs.prepare.put_steps.Goals as goal
 
-pub start_steps-requires : goal.start_steps-requires
-start_steps-requires c = c.requires
-
-pub loop-j-init : goal.loop-j-init
-loop-j-init c = (c.start_steps.ensures.0, λ q d. refl)
-
-pub put_rule-requires : goal.put_rule-requires
-put_rule-requires c =
-    let l = c.loop-j in
-    let t = c.loop-j-test.true in
-    let e : l.j ≡ l.j - 1 + 1 = omega (arith, t) in (
-      c.requires.0,
-      (
-        omega (arith, t),
-        (omega (arith, c.start_steps.auto.work, c.requires.1), subst (λ (n : ℕ). SteppedFrom c.args.rules.now n l.work) e l.invariant.0),
-      ),
-    )
-
 pub loop-j-preserved : goal.loop-j-preserved
 loop-j-preserved c =
     let l = c.loop-j in

@@ -6,15 +6,6 @@ use Rattle.runs.proofs.PrepareLaws.{put_outside, steps_none}
 use Rattle.runs.specs.Regions.{firsts_base, monitor_base}
 use Rattle.runs.proofs.prepare.start_steps.Goals as goal
 
-pub loop-i-init : goal.loop-i-init
-loop-i-init c = ((λ u h. absurd (omega arith)), λ q d. refl)
-
-pub overflow_cast-i : goal.overflow_cast-i
-overflow_cast-i c = omega arith
-
-pub put8-requires : goal.put8-requires
-put8-requires c = omega (arith, c.loop-i-test.true, c.requires.1)
-
 pub loop-i-preserved : goal.loop-i-preserved
 loop-i-preserved c =
     let l = c.loop-i in

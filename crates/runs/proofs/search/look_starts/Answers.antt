@@ -7,9 +7,6 @@ use Rattle.runs.proofs.SearchLaws.{series_start, series_end, one_may, one_looked
 use Rattle.runs.proofs.SummaryLaws.{node_in}
 use Rattle.runs.proofs.search.look_starts.Goals as goal
 
-pub loop-n-init : goal.loop-n-init
-loop-n-init c = let a = c.args in series_start (decode_graph a.graph.now) (watch (decode_rules a.rules.now)) a.start 0 (the_starts (decode_graph a.graph.now) (watch (decode_rules a.rules.now)) a.start) 1 a.work.now 0 (starts_first (decode_graph a.graph.now) (watch (decode_rules a.rules.now)) a.start)
-
 pub look_start-end-requires : goal.look_start-end-requires
 look_start-end-requires c =
     let a = c.args in

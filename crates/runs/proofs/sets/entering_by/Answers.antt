@@ -9,27 +9,9 @@ use Rattle.files.specs.Rules.{watch, calls}
 use Rattle.runs.proofs.SummaryLaws.{placed_more}
 use Rattle.runs.proofs.sets.entering_by.Goals as goal
 
-pub loop-a-init : goal.loop-a-init
-loop-a-init c = (refl, λ b h. absurd (omega (arith, h)))
-
-pub overflow_add-a : goal.overflow_add-a
-overflow_add-a c = omega (arith, c.loop-a-test.true)
-
-pub entering-requires : goal.entering-requires
-entering-requires c = (c.requires.0, (c.requires.1.0, (omega arith, (omega (arith, c.loop-a-test.true), c.requires.1.1))))
-
-pub overflow_cast-t : goal.overflow_cast-t
-overflow_cast-t c = omega arith
-
-pub bounds-t-a : goal.bounds-t-a
-bounds-t-a c = omega (arith, c.loop-a-test.true)
-
 pub loop-a-preserved : goal.loop-a-preserved
 loop-a-preserved c =
     let a = c.args in
     let l = c.loop-a in
     placed_more (λ b v. (q : ℕ) → q < 8 → member v q ≡ eqb (watch (decode_rules a.rules.now) q (calls (suc b) a.m)) a.p) l.t l.a c.entering.result c.loop-a-test.true
     (λ q h. c.entering.ensures q h ∙ ap (λ (k : ℕ). eqb (watch (decode_rules a.rules.now) q (calls k a.m)) a.p) (add-one l.a)) l.invariant
-
-pub returns : goal.returns
-returns c = λ b q hb hq. c.loop-a.invariant.1 b (omega (arith, c.loop-a-test.false, hb)) q hq

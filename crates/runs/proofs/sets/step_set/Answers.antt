@@ -9,24 +9,6 @@ use Rattle.runs.proofs.SummaryLaws.{union_with, union_without, union_all, onto, 
 use Rattle.runs.proofs.sets.step_set.Goals as goal
 use Rattle.runs.proofs.sets.step_set.Goals.{else-has_state, then-has_state}
 
-pub slot-at-requires : goal.slot-at-requires
-slot-at-requires c = c.requires.1.1.1
-
-pub loop-q-init : goal.loop-q-init
-loop-q-init c =
-    let a = c.args in
-    let f = onto (watch (decode_rules a.rules.now)) a.event a.m1 a.m2 in
-    union_none f a.x
-
-pub has_state-requires : goal.has_state-requires
-has_state-requires c = c.loop-q-test.true
-
-pub overflow_add-at : goal.overflow_add-at
-overflow_add-at c = omega (arith, c.slot-at.ensures.1)
-
-pub get8-requires : goal.get8-requires
-get8-requires c = omega (arith, c.slot-at.ensures.1, c.requires.1.1.0)
-
 pub one_state-y-requires : goal.one_state-y-requires
 one_state-y-requires c =
     let slot = c.slot-at in

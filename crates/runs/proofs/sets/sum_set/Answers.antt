@@ -6,12 +6,6 @@ use Rattle.runs.proofs.SummaryLaws.{union_with, union_without, union_all}
 use Rattle.runs.proofs.sets.sum_set.Goals as goal
 use Rattle.runs.proofs.sets.sum_set.Goals.{else-has_state, then-has_state}
 
-pub loop-p-init : goal.loop-p-init
-loop-p-init c = let a = c.args in union_none (sums a.table.now a.m) a.x
-
-pub has_state-requires : goal.has_state-requires
-has_state-requires c = c.loop-p-test.true
-
 pub loop-p-preserved : goal.loop-p-preserved
 loop-p-preserved c =
     let a = c.args in

@@ -13,24 +13,6 @@ use Rattle.runs.specs.Worklist.Growth.{grew_none, grew_on}
 use Rattle.runs.proofs.SummaryLaws.{Ran, ran, ran_kept, first_held, edge_in_file, leaves_node, ran_edges, method_small, label_in, to_in, may_add}
 use Rattle.runs.proofs.summaries.run_edges.Goals as goal
 
-pub overflow_mul-g : goal.overflow_mul-g
-overflow_mul-g c = omega (arith, c.requires.0.held.few_nodes, c.requires.1.0)
-
-pub overflow_add-g : goal.overflow_add-g
-overflow_add-g c = omega (arith, c.requires.0.held.few_nodes, c.requires.1.0, c.requires.1.1.0)
-
-pub get8-x-requires : goal.get8-x-requires
-get8-x-requires c = omega (arith, c.requires.0.held.few_nodes, c.requires.1.0, c.requires.1.1.0, c.requires.1.1.1.1.1.1.room)
-
-pub get16-first-requires : goal.get16-first-requires
-get16-first-requires c = omega (arith, c.requires.0.held.few_nodes, c.requires.1.0, c.requires.1.1.1.1.1.1.room)
-
-pub overflow_add-g-2 : goal.overflow_add-g-2
-overflow_add-g-2 c = omega (arith, c.requires.0.held.few_nodes, c.requires.1.0)
-
-pub get16-last-requires : goal.get16-last-requires
-get16-last-requires c = omega (arith, c.requires.0.held.few_nodes, c.requires.1.0, c.requires.1.1.1.1.1.1.room)
-
 pub loop-j-init : goal.loop-j-init
 loop-j-init c =
     let a = c.args in

@@ -10,14 +10,6 @@ use Rattle.runs.specs.Worklist.Growth.{grew_none, grew_on}
 use Rattle.runs.proofs.SummaryLaws.{to_is, group_in, group_ends, may_get, row_runs, ran_in_kept}
 use Rattle.runs.proofs.summaries.run_group.Goals as goal
 
-pub loop-j-init : goal.loop-j-init
-loop-j-init c =
-    let a = c.args in
-    (grew_none (decode_graph a.graph.now) (watch (decode_rules a.rules.now)) a.tail a.work.now c.requires.1.1.1.1.0, λ i h f. absurd (omega (arith, h, f)))
-
-pub edge_at-e-requires : goal.edge_at-e-requires
-edge_at-e-requires c = (c.requires.0.held.views.graph_file, c.requires.0.held.views.nodes_are, omega (arith, c.loop-j-test.true, c.requires.0.held.views.edges_are, c.requires.0.held.views.nodes_are))
-
 pub returns-then-e-g : goal.returns-then-e-g
 returns-then-e-g c =
     let a = c.args in
@@ -49,6 +41,3 @@ loop-j-preserved c =
           (λ i h f e p hp. ran_in_kept a.s a.graph.now a.rules.now c.requires.0 l.end x.result l.work x.new.work x.ensures.0 a.table.now i e a.set a.y p a.work.now hp (l.invariant.1 i h f e p hp))
           (λ f e. row_runs a.s a.graph.now a.rules.now c.requires.0 a.tail a.work.now c.requires.1.1.1.1.0 a.table.now c.requires.1.1.1.0 a.g a.m a.set a.y c.requires.1.0 c.requires.1.1.0 a.row.now c.requires.1.1.1.1.1.0 c.requires.1.1.1.1.1.1 l.j hj d.0 d.1 _ (to_is a.s a.graph.now a.rules.now c.requires.0 l.j hj _ u) x.result x.new.work grew x.ensures.1),
     )
-
-pub returns : goal.returns
-returns c = let l = c.loop-j in (l.invariant.0, λ i f h grouped. l.invariant.1 i (omega (arith, c.loop-j-test.false, h)) f h)

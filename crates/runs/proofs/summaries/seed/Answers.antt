@@ -12,14 +12,6 @@ use Rattle.runs.specs.Worklist.Growth.{grew_none, grew_on}
 use Rattle.runs.proofs.SummaryLaws.{node_in}
 use Rattle.runs.proofs.summaries.seed.Goals as goal
 
-pub loop-g-init : goal.loop-g-init
-loop-g-init c =
-    let a = c.args in
-    (grew_none (decode_graph a.graph.now) (watch (decode_rules a.rules.now)) 0 a.work.now c.requires.1, λ n p h. absurd (omega arith))
-
-pub seed_node-end-requires : goal.seed_node-end-requires
-seed_node-end-requires c = let l = c.loop-g in (c.requires.0, (c.loop-g-test.true, l.invariant.0.holding))
-
 pub loop-g-preserved : goal.loop-g-preserved
 loop-g-preserved c =
     let if1 = c.loop-g-test in
@@ -31,6 +23,3 @@ loop-g-preserved c =
           (λ i hi u. x.ensures.0.reach_kept i p p (node_in a.s a.graph.now a.rules.now c.requires.0 i (lt_trans hi if1.true)) hp (l.invariant.1 i p hi hp u)) (λ u. x.ensures.1 u p hp) n
           h t,
     )
-
-pub returns : goal.returns
-returns c = let l = c.loop-g in (l.invariant.0, λ n p h. l.invariant.1 n p (omega (arith, c.loop-g-test.false, h)))

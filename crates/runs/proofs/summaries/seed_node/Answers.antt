@@ -11,11 +11,6 @@ use Rattle.runs.specs.Worklist.Growth.{grew_none, grew_on}
 use Rattle.runs.proofs.SummaryLaws.{node_in, node_readable, may_add, seeds_none, seeds}
 use Rattle.runs.proofs.summaries.seed_node.Goals as goal
 
-pub node_at-v-requires : goal.node_at-v-requires
-node_at-v-requires c =
-    let a = c.args in
-    (c.requires.0.held.views.graph_file, node_readable a.s a.graph.now a.rules.now c.requires.0 a.g (node_in a.s a.graph.now a.rules.now c.requires.0 a.g c.requires.1.0))
-
 pub returns-then-not-v : goal.returns-then-not-v
 returns-then-not-v c =
     let node_at = c.node_at-v in
@@ -25,14 +20,6 @@ returns-then-not-v c =
           (seeds_none a.s a.graph.now a.rules.now c.requires.0 a.g _ node_at.ensures
           c.if-not-v.true t),
     )
-
-pub loop-p-init : goal.loop-p-init
-loop-p-init c =
-    let a = c.args in
-    (grew_none (decode_graph a.graph.now) (watch (decode_rules a.rules.now)) a.tail a.work.now c.requires.1.1, λ i h. absurd (omega arith))
-
-pub one_state-requires : goal.one_state-requires
-one_state-requires c = omega arith
 
 pub add-end-requires : goal.add-end-requires
 add-end-requires c =
@@ -58,6 +45,3 @@ loop-p-preserved c =
       below_more (λ (i : ℕ). T (member (reach x.new.work a.g i) i)) l.p
           (λ i h. d.0.reach_kept a.g i i (node_in a.s a.graph.now a.rules.now c.requires.0 a.g c.requires.1.0) (lt_trans h loop-test.true) (l.invariant.1 i h)) d.1,
     )
-
-pub returns : goal.returns
-returns c = let l = c.loop-p in (l.invariant.0, λ t i h. l.invariant.1 i (omega (arith, c.loop-p-test.false, h)))
