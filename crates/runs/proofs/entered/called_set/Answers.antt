@@ -7,7 +7,7 @@ use Rattle.files.specs.Graph.{no_edge}
 use Rattle.files.specs.Rules.{watch}
 use Rattle.runs.specs.Prepared.Files.{labels_small}
 use Rattle.runs.proofs.SummaryLaws.{node_in, member_edge, label_is}
-use Rattle.runs.proofs.SearchLaws.{node_small, edge_owned, first_fits, last_fits, first_is, last_is, first_last, CalledTo, called_none, called_more, called_same, called_all}
+use Rattle.runs.proofs.SearchLaws.{edge_owned, first_is, last_is, first_last, CalledTo, called_none, called_more, called_same, called_all}
 use Rattle.runs.proofs.entered.called_set.Goals as goal
 use Rattle.runs.proofs.entered.called_set.Goals.{else-e-gt0, then-e-gt0}
 

@@ -8,7 +8,7 @@ use Rattle.files.specs.Rules.{watch}
 use Rattle.runs.specs.Searching.{place, entry_recs, entered_at}
 use Rattle.runs.specs.Searching.Looks.{may_same}
 use Rattle.runs.specs.Searching.Outgoing.{entereds_out}
-use Rattle.runs.proofs.SearchLaws.{Upto, series_start, series_here, series_end, one_may, one_looked, the_entereds, entereds_next, looked_named, looked_none, is_called, entered_list, entered_none}
+use Rattle.runs.proofs.SearchLaws.{Upto, series_here, series_end, one_may, one_looked, the_entereds, entereds_next, looked_named, looked_none, is_called, entered_list, entered_none}
 use Rattle.runs.proofs.entered.look_entered.Goals as goal
 use Rattle.runs.proofs.entered.look_entered.Goals.{else-has_state, then-has_state}
 

@@ -4,7 +4,7 @@ use Rattle.files.specs.Rules.{watch}
 use Rattle.runs.specs.Prepared.Files.{size_is}
 use Rattle.runs.specs.Searching.{place}
 use Rattle.runs.specs.Searching.Outgoing.{entries_out}
-use Rattle.runs.proofs.SearchLaws.{series_start, series_here, series_end, one_may, one_looked, the_entries, entries_first, entries_next}
+use Rattle.runs.proofs.SearchLaws.{series_here, series_end, one_may, one_looked, the_entries, entries_next}
 use Rattle.runs.proofs.SummaryLaws.{node_in}
 use Rattle.runs.proofs.entered.look_entries.Goals as goal
 

@@ -1,10 +1,9 @@
-use mathlib.Core.Path.{sym, ap}
 use native.Mathlib.Omega.{arith}
 use Rattle.files.specs.Decode.{decode_graph, decode_rules}
 use Rattle.files.specs.Rules.{watch}
-use Rattle.runs.specs.Searching.{place, internals}
+use Rattle.runs.specs.Searching.{place}
 use Rattle.runs.specs.Searching.Outgoing.{internals_out}
-use Rattle.runs.proofs.SearchLaws.{series_start, series_here, series_end, one_may, one_looked, the_internals, internals_next, node_small, first_fits, last_fits, first_is, edge_owned, edges_past}
+use Rattle.runs.proofs.SearchLaws.{series_here, series_end, one_may, one_looked, the_internals, internals_next, edge_owned, edges_past}
 use Rattle.runs.proofs.internal.look_internals.Goals as goal
 
 pub look_internal-end-requires : goal.look_internal-end-requires

@@ -1,10 +1,9 @@
-use mathlib.Core.Path.{sym, ap}
 use native.Mathlib.Omega.{arith}
 use Rattle.files.specs.Decode.{decode_graph, decode_rules}
 use Rattle.files.specs.Rules.{watch}
-use Rattle.runs.specs.Searching.{place, passeds}
+use Rattle.runs.specs.Searching.{place}
 use Rattle.runs.specs.Searching.Outgoing.{passeds_out}
-use Rattle.runs.proofs.SearchLaws.{series_start, series_here, series_end, one_may, one_looked, the_passeds, passeds_next, node_small, first_fits, last_fits, first_is, edge_owned, edges_past}
+use Rattle.runs.proofs.SearchLaws.{series_here, series_end, one_may, one_looked, the_passeds, passeds_next, edge_owned, edges_past}
 use Rattle.runs.proofs.passed.look_passeds.Goals as goal
 
 pub look_passed-end-requires : goal.look_passed-end-requires

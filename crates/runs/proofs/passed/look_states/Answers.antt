@@ -5,7 +5,7 @@ use Rattle.files.specs.Decode.{decode_graph, decode_rules}
 use Rattle.files.specs.Rules.{watch}
 use Rattle.runs.specs.Searching.{place}
 use Rattle.runs.specs.Searching.Outgoing.{states_out}
-use Rattle.runs.proofs.SearchLaws.{Upto, series_start, series_here, series_end, one_may, one_looked, the_states, states_next, node_small, may_pass, did_pass, no_state}
+use Rattle.runs.proofs.SearchLaws.{Upto, series_here, series_end, one_may, one_looked, the_states, states_next, may_pass, did_pass, no_state}
 use Rattle.runs.proofs.passed.look_states.Goals as goal
 use Rattle.runs.proofs.passed.look_states.Goals.{else-has_state, then-has_state}
 

@@ -1,8 +1,4 @@
-use native.Mathlib.Omega.{arith}
 use lib.ListN.{get_or}
-use Rattle.files.specs.Decode.{decode_graph, decode_rules}
-use Rattle.files.specs.Rules.{watch}
-use Rattle.runs.specs.Worklist.Growth.{grew_none}
 use Rattle.runs.proofs.SummaryLaws.{node_in, may_add, row_more}
 use Rattle.runs.proofs.points.add_each.Goals as goal
 

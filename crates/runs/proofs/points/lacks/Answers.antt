@@ -1,5 +1,4 @@
 use mathlib.Core.Path.{refl}
-use native.Mathlib.Omega.{arith}
 use lib.ListN.{get_or}
 use Rattle.runs.proofs.SummaryLaws.{has_more}
 use Rattle.runs.proofs.points.lacks.Goals as goal

@@ -1,4 +1,3 @@
-use native.Mathlib.Omega.{arith}
 use Rattle.runs.proofs.SummaryLaws.{reached_more}
 use Rattle.runs.proofs.points.reached_any.Goals as goal
 

@@ -1,15 +1,9 @@
-use mathlib.Core.Path.{◌≡◌, refl, subst, ◌∙◌}
-use Prim.Native.Nat.{ℕ, ◌+◌, ◌-◌}
+use mathlib.Core.Path.{◌≡◌, subst, ◌∙◌}
+use Prim.Native.Nat.{ℕ}
 use native.Mathlib.Omega.{arith}
 use Rattle.runs.specs.Prepared.{SteppedFrom}
 use Rattle.runs.proofs.PrepareLaws.{steps_all}
 use Rattle.runs.proofs.prepare.put_steps.Goals as goal
-
-pub loop-j-preserved : goal.loop-j-preserved
-loop-j-preserved c =
-    let l = c.loop-j in
-    let p = c.put_rule in
-    (p.ensures.0, λ q d. p.ensures.1 q d ∙ l.invariant.1 q d)
 
 pub returns : goal.returns
 returns c =

@@ -3,7 +3,7 @@ use Rattle.files.specs.Decode.{decode_graph, decode_rules}
 use Rattle.files.specs.Rules.{watch}
 use Rattle.runs.specs.Prepared.Files.{size_is}
 use Rattle.runs.specs.Searching.Outgoing.{starts_out}
-use Rattle.runs.proofs.SearchLaws.{series_start, series_end, one_may, one_looked, the_starts, starts_first, starts_next}
+use Rattle.runs.proofs.SearchLaws.{series_end, one_may, one_looked, the_starts, starts_next}
 use Rattle.runs.proofs.SummaryLaws.{node_in}
 use Rattle.runs.proofs.search.look_starts.Goals as goal
 

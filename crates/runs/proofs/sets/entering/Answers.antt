@@ -6,7 +6,7 @@ use lib.Dec.{eqb}
 use borrow.Author.Tests.{eq-eqb, ne_eqb}
 use Rattle.files.specs.Decode.{decode_rules}
 use Rattle.files.specs.Rules.{watch, calls}
-use Rattle.runs.proofs.SummaryLaws.{Picked, picked_none, picked_yes, picked_no, step_held}
+use Rattle.runs.proofs.SummaryLaws.{Picked, picked_yes, picked_no, step_held}
 use Rattle.runs.proofs.sets.entering.Goals as goal
 use Rattle.runs.proofs.sets.entering.Goals.{else-get8-p, then-get8-p}
 

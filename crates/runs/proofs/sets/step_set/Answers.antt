@@ -4,7 +4,6 @@ use native.Mathlib.Omega.{arith}
 use Rattle.files.specs.Decode.{decode_rules}
 use Rattle.files.specs.Rules.{watch}
 use Rattle.runs.specs.Prepared.Files.{monitor_small}
-use Rattle.runs.specs.Worklist.Unions.{union_none}
 use Rattle.runs.proofs.SummaryLaws.{union_with, union_without, union_all, onto, step_held}
 use Rattle.runs.proofs.sets.step_set.Goals as goal
 use Rattle.runs.proofs.sets.step_set.Goals.{else-has_state, then-has_state}

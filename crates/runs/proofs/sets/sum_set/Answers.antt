@@ -1,7 +1,6 @@
 use mathlib.Core.Path.{◌≡◌, sym, ◌∙◌}
 use native.Mathlib.Omega.{arith}
 use Rattle.runs.specs.Worklist.{sums}
-use Rattle.runs.specs.Worklist.Unions.{union_none}
 use Rattle.runs.proofs.SummaryLaws.{union_with, union_without, union_all}
 use Rattle.runs.proofs.sets.sum_set.Goals as goal
 use Rattle.runs.proofs.sets.sum_set.Goals.{else-has_state, then-has_state}

@@ -6,17 +6,9 @@ use Rattle.files.specs.Decode.{decode_graph, decode_rules}
 use Rattle.files.specs.Graph.{no_edge}
 use Rattle.files.specs.Rules.{watch}
 use Rattle.runs.specs.Worklist.{RanIn}
-use Rattle.runs.specs.Worklist.Growth.{grew_none, grew_on}
-use Rattle.runs.proofs.SummaryLaws.{to_is, group_in, group_ends, may_get, row_runs, ran_in_kept}
+use Rattle.runs.specs.Worklist.Growth.{grew_on}
+use Rattle.runs.proofs.SummaryLaws.{to_is, group_in, may_get, row_runs, ran_in_kept}
 use Rattle.runs.proofs.summaries.run_group.Goals as goal
-
-pub returns-then-e-g : goal.returns-then-e-g
-returns-then-e-g c =
-    let a = c.args in
-    let l = c.loop-j in (
-      l.invariant.0,
-      λ i f h grouped. l.invariant.1 i (group_ends a.s a.graph.now a.rules.now c.requires.0 l.j c.loop-j-test.true _ c.edge_at-e.ensures a.g a.m a.first l.auto.j c.if-e-g.true i grouped) f h,
-    )
 
 pub add_row-end-requires : goal.add_row-end-requires
 add_row-end-requires c =

@@ -7,19 +7,9 @@ use Rattle.files.specs.Decode.{decode_graph, decode_rules}
 use Rattle.files.specs.Rules.{watch}
 use Rattle.maximal.specs.Masks.{member}
 use Rattle.runs.specs.Worklist.{reach}
-use Rattle.runs.specs.Worklist.Growth.{grew_none, grew_on}
-use Rattle.runs.proofs.SummaryLaws.{node_in, node_readable, may_add, seeds_none, seeds}
+use Rattle.runs.specs.Worklist.Growth.{grew_on}
+use Rattle.runs.proofs.SummaryLaws.{node_in, may_add, seeds}
 use Rattle.runs.proofs.summaries.seed_node.Goals as goal
-
-pub returns-then-not-v : goal.returns-then-not-v
-returns-then-not-v c =
-    let node_at = c.node_at-v in
-    let a = c.args in (
-      grew_none (decode_graph a.graph.now) (watch (decode_rules a.rules.now)) a.tail a.work.now c.requires.1.1,
-      λ t. absurd
-          (seeds_none a.s a.graph.now a.rules.now c.requires.0 a.g _ node_at.ensures
-          c.if-not-v.true t),
-    )
 
 pub add-end-requires : goal.add-end-requires
 add-end-requires c =
