@@ -10,7 +10,7 @@ use Rattle.runs.proofs.summaries.run_calls.Given as goal
 
 abbrev pub invariant-loop-at : goal.invariant-loop-at
 invariant-loop-at l =
-    (length l.work ≡ length l.initial.work) × (Grew (decode_graph l.graph) (watch (decode_rules l.rules)) l.tail l.end l.initial.work l.work)
+    (Grew (decode_graph l.graph) (watch (decode_rules l.rules)) l.tail l.end l.initial.work l.work)
     × (Walk (opens (decode_graph l.graph) l.m) (length (decode_graph l.graph).edges) l.at (GroupRan (decode_graph l.graph) (watch (decode_rules l.rules)) l.callers l.ends l.table l.initial.work l.work))
 
 abbrev pub decreases-loop-at : goal.decreases-loop-at

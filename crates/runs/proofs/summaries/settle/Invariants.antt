@@ -11,7 +11,7 @@ use Rattle.runs.proofs.summaries.settle.Given as goal
 
 abbrev pub invariant-loop-head : goal.invariant-loop-head
 invariant-loop-head l =
-    (length l.work ≡ length l.initial.work) × (l.head ≤ l.end) × (Spread (decode_graph l.graph) (watch (decode_rules l.rules)) l.table l.head l.end l.work) × (Past l.initial.work l.work)
+    (l.head ≤ l.end) × (Spread (decode_graph l.graph) (watch (decode_rules l.rules)) l.table l.head l.end l.work) × (Past l.initial.work l.work)
 
 abbrev pub decreases-loop-head : goal.decreases-loop-head
 decreases-loop-head l = queue_cells - l.head
