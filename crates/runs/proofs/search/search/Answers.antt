@@ -1,11 +1,10 @@
-use mathlib.Core.Path.{refl, ◌∙◌}
 use native.Mathlib.Omega.{arith}
 use Rattle.files.specs.Decode.{decode_graph, decode_rules}
 use Rattle.files.specs.Rules.{watch}
 use Rattle.runs.specs.Prepared.Files.{is_flow, labels_small, monitor_small}
 use Rattle.runs.specs.Searching.Ends.{start_may, turn_first}
 use Rattle.runs.proofs.Theorems.Searching.Ends.{says_bad, says_clean}
-use Rattle.runs.proofs.SearchLaws.{item_few, item_reads, bad_there, good_there}
+use Rattle.runs.proofs.SearchLaws.{item_few, item_reads, bad_there}
 use Rattle.runs.proofs.search.search.Goals as goal
 
 pub look_starts-end-requires : goal.look_starts-end-requires
@@ -18,7 +17,7 @@ loop-head-init c =
     let a = c.args in
     let x = c.look_starts-end in
     turn_first (decode_graph a.graph.now) (watch (decode_rules a.rules.now)) a.start a.work.now c.requires.1.1.0 c.requires.1.1.1.0 c.requires.1.1.1.1 x.result
-          x.new.work x.ensures
+    x.new.work x.ensures
 
 pub overflow_mul-head : goal.overflow_mul-head
 overflow_mul-head c =
@@ -47,27 +46,6 @@ returns-then-work-head-eq7 c =
     c.loop-head-test.true (bad_there a.s a.graph.now a.rules.now c.requires.0 a.start l.head l.end l.work l.invariant c.loop-head-test.true
     c.if-work-head-eq7.true)
 
-pub expand-end-requires : goal.expand-end-requires
-expand-end-requires c =
-    let a = c.args in
-    let l = c.loop-head in (
-      c.requires.0,
-      (
-        c.requires.1.0,
-        (
-          c.loop-head-test.true,
-          (
-            l.invariant,
-            good_there a.s a.graph.now a.rules.now c.requires.0 a.start l.head l.end l.work l.invariant c.loop-head-test.true
-                c.if-work-head-eq7.false,
-          ),
-        ),
-      ),
-    )
-
-pub overflow_add-head-in-loop-head : goal.overflow_add-head-in-loop-head
-overflow_add-head-in-loop-head c = omega (arith, c.loop-head-test.true)
-
 pub loop-head-smaller : goal.loop-head-smaller
 loop-head-smaller c =
     let a = c.args in
@@ -77,10 +55,6 @@ loop-head-smaller c =
       item_few a.s a.graph.now a.rules.now c.requires.0 a.start l.head l.end l.work l.invariant
           c.loop-head-test.true,
     )
-
-pub loop-head-preserved : goal.loop-head-preserved
-loop-head-preserved c =
-    c.expand-end.ensures
 
 pub returns : goal.returns
 returns c =

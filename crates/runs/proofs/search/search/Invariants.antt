@@ -1,6 +1,4 @@
-use mathlib.Core.Path.{◌≡◌}
 use Prim.Native.Nat.{◌+◌, ◌-◌}
-use lib.ListN.{length}
 use Rattle.files.specs.Decode.{decode_graph, decode_rules}
 use Rattle.files.specs.Rules.{watch}
 use Rattle.runs.specs.Regions.{points}

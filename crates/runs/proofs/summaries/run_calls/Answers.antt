@@ -1,4 +1,4 @@
-use mathlib.Core.Path.{◌≡◌, refl, ◌∙◌}
+use mathlib.Core.Path.{◌≡◌, ◌∙◌}
 use Prim.Native.Nat.{◌-◌, ◌<◌}
 use native.Mathlib.Omega.{arith}
 use lib.Dec.{eqb→eq}
@@ -15,9 +15,6 @@ use Rattle.runs.specs.Worklist.Loops.{calls_run}
 use Rattle.runs.proofs.PrepareLaws.{opens_label, group_of}
 use Rattle.runs.proofs.SummaryLaws.{links_of, group_kept, group_from}
 use Rattle.runs.proofs.summaries.run_calls.Goals as goal
-
-pub get16-at-requires : goal.get16-at-requires
-get16-at-requires c = omega (arith, c.requires.1.1.0, c.requires.1.1.1.1.0.room)
 
 pub loop-at-init : goal.loop-at-init
 loop-at-init c =

@@ -1,5 +1,4 @@
 -- The chain meets the first edge of every group with this label, and each call of the method stands in such a group.
-use mathlib.Core.Path.{◌≡◌}
 use lib.ListN.{length}
 use Rattle.files.specs.Decode.{decode_graph, decode_rules}
 use Rattle.files.specs.Rules.{watch}

@@ -8,9 +8,6 @@ use Rattle.runs.proofs.SummaryLaws.{node_of, node_readable, method_small, queue_
 use Rattle.runs.proofs.summaries.settle.Goals as goal
 use Rattle.runs.proofs.summaries.settle.Goals.{else-new-gt0, then-new-gt0}
 
-pub loop-head-init : goal.loop-head-init
-loop-head-init c = (omega arith, c.requires.1, λ q h. refl)
-
 pub take-at-requires : goal.take-at-requires
 take-at-requires c =
     let a = c.args in
@@ -66,9 +63,6 @@ run_point-end-requires c =
         (v, (z.0, (z.1, taken_holds a.s a.graph.now a.rules.now c.requires.0 l.table l.head l.end l.work l.invariant.1 some x.result x.ensures.0 x.new.work x.ensures.1))),
       ),
     )
-
-pub overflow_add-head : goal.overflow_add-head
-overflow_add-head c = omega (arith, c.loop-head-test.true)
 
 pub loop-head-smaller : goal.loop-head-smaller
 loop-head-smaller c =

@@ -1,8 +1,6 @@
 -- What waits is in the queue from `head` on, and all else is done by the table as it is. A turn takes one point, and hands on the table with its grown summary or the same
 -- one. The queue has no more places than there are states in all.
-use mathlib.Core.Path.{◌≡◌}
 use Prim.Native.Nat.{◌-◌, ◌≤◌}
-use lib.ListN.{length}
 use Rattle.files.specs.Decode.{decode_graph, decode_rules}
 use Rattle.files.specs.Rules.{watch}
 use Rattle.runs.specs.Regions.{queue_cells}
