@@ -30,9 +30,7 @@ pub fn put_line(out: &mut [u8], g: usize, rows: &[u8], base: usize)
     ensures { out.new ≡ put_at out.old (32 * g) (relation_line (has_bit rows.now base)) }
 {
     let at = LINE * g;
-    let mut i = 0;
-    while i < LINE {
+    for i in 0..LINE {
         out[at + i] = rows[base + i];
-        i += 1;
     }
 }

@@ -35,11 +35,9 @@ pub(crate) fn look_through(kind: FileKind, records: &[u8], first: usize, positio
 {
     let n = records.len() / Record::LEN;
     let mut found = Found::Nothing;
-    let mut i = 0;
-    while i < n {
+    for i in 0..n {
         let next = look(kind, records, i, first, position);
         found = lower(found, next);
-        i += 1;
     }
     found
 }
@@ -57,11 +55,9 @@ pub(crate) fn name_through(
 {
     let n = records.len() / Record::LEN;
     let mut found = Found::Nothing;
-    let mut i = 0;
-    while i < n {
+    for i in 0..n {
         let next = name(kind, records, bound, i, first, position);
         found = lower(found, next);
-        i += 1;
     }
     found
 }
@@ -87,12 +83,10 @@ pub(crate) fn count(kind: FileKind, records: &[u8]) -> usize
     ensures { result ≡ counted (kind_of kind) records.now }
 {
     let n = records.len() / Record::LEN;
-    let mut i = 0;
     let mut apart = 0;
-    while i < n {
+    for i in 0..n {
         let this = counts(kind, records, i);
         apart += this as usize;
-        i += 1;
     }
     apart
 }

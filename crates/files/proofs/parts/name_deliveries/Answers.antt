@@ -9,27 +9,20 @@ use Rattle.files.proofs.CheckLaws.{lowest_on}
 use Rattle.files.proofs.parts.name_deliveries.Goals as goal
 
 pub loop-i-init : goal.loop-i-init
-loop-i-init c = let a = c.args in (omega arith, held_none a.file.now _ refl, sym (lowest_none 2 7 (delivery_test a.file.now) 0 a.position))
+loop-i-init c = let a = c.args in (held_none a.file.now _ refl, sym (lowest_none 2 7 (delivery_test a.file.now) 0 a.position))
 
 pub name_delivery-next-requires : goal.name_delivery-next-requires
-name_delivery-next-requires c = (c.requires, (c.loop-i-test.true, c.loop-i.invariant.1))
+name_delivery-next-requires c = (c.requires, (omega arith, c.loop-i.invariant.0))
 
 pub next_part-part-requires : goal.next_part-part-requires
-next_part-part-requires c = (c.loop-i-test.true, c.loop-i.invariant.1)
-
-pub overflow_add-i : goal.overflow_add-i
-overflow_add-i c = omega arith
-
-pub loop-i-smaller : goal.loop-i-smaller
-loop-i-smaller c = omega arith
+next_part-part-requires c = (omega arith, c.loop-i.invariant.0)
 
 pub loop-i-preserved : goal.loop-i-preserved
 loop-i-preserved c =
     let a = c.args in
     let loop = c.loop-i in (
-      omega arith,
       c.next_part-part.ensures,
-      lowest_on 2 7 (delivery_test a.file.now) 0 a.position loop.i loop.found c.name_delivery-next.result c.lower-found.result loop.invariant.2
+      lowest_on 2 7 (delivery_test a.file.now) 0 a.position loop.i loop.found c.name_delivery-next.result c.lower-found.result loop.invariant.1
           c.name_delivery-next.ensures c.lower-found.ensures,
     )
 
@@ -37,4 +30,4 @@ pub returns : goal.returns
 returns c =
     let a = c.args in
     let e : c.loop-i.i ≡ count a.file.now = omega arith in
-    c.loop-i.invariant.2 ∙ ap (lowest 2 7 (delivery_test a.file.now) 0 a.position) e
+    c.loop-i.invariant.1 ∙ ap (lowest 2 7 (delivery_test a.file.now) 0 a.position) e

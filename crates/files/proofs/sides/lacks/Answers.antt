@@ -5,27 +5,19 @@ use Rattle.files.specs.Sides.Looks.{method_passes, method_fails, methods_end, la
 use Rattle.files.proofs.sides.lacks.Goals as goal
 
 pub loop-m-init : goal.loop-m-init
-loop-m-init c = (omega arith, lacks_looks (record { provided = c.args.provided; required = c.args.required }))
+loop-m-init c = lacks_looks (record { provided = c.args.provided; required = c.args.required })
 
 pub returns-then-in_set : goal.returns-then-in_set
 returns-then-in_set c =
     let l = c.loop-m in
-    sym (l.invariant.1 ∙ method_passes _ l.m c.loop-m-test.true
+    sym (l.invariant ∙ method_passes _ l.m (omega arith)
     (ap₂ (λ (a b : Bool). a && not b) (sym c.in_set.ensures) (sym c.in_set-in-loop-m.ensures) ∙ c.if-in_set.true))
-
-pub overflow_add-m : goal.overflow_add-m
-overflow_add-m c = omega arith
-
-pub loop-m-smaller : goal.loop-m-smaller
-loop-m-smaller c = omega arith
 
 pub loop-m-preserved : goal.loop-m-preserved
 loop-m-preserved c =
-    let l = c.loop-m in (
-      omega arith,
-      l.invariant.1 ∙ method_fails _ l.m c.loop-m-test.true
-          (ap₂ (λ (a b : Bool). a && not b) (sym c.in_set.ensures) (sym c.in_set-in-loop-m.ensures) ∙ c.if-in_set.false),
-    )
+    let l = c.loop-m in
+    l.invariant ∙ method_fails _ l.m (omega arith)
+    (ap₂ (λ (a b : Bool). a && not b) (sym c.in_set.ensures) (sym c.in_set-in-loop-m.ensures) ∙ c.if-in_set.false)
 
 pub returns : goal.returns
-returns c = sym (c.loop-m.invariant.1 ∙ methods_end _ c.loop-m.m c.loop-m-test.false)
+returns c = sym (c.loop-m.invariant ∙ methods_end _ c.loop-m.m (omega arith))

@@ -7,7 +7,7 @@ use Rattle.files.specs.Sides.Looks.{method_passes, method_fails, methods_end}
 use Rattle.files.proofs.sides.lacks_entry.Goals as goal
 
 pub loop-m-init : goal.loop-m-init
-loop-m-init c = let a = c.args in (omega arith, lacks_entry_looks (decode_interface a.interface.now) (decode_graph a.graph.now))
+loop-m-init c = let a = c.args in lacks_entry_looks (decode_interface a.interface.now) (decode_graph a.graph.now)
 
 pub provides-requires : goal.provides-requires
 provides-requires c = c.requires.0
@@ -18,22 +18,14 @@ has_entry-requires c = c.requires.1
 pub returns-then-provides-has_entry : goal.returns-then-provides-has_entry
 returns-then-provides-has_entry c =
     let l = c.loop-m in
-    sym (l.invariant.1 ∙ method_passes _ l.m c.loop-m-test.true
+    sym (l.invariant ∙ method_passes _ l.m (omega arith)
     (ap₂ (λ (a b : Bool). a && not b) (sym c.provides.ensures) (sym c.has_entry.ensures) ∙ c.if-provides-has_entry.true))
-
-pub overflow_add-m : goal.overflow_add-m
-overflow_add-m c = omega arith
-
-pub loop-m-smaller : goal.loop-m-smaller
-loop-m-smaller c = omega arith
 
 pub loop-m-preserved : goal.loop-m-preserved
 loop-m-preserved c =
-    let l = c.loop-m in (
-      omega arith,
-      l.invariant.1 ∙ method_fails _ l.m c.loop-m-test.true
-          (ap₂ (λ (a b : Bool). a && not b) (sym c.provides.ensures) (sym c.has_entry.ensures) ∙ c.if-provides-has_entry.false),
-    )
+    let l = c.loop-m in
+    l.invariant ∙ method_fails _ l.m (omega arith)
+    (ap₂ (λ (a b : Bool). a && not b) (sym c.provides.ensures) (sym c.has_entry.ensures) ∙ c.if-provides-has_entry.false)
 
 pub returns : goal.returns
-returns c = sym (c.loop-m.invariant.1 ∙ methods_end _ c.loop-m.m c.loop-m-test.false)
+returns c = sym (c.loop-m.invariant ∙ methods_end _ c.loop-m.m (omega arith))

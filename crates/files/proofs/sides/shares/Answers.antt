@@ -6,7 +6,7 @@ use Rattle.files.specs.Sides.Looks.{method_passes, method_fails, methods_end, sh
 use Rattle.files.proofs.sides.shares.Goals as goal
 
 pub loop-m-init : goal.loop-m-init
-loop-m-init c = let a = c.args in (omega arith, shares_looks (decode_interface a.first.now) (decode_interface a.second.now))
+loop-m-init c = let a = c.args in shares_looks (decode_interface a.first.now) (decode_interface a.second.now)
 
 pub provides-requires : goal.provides-requires
 provides-requires c = c.requires.0
@@ -17,22 +17,14 @@ provides-requires-in-loop-m c = c.requires.1
 pub returns-then-provides : goal.returns-then-provides
 returns-then-provides c =
     let l = c.loop-m in
-    sym (l.invariant.1 ∙ method_passes _ l.m c.loop-m-test.true
+    sym (l.invariant ∙ method_passes _ l.m (omega arith)
     (ap₂ ◌&&◌ (sym c.provides.ensures) (sym c.provides-in-loop-m.ensures) ∙ c.if-provides.true))
-
-pub overflow_add-m : goal.overflow_add-m
-overflow_add-m c = omega arith
-
-pub loop-m-smaller : goal.loop-m-smaller
-loop-m-smaller c = omega arith
 
 pub loop-m-preserved : goal.loop-m-preserved
 loop-m-preserved c =
-    let l = c.loop-m in (
-      omega arith,
-      l.invariant.1 ∙ method_fails _ l.m c.loop-m-test.true
-          (ap₂ ◌&&◌ (sym c.provides.ensures) (sym c.provides-in-loop-m.ensures) ∙ c.if-provides.false),
-    )
+    let l = c.loop-m in
+    l.invariant ∙ method_fails _ l.m (omega arith)
+    (ap₂ ◌&&◌ (sym c.provides.ensures) (sym c.provides-in-loop-m.ensures) ∙ c.if-provides.false)
 
 pub returns : goal.returns
-returns c = sym (c.loop-m.invariant.1 ∙ methods_end _ c.loop-m.m c.loop-m-test.false)
+returns c = sym (c.loop-m.invariant ∙ methods_end _ c.loop-m.m (omega arith))

@@ -1,6 +1,6 @@
 use mathlib.Core.Path.{◌≡◌}
 use mathlib.Core.Bool.{◌&&◌}
-use Prim.Native.Nat.{ℕ, ◌-◌, ◌≤◌}
+use Prim.Native.Nat.{ℕ}
 use Rattle.files.specs.Decode.{decode_interface}
 use Rattle.files.specs.Interface.{provides}
 use Rattle.files.specs.Sides as sides
@@ -9,8 +9,5 @@ use Rattle.files.proofs.sides.shares.Given as goal
 
 abbrev pub invariant-loop-m : goal.invariant-loop-m
 invariant-loop-m l =
-    (l.m ≤ 9) × (sides.shares (decode_interface l.first) (decode_interface l.second)
-    ≡ some_from (λ (k : ℕ). provides (decode_interface l.first) k && provides (decode_interface l.second) k) l.m)
-
-abbrev pub decreases-loop-m : goal.decreases-loop-m
-decreases-loop-m l = 9 - l.m
+    sides.shares (decode_interface l.first) (decode_interface l.second)
+    ≡ some_from (λ (k : ℕ). provides (decode_interface l.first) k && provides (decode_interface l.second) k) l.m
