@@ -64,24 +64,14 @@ pub(crate) fn shares(first: &[u8], second: &[u8]) -> bool
     requires { (InterfaceFile first.now) × (InterfaceFile second.now) }
     ensures { result ≡ shares (decode_interface first.now) (decode_interface second.now) }
 {
-    for m in 1..9 {
-        if provides(first, m) & provides(second, m) {
-            return true;
-        }
-    }
-    false
+    (1..9).any(|m| provides(first, m) & provides(second, m))
 }
 
 // A required method is not provided.
 fn lacks(provided: u8, required: u8) -> bool
     ensures { result ≡ lacks (record { provided = provided; required = required }) }
 {
-    for m in 1..9 {
-        if in_set(required, m) & !in_set(provided, m) {
-            return true;
-        }
-    }
-    false
+    (1..9).any(|m| in_set(required, m) & !in_set(provided, m))
 }
 
 // A required method, or the start method, is provided by nobody, where these methods are provided and required.
@@ -110,10 +100,5 @@ pub fn lacks_entry(interface: &[u8], graph: &[u8], nodes: usize) -> bool
     requires { (InterfaceFile interface.now) × ((GraphFile graph.now) × (nodes ≡ nodes_of graph.now)) }
     ensures { result ≡ lacks_entry (decode_interface interface.now) (decode_graph graph.now) }
 {
-    for m in 1..9 {
-        if provides(interface, m) & !has_entry(graph, nodes, m) {
-            return true;
-        }
-    }
-    false
+    (1..9).any(|m| provides(interface, m) & !has_entry(graph, nodes, m))
 }

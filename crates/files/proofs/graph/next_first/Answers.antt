@@ -10,9 +10,6 @@ overflow_sub-edges c = omega (arith, c.requires.1, nodes_few c.args.graph.now c.
 pub loop-j-init : goal.loop-j-init
 loop-j-init c = omega (arith, c.requires.2, scan_starts c.args.graph.now c.requires.0 c.args.g)
 
-pub leaves-requires : goal.leaves-requires
-leaves-requires c = (c.requires.0, c.requires.1, omega arith)
-
 pub returns-then-not-leaves : goal.returns-then-not-leaves
 returns-then-not-leaves c =
     let i = c.loop-j in

@@ -18,14 +18,6 @@ loop-j-init c =
     let e : a.first ≡ a.first + 0 = omega arith in
     subst (λ (n : ℕ). Wrote a.out.now a.out.now a.first n []) e (wrote_none a.out.now a.first)
 
-pub overflow_add-first : goal.overflow_add-first
-overflow_add-first c = omega (arith, c.requires.1.1)
-
-pub write_moved-requires : goal.write_moved-requires
-write_moved-requires c =
-    let p = c.requires in
-    (p.0, (p.1.0, (omega arith, omega (arith, p.1.1, c.loop-j.invariant.as_long))))
-
 pub loop-j-preserved : goal.loop-j-preserved
 loop-j-preserved c =
     let a = c.args in

@@ -1,7 +1,4 @@
-use mathlib.Core.Path.{◌≡◌, refl, sym, ap, ◌∙◌}
-use native.Mathlib.Omega.{arith}
-use Rattle.files.specs.Record.{count}
-use Rattle.files.specs.Checking.{lowest}
+use mathlib.Core.Path.{refl, sym}
 use Rattle.files.specs.Checking.Laws.{lowest_none}
 use Rattle.files.specs.Deliveries.Names.{held_none}
 use Rattle.files.specs.Deliveries.Steps.{delivery_test}
@@ -11,12 +8,6 @@ use Rattle.files.proofs.parts.name_deliveries.Goals as goal
 pub loop-i-init : goal.loop-i-init
 loop-i-init c = let a = c.args in (held_none a.file.now _ refl, sym (lowest_none 2 7 (delivery_test a.file.now) 0 a.position))
 
-pub name_delivery-next-requires : goal.name_delivery-next-requires
-name_delivery-next-requires c = (c.requires, (omega arith, c.loop-i.invariant.0))
-
-pub next_part-part-requires : goal.next_part-part-requires
-next_part-part-requires c = (omega arith, c.loop-i.invariant.0)
-
 pub loop-i-preserved : goal.loop-i-preserved
 loop-i-preserved c =
     let a = c.args in
@@ -25,9 +16,3 @@ loop-i-preserved c =
       lowest_on 2 7 (delivery_test a.file.now) 0 a.position loop.i loop.found c.name_delivery-next.result c.lower-found.result loop.invariant.1
           c.name_delivery-next.ensures c.lower-found.ensures,
     )
-
-pub returns : goal.returns
-returns c =
-    let a = c.args in
-    let e : c.loop-i.i ≡ count a.file.now = omega arith in
-    c.loop-i.invariant.1 ∙ ap (lowest 2 7 (delivery_test a.file.now) 0 a.position) e

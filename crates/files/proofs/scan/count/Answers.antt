@@ -1,4 +1,4 @@
-use mathlib.Core.Path.{◌≡◌, refl, sym, ap, ◌∙◌}
+use mathlib.Core.Path.{◌≡◌, sym, ap, ◌∙◌}
 use native.Mathlib.Omega.{arith}
 use Rattle.files.specs.Basics.Tests.{one_le}
 use Rattle.files.specs.Basics.Tables.{tally, tally_le}
@@ -6,20 +6,10 @@ use Rattle.files.specs.Record.{count}
 use Rattle.files.specs.FileKind.{kind_of}
 use Rattle.files.specs.Checking.{counts}
 use Rattle.files.specs.Checking.Laws.{counted_is}
-use Rattle.files.proofs.CheckLaws.{tally_more}
 use Rattle.files.proofs.scan.count.Goals as goal
-
-pub loop-i-init : goal.loop-i-init
-loop-i-init c = refl
-
-pub counts-this-requires : goal.counts-this-requires
-counts-this-requires c = omega arith
 
 pub overflow_add-apart : goal.overflow_add-apart
 overflow_add-apart c = omega (arith, c.loop-i.invariant, tally_le (counts (kind_of c.args.kind) c.args.records.now) c.loop-i.i, one_le c.counts-this.result)
-
-pub loop-i-preserved : goal.loop-i-preserved
-loop-i-preserved c = tally_more (counts (kind_of c.args.kind) c.args.records.now) c.loop-i.i c.loop-i.apart c.counts-this.result c.loop-i.invariant c.counts-this.ensures
 
 pub returns : goal.returns
 returns c =

@@ -9,9 +9,6 @@ use Rattle.files.proofs.standing.repeats.Goals as goal
 pub loop-i-init : goal.loop-i-init
 loop-i-init c = met_none c.args.file.now
 
-pub meet-requires : goal.meet-requires
-meet-requires c = (omega arith, (c.requires, c.loop-i.invariant.room))
-
 pub returns-then-meet : goal.returns-then-meet
 returns-then-meet c =
     let loop = c.loop-i in
