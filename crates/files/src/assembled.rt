@@ -43,10 +43,8 @@ fn write_all_nodes(file: &[u8], kept: &[usize; METHODS], out: &mut [u8])
     ensures { out.new ≡ put_at out.old 0 (run (node_recs (decode_deliveries file.now)) 8) }
 {
     let mut at = 0;
-    let mut method = 1;
-    while method <= 8 {
+    for method in 1..METHODS {
         at = write_own_nodes(file, kept, method, out, at);
-        method += 1;
     }
 }
 
@@ -80,12 +78,10 @@ fn write_all_edges(file: &[u8], kept: &[usize; METHODS], out: &mut [u8], first: 
 {
     let mut before = 0;
     let mut at = first;
-    let mut method = 1;
-    while method <= 8 {
+    for method in 1..METHODS {
         let own = write_own_edges(file, kept, method, before, out, at);
         before += own.nodes;
         at += own.edges;
-        method += 1;
     }
 }
 

@@ -101,15 +101,11 @@ pub fn put_bit(work: &mut [u8], base: usize, h: usize)
     work[at] = work[at] | (1 << (h % 8));
 }
 
-// Makes the whole slice zero: a byte a turn while any is left.
+// Makes the whole slice zero.
 pub fn clear(work: &mut [u8])
     ensures { work.new ≡ replicate (length work.old) 0 }
 {
-    let mut i = 0;
-    while work.len() - i > 0 {
-        work[i] = 0;
-        i += 1;
-    }
+    work.fill(0);
 }
 
 // Stores src from place `at` on.
@@ -117,9 +113,5 @@ pub fn copy_at(dst: &mut [u8], at: usize, src: &[u8])
     requires { at + length src.now ≤ length dst.old }
     ensures { dst.new ≡ put_at dst.old at src.now }
 {
-    let mut i = 0;
-    while i < src.len() {
-        dst[at + i] = src[i];
-        i += 1;
-    }
+    dst[at..at + src.len()].copy_from_slice(src);
 }

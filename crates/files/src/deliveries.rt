@@ -95,12 +95,10 @@ pub(crate) fn look_deliveries(file: &[u8], position: u8) -> Result<(), Refusal>
     let n = file.len() / Record::LEN;
     let mut found = Ok(());
     let mut start = 0;
-    let mut i = 0;
-    while i < n {
+    for i in 0..n {
         let next = look_delivery(file, start, i, position);
         found = lower(found, next);
         start = next_start(file, start, i);
-        i += 1;
     }
     found
 }

@@ -30,14 +30,12 @@ fn part_end(file: &[u8], a: usize) -> usize
     ensures { result ≡ own_end file.now a }
 {
     let n = file.len() / Record::LEN;
-    let mut e = a;
-    while e < n {
+    for e in a..n {
         if kind_at(file, e) == Record::OPENING {
             return e;
         }
-        e += 1;
     }
-    e
+    n
 }
 
 // The delivery that starts at record a.
@@ -83,10 +81,8 @@ pub(crate) fn passed_deliveries(file: &[u8], limits: Limits) -> bool
 {
     let n = file.len() / Record::LEN;
     let mut some = false;
-    let mut o = 0;
-    while o < n {
+    for o in 0..n {
         some = opens_passed(file, o, limits) | some;
-        o += 1;
     }
     some
 }
@@ -157,12 +153,10 @@ pub(crate) fn name_deliveries(file: &[u8], position: u8) -> Result<(), Refusal>
         end: 0,
         nodes: 0,
     };
-    let mut i = 0;
-    while i < n {
+    for i in 0..n {
         let next = name_delivery(file, part, i, position);
         found = lower(found, next);
         part = next_part(file, part, i);
-        i += 1;
     }
     found
 }

@@ -15,15 +15,13 @@ pub(crate) fn leading_nodes(records: &[u8]) -> usize
     ensures { (result ≤ count records.now) × ((i : ℕ) → i < result → PlainNode records.now i) }
 {
     let n = records.len() / Record::LEN;
-    let mut i = 0;
-    while i < n {
+    for i in 0..n {
         let r = read(records, i);
         if !(r.kind == Record::NODE) | node_wrong(r) {
             return i;
         }
-        i += 1;
     }
-    i
+    n
 }
 
 // An edge's key as one number, which ascends with it.
@@ -54,9 +52,8 @@ pub(crate) fn plain_edges(records: &[u8], nodes: usize) -> bool
     ensures { T result → PlainEdges records.now nodes (count records.now) }
 {
     let n = records.len() / Record::LEN;
-    let mut i = nodes;
     let mut least = 0;
-    while i < n {
+    for i in nodes..n {
         let r = read(records, i);
         let number = edge_number(r);
         let right = (r.kind == Record::EDGE) & !edge_wrong(r) & (least <= number);
@@ -64,7 +61,6 @@ pub(crate) fn plain_edges(records: &[u8], nodes: usize) -> bool
             return false;
         }
         least = number + 1;
-        i += 1;
     }
     true
 }

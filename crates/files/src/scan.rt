@@ -41,11 +41,9 @@ pub(crate) fn look_through(
 {
     let n = records.len() / Record::LEN;
     let mut found = Ok(());
-    let mut i = 0;
-    while i < n {
+    for i in 0..n {
         let next = look(kind, records, i, first, position);
         found = lower(found, next);
-        i += 1;
     }
     found
 }
@@ -63,11 +61,9 @@ pub(crate) fn name_through(
 {
     let n = records.len() / Record::LEN;
     let mut found = Ok(());
-    let mut i = 0;
-    while i < n {
+    for i in 0..n {
         let next = name(kind, records, bound, i, first, position);
         found = lower(found, next);
-        i += 1;
     }
     found
 }
@@ -93,12 +89,10 @@ pub(crate) fn count(kind: FileKind, records: &[u8]) -> usize
     ensures { result ≡ counted (kind_of kind) records.now }
 {
     let n = records.len() / Record::LEN;
-    let mut i = 0;
     let mut apart = 0;
-    while i < n {
+    for i in 0..n {
         let this = counts(kind, records, i);
         apart += this as usize;
-        i += 1;
     }
     apart
 }

@@ -51,12 +51,10 @@ pub(crate) fn first_foreign(graph: &[u8], interface: &[u8]) -> usize
     let provided = provided_methods(interface);
     let required = required_methods(interface);
     let n = graph.len() / Record::LEN;
-    let mut i = 0;
-    while i < n {
+    for i in 0..n {
         if foreign(graph, i, provided, required) {
             return i;
         }
-        i += 1;
     }
     n
 }
@@ -66,28 +64,14 @@ pub(crate) fn shares(first: &[u8], second: &[u8]) -> bool
     requires { (InterfaceFile first.now) × (InterfaceFile second.now) }
     ensures { result ≡ shares (decode_interface first.now) (decode_interface second.now) }
 {
-    let mut m = 1;
-    while m < 9 {
-        if provides(first, m) & provides(second, m) {
-            return true;
-        }
-        m += 1;
-    }
-    false
+    (1..9).any(|m| provides(first, m) & provides(second, m))
 }
 
 // A required method is not provided.
 fn lacks(provided: u8, required: u8) -> bool
     ensures { result ≡ lacks (record { provided = provided; required = required }) }
 {
-    let mut m = 1;
-    while m < 9 {
-        if in_set(required, m) & !in_set(provided, m) {
-            return true;
-        }
-        m += 1;
-    }
-    false
+    (1..9).any(|m| in_set(required, m) & !in_set(provided, m))
 }
 
 // A required method, or the start method, is provided by nobody, where these methods are provided and required.
@@ -102,13 +86,11 @@ fn has_entry(graph: &[u8], nodes: usize, m: u8) -> bool
     requires { (GraphFile graph.now) × (nodes ≡ nodes_of graph.now) }
     ensures { result ≡ has_entry (decode_graph graph.now) m }
 {
-    let mut n = 0;
-    while n < nodes {
+    for n in 0..nodes {
         let v = node_at(graph, n);
         if v.entry & (v.method == m) {
             return true;
         }
-        n += 1;
     }
     false
 }
@@ -118,12 +100,5 @@ pub fn lacks_entry(interface: &[u8], graph: &[u8], nodes: usize) -> bool
     requires { (InterfaceFile interface.now) × ((GraphFile graph.now) × (nodes ≡ nodes_of graph.now)) }
     ensures { result ≡ lacks_entry (decode_interface interface.now) (decode_graph graph.now) }
 {
-    let mut m = 1;
-    while m < 9 {
-        if provides(interface, m) & !has_entry(graph, nodes, m) {
-            return true;
-        }
-        m += 1;
-    }
-    false
+    (1..9).any(|m| provides(interface, m) & !has_entry(graph, nodes, m))
 }
