@@ -74,13 +74,13 @@ pub(crate) fn watch_joint(
     store: &mut [u8],
     work: &[u8],
     s: Sizes,
-) -> Verdict
+) -> Result<Verdict, Refusal>
     requires { (JointReady s work.now rules.now joint) × (watch_room ≤ length store.old) }
     ensures { Answers (joint_outcome (joint_graph s work.now) (watch (decode_rules rules.now)) start (length out.old) joint) out.old out.new (watched_answer result) }
 {
     match joint {
-        Joint::TooLarge => Verdict::Refused(Refusal::whole(11)),
-        Joint::Barred => Verdict::Impossible,
+        Joint::TooLarge => Err(Refusal::whole(11)),
+        Joint::Barred => Ok(Verdict::Impossible),
         Joint::Written => {
             let whole = GraphView {
                 nodes: s.first.nodes + s.second.nodes,
