@@ -12,7 +12,7 @@ use Rattle.files.specs.Basics.Lexical.{Before}
 use Rattle.files.specs.Basics.Tests.{and_e, not_or, not_not, below}
 use Rattle.files.specs.Plain.{Inside, PlainEdge, PlainEdges, edge_number}
 use Rattle.files.specs.Plain.Laws.{number_before}
-use Rattle.files.specs.Record.{record_at, count, edge_wrong}
+use Rattle.files.specs.Record.{record_at, edge_wrong}
 use Rattle.files.specs.Refusal.{edge_key}
 use Rattle.files.specs.declared.record.Record.{Record}
 
@@ -35,12 +35,6 @@ same_method l m r x y e f g t =
 -- the last edge's number is below the least that the next one may have
 abbrev pub Below : List ℕ → ℕ → ℕ → ℕ → Type 0
 Below l m i least = m < i → edge_number (record_at l (i - 1)) < least
-
-pub no_edges : (l : List ℕ) (m : ℕ) → PlainEdges l m m
-no_edges l m = record { edges_right = λ i h k. absurd (omega arith); edges_ascend = λ i h k. absurd (omega arith) }
-
-pub edges_to : (l : List ℕ) (m i : ℕ) → i ≡ count l → PlainEdges l m i → PlainEdges l m (count l)
-edges_to l m i e p = subst (PlainEdges l m) e p
 
 -- record i, read as r, has passed the test of an edge
 module _ (l : List ℕ) (bytes : (p : ℕ) → get_or l p 0 < 256) (m i least number : ℕ) (r : Record) (w b : Bool) (is : r ≡ record_at l i)

@@ -176,9 +176,6 @@ entering_on x r t₀ t t' l h b along put y = (
     v : ℕ
     v = cond b (bit_or (get_or t l 0) (2 ^ r)) (get_or t l 0)
 
-pub entering_all : (x : PropertyRow) (r : ℕ) (t₀ t : List ℕ) (l : ℕ) → 9 ≤ l → Entering x r t₀ l t → (i : ℕ) → i < 9 → get_or t i 0 ≡ entered x r t₀ i
-entering_all x r t₀ t l h y i k = ap (λ (j : ℕ). get_or t j 0) (sym (zero-add i)) ∙ y.1.0 i (omega arith)
-
 -- a row that is no box looks along nothing
 unboxed_looks : (x : PropertyRow) (l : ℕ) → is_box x.operator ≡ false → (looks x l).along ≡ false
 unboxed_looks x l e =

@@ -22,12 +22,10 @@ fn has_within(work: &[u8], count: usize, s: u32) -> bool
     requires { (count ≤ max_candidates) × (model_room ≤ length work.now) }
     ensures { result ≡ any (λ u. within u s) (listed work.now count) }
 {
-    let mut i = 0;
-    while i < count {
+    for i in 0..count {
         if is_within(get32(work, Places::CANDIDATES, i), s) {
             return true;
         }
-        i += 1;
     }
     false
 }
@@ -37,15 +35,13 @@ fn drop_above(work: &mut [u8], count: usize, s: u32) -> usize
     requires { (count ≤ max_candidates) × (model_room ≤ length work.old) }
     ensures { (listed work.new result ≡ keep (λ u. not (within s u)) (listed work.old count)) × ((result ≤ count) × (Outside candidates_base model_room work.old work.new)) }
 {
-    let mut i = 0;
     let mut left = 0;
-    while i < count {
+    for i in 0..count {
         let u = get32(work, Places::CANDIDATES, i);
         if !is_within(s, u) {
             put32(work, Places::CANDIDATES, left, u);
             left += 1;
         }
-        i += 1;
     }
     left
 }

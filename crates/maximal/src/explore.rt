@@ -16,7 +16,7 @@ use crate::masks::{LABELS, asked, boxes_by_label};
 use crate::places::{Places, Scope};
 use crate::states::{admit, find_pair};
 use crate::supports::tabulate;
-use files::cells::{get8, get32, put8, put32};
+use files::cells::{clear, get8, get32, put8, put32};
 use files::encode::LINE;
 use files::interface::{provided_methods, provides, requires_method};
 
@@ -33,11 +33,8 @@ fn clear_row(work: &mut [u8], q: usize)
     requires { (q ≤ entries_slot) × (model_room ≤ length work.old) }
     ensures { ((t : ℕ) → t < max_states → target work.new q t ≡ false) × (Outside (targets_base + line_bytes * q) (targets_base + line_bytes * q + line_bytes) work.old work.new) }
 {
-    let mut k = 0;
-    while k < LINE {
-        put8(work, Places::TARGETS + LINE * q, k, 0);
-        k += 1;
-    }
+    let from = Places::TARGETS + LINE * q;
+    clear(&mut work[from..from + LINE]);
 }
 
 // Enters the entries of all provided methods.
@@ -46,16 +43,14 @@ fn enter_entries(interface: &[u8], property: &[u8], s: Scope, work: &mut [u8]) -
     ensures { (result ≤ s.states → (Charting (decode_interface interface.now) (decode_property property.now) result 0 work.new) × (Tables (decode_property property.now) work.new)) × ((result ≤ s.states + 1) × (s.states < result → Crowded (decode_interface interface.now) (decode_property property.now) s.states)) }
 {
     clear_row(work, Places::ENTRIES);
-    let mut kind = 2;
     let mut c = 0;
-    while kind < 18 {
+    for kind in 2..18 {
         if provides(interface, kind / 2) {
             c = admit(interface, property, s, work, Places::ENTRIES, c, kind, 1);
             if s.states < c {
                 return c;
             }
         }
-        kind += 1;
     }
     c
 }
@@ -65,11 +60,9 @@ fn copy_row(work: &mut [u8], p: usize, q: usize)
     requires { (p < q) × ((q < slots) × (model_room ≤ length work.old)) }
     ensures { ((t : ℕ) → t < max_states → target work.new q t ≡ target work.old p t) × (Outside (targets_base + line_bytes * q) (targets_base + line_bytes * q + line_bytes) work.old work.new) }
 {
-    let mut k = 0;
-    while k < LINE {
+    for k in 0..LINE {
         let byte = get8(work, Places::TARGETS + LINE * p, k);
         put8(work, Places::TARGETS + LINE * q, k, byte);
-        k += 1;
     }
 }
 
@@ -141,14 +134,12 @@ fn expand(
     requires { (Boxes (decode_property property.now) boxes.now) × ((InterfaceFile interface.now) × ((Scoped s property.now) × ((i < c) × ((c ≤ s.states) × ((model_room ≤ length work.old) × ((Tables (decode_property property.now) work.old) × (Charting (decode_interface interface.now) (decode_property property.now) c (9 * i) work.old))))))) }
     ensures { (result ≤ s.states → (Charting (decode_interface interface.now) (decode_property property.now) result (9 * i + 9) work.new) × ((Tables (decode_property property.now) work.new) × (c ≤ result))) × ((result ≤ s.states + 1) × (s.states < result → Crowded (decode_interface interface.now) (decode_property property.now) s.states)) }
 {
-    let mut label = 0;
     let mut total = c;
-    while label < 9 {
+    for label in 0..9 {
         total = follow(interface, property, s, boxes, work, i, label, total);
         if s.states < total {
             return total;
         }
-        label += 1;
     }
     total
 }
@@ -168,6 +159,7 @@ pub(crate) fn explore(interface: &[u8], property: &[u8], s: Scope, work: &mut [u
         return c;
     }
     let mut i = 0;
+    // The body adds states, so no range is fixed beforehand.
     while i < c {
         c = expand(interface, property, s, &boxes, work, i, c);
         if s.states < c {

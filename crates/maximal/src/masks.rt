@@ -101,13 +101,11 @@ pub(crate) fn untrue(property: &[u8], n: usize, method: u8, flag: bool) -> u32
     requires { (PropertyFile property.now) × ((n ≡ count property.now) × (n ≤ 32)) }
     ensures { result ≡ untrue (decode_property property.now) method flag }
 {
-    let mut r = 0;
     let mut set = 0;
-    while r < n {
+    for r in 0..n {
         if is_untrue(property, n, r, method, flag) {
             set = set | one_row(r);
         }
-        r += 1;
     }
     set
 }
@@ -146,13 +144,11 @@ fn enter_box(boxes: [u32; LABELS], x: PropertyRow, r: usize) -> [u32; LABELS]
     ensures { (l : ℕ) → l < 9 → get_or result l 0 ≡ cond (looks x l).along (bit_or (get_or boxes l 0) (2 ^ r)) (get_or boxes l 0) }
 {
     let mut all = boxes;
-    let mut label = 0;
-    while label < LABELS {
+    for label in 0..LABELS {
         let on = obliged(x, label as u8);
         if on.along {
             all[label] = all[label] | one_row(r);
         }
-        label += 1;
     }
     all
 }
@@ -163,14 +159,12 @@ pub(crate) fn boxes_by_label(property: &[u8], n: usize) -> [u32; LABELS]
     ensures { Boxes (decode_property property.now) result }
 {
     let mut boxes = [0u32; LABELS];
-    let mut r = 0;
-    while r < n {
+    for r in 0..n {
         let x = row_at(property, r);
         if is_box(x.operator) {
             let with = enter_box(boxes, x, r);
             boxes = with;
         }
-        r += 1;
     }
     boxes
 }

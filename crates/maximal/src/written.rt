@@ -46,11 +46,9 @@ fn count_from(work: &[u8], c: usize, i: usize) -> usize
     requires { (i < c) × ((c ≤ max_states) × ((model_room ≤ length work.now) × ((Ordered c work.now) × (Ranked c work.now)))) }
     ensures { result ≡ tally_from work.now c i 9 }
 {
-    let mut label = 0;
     let mut n = 0;
-    while label < 9 {
+    for label in 0..9 {
         n += count_under(work, c, i, label);
-        label += 1;
     }
     n
 }
@@ -60,14 +58,12 @@ pub(crate) fn count_edges(work: &[u8], c: usize, limit: usize) -> usize
     requires { (c ≤ max_states) × ((model_room ≤ length work.now) × ((Ordered c work.now) × (Ranked c work.now))) }
     ensures { result ≡ tally_upto work.now c limit c }
 {
-    let mut i = 0;
     let mut n = 0;
-    while i < c {
+    for i in 0..c {
         if limit < n {
             return n;
         }
         n += count_from(work, c, i);
-        i += 1;
     }
     n
 }
@@ -88,10 +84,8 @@ fn write_nodes(work: &[u8], out: &mut [u8], c: usize)
     requires { (c ≤ max_states) × ((model_room ≤ length work.now) × (record_len * c ≤ length out.old)) }
     ensures { out.new ≡ put_at out.old 0 (each (node_bytes work.now) (span 0 c)) }
 {
-    let mut i = 0;
-    while i < c {
+    for i in 0..c {
         write_node(work, out, i);
-        i += 1;
     }
 }
 
@@ -130,11 +124,9 @@ fn write_from(work: &[u8], out: &mut [u8], c: usize, i: usize, at: usize) -> usi
     requires { (i < c) × ((c ≤ max_states) × ((model_room ≤ length work.now) × ((record_len * (at + tally_from work.now c i 9) ≤ length out.old) × ((Ordered c work.now) × (Ranked c work.now))))) }
     ensures { (result ≡ at + tally_from work.now c i 9) × (out.new ≡ put_at out.old (record_len * at) (from_bytes work.now c i 9)) }
 {
-    let mut label = 0;
     let mut end = at;
-    while label < 9 {
+    for label in 0..9 {
         end = write_under(work, out, c, i, label, end);
-        label += 1;
     }
     end
 }
@@ -152,10 +144,8 @@ pub(crate) fn write_model(
     ensures { out.new ≡ graph_bytes (model (decode_interface interface.now) (decode_property property.now)) ++ drop (length (graph_bytes (model (decode_interface interface.now) (decode_property property.now)))) out.old }
 {
     write_nodes(work, out, c);
-    let mut i = 0;
     let mut end = c;
-    while i < c {
+    for i in 0..c {
         end = write_from(work, out, c, i, end);
-        i += 1;
     }
 }
