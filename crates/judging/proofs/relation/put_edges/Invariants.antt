@@ -8,7 +8,4 @@ use Rattle.judging.specs.Refinement.Preparing.{Putting}
 use Rattle.judging.proofs.relation.put_edges.Given as goal
 
 abbrev pub invariant-loop-j : goal.invariant-loop-j
-invariant-loop-j l = (l.j ≤ l.s.second.edges) × (length l.work ≡ length l.initial.work) × Putting (decode_graph l.second) l.s.second.nodes l.j l.work × Outside neighbours_base neighbours_end l.initial.work l.work
-
-abbrev pub decreases-loop-j : goal.decreases-loop-j
-decreases-loop-j l = l.s.second.edges - l.j
+invariant-loop-j l = Putting (decode_graph l.second) l.s.second.nodes l.j l.work × Outside neighbours_base neighbours_end l.initial.work l.work

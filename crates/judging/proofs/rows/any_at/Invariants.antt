@@ -5,7 +5,4 @@ use Rattle.judging.specs.Refinement.Rows.{joined}
 use Rattle.judging.proofs.rows.any_at.Given as goal
 
 abbrev pub invariant-loop-k : goal.invariant-loop-k
-invariant-loop-k l = (l.k ≤ 32) × (l.any ≡ joined (λ j. get_or l.work (l.at + j) 0) l.k)
-
-abbrev pub decreases-loop-k : goal.decreases-loop-k
-decreases-loop-k l = 32 - l.k
+invariant-loop-k l = l.any ≡ joined (λ j. get_or l.work (l.at + j) 0) l.k
