@@ -1,6 +1,4 @@
-use mathlib.Core.Path.{◌≡◌}
-use Prim.Native.Nat.{◌*◌, ◌-◌, ◌≤◌}
-use lib.ListN.{length}
+use Prim.Native.Nat.{◌*◌}
 use Rattle.files.specs.Decode.{decode_graph}
 use Rattle.judging.specs.Chains.{Chained, Outside}
 use Rattle.judging.specs.Places.{cursors_base, heads_base, nexts_base}

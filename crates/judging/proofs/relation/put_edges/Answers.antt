@@ -1,13 +1,10 @@
-use mathlib.Core.Path.{refl, ◌∙◌}
+use mathlib.Core.Path.{refl}
 use native.Mathlib.Omega.{arith}
 use Rattle.judging.proofs.RelationLaws.{putting_start, putting_turn, putting_all}
 use Rattle.judging.proofs.relation.put_edges.Goals as goal
 
 pub loop-j-init : goal.loop-j-init
 loop-j-init c = (putting_start c.args.s c.args.first.now c.args.second.now c.requires.0 c.args.work.now c.requires.1.1, λ q d. refl)
-
-pub put_edge-requires : goal.put_edge-requires
-put_edge-requires c = (c.requires.0, ((omega arith), omega (arith, c.requires.1.0)))
 
 pub loop-j-preserved : goal.loop-j-preserved
 loop-j-preserved c =

@@ -1,6 +1,3 @@
-use mathlib.Core.Path.{◌≡◌}
-use Prim.Native.Nat.{◌-◌, ◌≤◌}
-use lib.ListN.{length}
 use Rattle.files.specs.Decode.{decode_graph}
 use Rattle.judging.specs.Chains.{Outside}
 use Rattle.judging.specs.Places.{heads_base, kinds_base}

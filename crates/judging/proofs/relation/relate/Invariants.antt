@@ -1,8 +1,7 @@
 use mathlib.Core.Path.{◌≡◌}
 use mathlib.Core.Bool.{◌&&◌}
-use Prim.Native.Nat.{ℕ, ◌-◌, ◌≤◌, ◌<◌}
+use Prim.Native.Nat.{ℕ, ◌<◌}
 use lib.Dec.{ltb}
-use lib.ListN.{length}
 use Rattle.files.specs.Decode.{decode_graph}
 use Rattle.files.specs.Graph.{node}
 use Rattle.files.specs.Places.{max_nodes}

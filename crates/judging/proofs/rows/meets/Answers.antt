@@ -1,18 +1,6 @@
-use mathlib.Core.Path.{refl}
-use Prim.Native.Nat.{◌+◌}
 use native.Mathlib.Omega.{arith}
-use lib.Bits.{bit_and}
-use lib.ListN.{get_or}
-use Rattle.judging.proofs.RowLaws.{joined_more, meets_by}
+use Rattle.judging.proofs.RowLaws.{meets_by}
 use Rattle.judging.proofs.rows.meets.Goals as goal
-
-pub loop-k-init : goal.loop-k-init
-loop-k-init c = refl
-
-pub loop-k-preserved : goal.loop-k-preserved
-loop-k-preserved c = let a = c.args in
-    let l = c.loop-k in
-    joined_more (λ j. bit_and (get_or a.row.now j 0) (get_or a.work.now (a.at + j) 0)) l.any l.k l.invariant
 
 pub returns : goal.returns
 returns c = let a = c.args in

@@ -1,5 +1,5 @@
 use mathlib.Core.Path.{◌≡◌}
-use Prim.Native.Nat.{◌+◌, ◌-◌, ◌≤◌}
+use Prim.Native.Nat.{◌+◌}
 use lib.Bits.{bit_and}
 use lib.ListN.{get_or}
 use Rattle.judging.specs.Refinement.Rows.{joined}

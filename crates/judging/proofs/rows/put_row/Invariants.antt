@@ -1,6 +1,4 @@
-use mathlib.Core.Path.{◌≡◌}
-use Prim.Native.Nat.{◌-◌, ◌≤◌}
-use lib.ListN.{length, get_or}
+use lib.ListN.{get_or}
 use Rattle.judging.specs.Refinement.Rows.{Bytes}
 use Rattle.judging.proofs.rows.put_row.Given as goal
 

@@ -1,6 +1,6 @@
 use mathlib.Core.Path.{◌≡◌}
 use Rattle.judging.specs.Words.{ones_in}
-use Prim.Native.Nat.{◌-◌, ◌*◌, ◌≤◌}
+use Prim.Native.Nat.{◌*◌, ◌≤◌}
 use Rattle.judging.proofs.rows.size_of_row.Given as goal
 
 abbrev pub invariant-loop-k : goal.invariant-loop-k
