@@ -9,12 +9,6 @@ use Rattle.judging.specs.Ranking.{Ranked}
 use Rattle.judging.proofs.causes.first_edges.Given as goal
 
 abbrev pub invariant-loop-g : goal.invariant-loop-g
-invariant-loop-g l = (l.g ≤ l.s.graph.nodes)
-    × (judge_room ≤ length l.work)
-    × (l.first ≡ first_edge (decode_graph l.graph) l.g)
+invariant-loop-g l = (l.first ≡ first_edge (decode_graph l.graph) l.g)
     × ((u : ℕ) → u < l.g + 1 → cell l.work firsts_base 2 u ≡ first_edge (decode_graph l.graph) u)
     × (Ranked (decode_graph l.graph) (decode_property l.property) l.work)
-    × (length l.work ≡ length l.initial.work)
-
-abbrev pub decreases-loop-g : goal.decreases-loop-g
-decreases-loop-g l = l.s.graph.nodes - l.g

@@ -6,7 +6,4 @@ use Rattle.judging.specs.Sheets.{fails_at}
 use Rattle.judging.proofs.causes.first_failing.Given as goal
 
 abbrev pub invariant-loop-g : goal.invariant-loop-g
-invariant-loop-g l = (l.g ≤ l.s.graph.nodes) × ((u : ℕ) → u < l.g → T (not (fails_at (decode_graph l.graph) (decode_property l.property) u)))
-
-abbrev pub decreases-loop-g : goal.decreases-loop-g
-decreases-loop-g l = l.s.graph.nodes - l.g
+invariant-loop-g l = (u : ℕ) → u < l.g → T (not (fails_at (decode_graph l.graph) (decode_property l.property) u))

@@ -6,7 +6,4 @@ use Rattle.judging.specs.Simulation.Laws.{misses}
 use Rattle.judging.proofs.cover.first_uncovered.Given as goal
 
 abbrev pub invariant-loop-g : goal.invariant-loop-g
-invariant-loop-g l = (l.g ≤ l.s.first.nodes) × ((u : ℕ) → u < l.g → T (not (misses (decode_graph l.first) (decode_graph l.second) u)))
-
-abbrev pub decreases-loop-g : goal.decreases-loop-g
-decreases-loop-g l = l.s.first.nodes - l.g
+invariant-loop-g l = (u : ℕ) → u < l.g → T (not (misses (decode_graph l.first) (decode_graph l.second) u))

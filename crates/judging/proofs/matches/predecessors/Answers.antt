@@ -8,26 +8,20 @@ use Rattle.judging.specs.Refinement.Handing.{preceded_none, preceded_on}
 use Rattle.judging.proofs.matches.predecessors.Goals as goal
 
 pub loop-k-init : goal.loop-k-init
-loop-k-init c = (omega arith, refl, preceded_none c.args.work.now c.args.nodes.now (replicate line_bytes 0) 0)
+loop-k-init c = (refl, preceded_none c.args.work.now c.args.nodes.now (replicate line_bytes 0) 0)
 
 pub with_predecessors-met-requires : goal.with_predecessors-met-requires
-with_predecessors-met-requires c = let l = c.loop-k in ((c.requires.0, omega (arith, l.invariant.1)), (c.requires.1, c.loop-k-test.true))
-
-pub overflow_add-k : goal.overflow_add-k
-overflow_add-k c = omega (arith, c.loop-k-test.true)
-
-pub loop-k-smaller : goal.loop-k-smaller
-loop-k-smaller c = omega (arith, c.loop-k-test.true)
+with_predecessors-met-requires c = let l = c.loop-k in ((c.requires.0, omega (arith, l.invariant.0)), (c.requires.1, (omega arith)))
 
 pub loop-k-preserved : goal.loop-k-preserved
 loop-k-preserved c =
     let l = c.loop-k in
     let p = c.with_predecessors-met in
     let e : 32 * l.k + 32 ≡ 32 * (l.k + 1) = omega arith in
-    (omega (arith, c.loop-k-test.true), p.ensures.0, subst (Preceded c.args.work.now c.args.nodes.now (replicate line_bytes 0) p.result 0) e (preceded_on c.args.work.now c.args.nodes.now (replicate line_bytes 0) l.met p.result 0 (32 * l.k) (32 * l.k + 32) l.invariant.2 p.ensures.1))
+    (p.ensures.0, subst (Preceded c.args.work.now c.args.nodes.now (replicate line_bytes 0) p.result 0) e (preceded_on c.args.work.now c.args.nodes.now (replicate line_bytes 0) l.met p.result 0 (32 * l.k) (32 * l.k + 32) l.invariant.1 p.ensures.1))
 
 pub returns : goal.returns
 returns c =
     let l = c.loop-k in
-    let e : 32 * l.k ≡ 256 = omega (arith, c.loop-k-test.false, l.invariant.0) in
-    (l.invariant.1, subst (Preceded c.args.work.now c.args.nodes.now (replicate line_bytes 0) l.met 0) e l.invariant.2)
+    let e : 32 * l.k ≡ 256 = omega arith in
+    (l.invariant.0, subst (Preceded c.args.work.now c.args.nodes.now (replicate line_bytes 0) l.met 0) e l.invariant.1)

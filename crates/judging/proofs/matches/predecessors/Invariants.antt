@@ -6,7 +6,4 @@ use Rattle.judging.specs.Refinement.{Preceded}
 use Rattle.judging.proofs.matches.predecessors.Given as goal
 
 abbrev pub invariant-loop-k : goal.invariant-loop-k
-invariant-loop-k l = (l.k ≤ 8) × (length l.met ≡ line_bytes) × Preceded l.work l.nodes (replicate line_bytes 0) l.met 0 (32 * l.k)
-
-abbrev pub decreases-loop-k : goal.decreases-loop-k
-decreases-loop-k l = 8 - l.k
+invariant-loop-k l = (length l.met ≡ line_bytes) × Preceded l.work l.nodes (replicate line_bytes 0) l.met 0 (32 * l.k)

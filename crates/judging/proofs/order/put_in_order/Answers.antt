@@ -8,19 +8,13 @@ pub put_cursors-requires : goal.put_cursors-requires
 put_cursors-requires c = c.requires
 
 pub loop-root-init : goal.loop-root-init
-loop-root-init c = (refl, λ q d. refl)
+loop-root-init c = λ q d. refl
 
 pub visit-left-requires : goal.visit-left-requires
-visit-left-requires c = (c.requires.0, (c.loop-root-test.true, omega (arith, c.loop-root.invariant.0, c.put_cursors.auto.work, c.requires.1)))
-
-pub overflow_add-root : goal.overflow_add-root
-overflow_add-root c = omega (arith, c.loop-root-test.true, c.requires.0.first_held.few_nodes)
-
-pub loop-root-smaller : goal.loop-root-smaller
-loop-root-smaller c = omega (arith, c.loop-root-test.true)
+visit-left-requires c = (c.requires.0, ((omega arith), omega (arith, c.put_cursors.auto.work, c.requires.1)))
 
 pub loop-root-preserved : goal.loop-root-preserved
-loop-root-preserved c = let l = c.loop-root in let p = c.visit-left in (p.auto.work ∙ l.invariant.0, outside_on cursors_base neighbours_base c.put_cursors.new.work l.work p.new.work l.invariant.1 p.ensures)
+loop-root-preserved c = let l = c.loop-root in let p = c.visit-left in outside_on cursors_base neighbours_base c.put_cursors.new.work l.work p.new.work l.invariant p.ensures
 
 pub returns : goal.returns
-returns c = outside_on cursors_base neighbours_base c.args.work.now c.put_cursors.new.work c.loop-root.work c.put_cursors.ensures c.loop-root.invariant.1
+returns c = outside_on cursors_base neighbours_base c.args.work.now c.put_cursors.new.work c.loop-root.work c.put_cursors.ensures c.loop-root.invariant

@@ -9,22 +9,16 @@ use Rattle.judging.specs.Refinement.{rel, held}
 use Rattle.judging.proofs.refine.lowest_unsettled.Goals as goal
 
 pub loop-v-init : goal.loop-v-init
-loop-v-init c = (omega arith, λ u h a. absurd (omega (arith, a)))
+loop-v-init c = λ u h a. absurd (omega (arith, a))
 
 pub has_lost-requires : goal.has_lost-requires
-has_lost-requires c = (c.requires.0, (c.loop-v-test.true, c.requires.1))
+has_lost-requires c = (c.requires.0, ((omega arith), c.requires.1))
 
 pub returns-then-has_lost : goal.returns-then-has_lost
-returns-then-has_lost c = (λ l. c.has_lost.ensures.0 (subst T (sym c.if-has_lost.true) tt), λ l. absurd (omega (arith, l, c.loop-v-test.true)))
-
-pub overflow_add-v : goal.overflow_add-v
-overflow_add-v c = omega (arith, c.loop-v-test.true, c.requires.0.first_held.few_nodes)
-
-pub loop-v-smaller : goal.loop-v-smaller
-loop-v-smaller c = omega (arith, c.loop-v-test.true)
+returns-then-has_lost c = (λ l. c.has_lost.ensures.0 (subst T (sym c.if-has_lost.true) tt), λ l. absurd (omega (arith, l)))
 
 pub loop-v-preserved : goal.loop-v-preserved
-loop-v-preserved c = let l = c.loop-v in (omega (arith, c.loop-v-test.true), λ u h a. below_more (λ u. (h : ℕ) → h < max_nodes → T (held c.args.work.now u h) → T (rel c.args.work.now u h)) l.v (λ j i h b t. l.invariant.1 j h i b t) (c.has_lost.ensures.1 (subst (λ b. T (not b)) (sym c.if-has_lost.false) tt)) u a h)
+loop-v-preserved c = let l = c.loop-v in λ u h a. below_more (λ u. (h : ℕ) → h < max_nodes → T (held c.args.work.now u h) → T (rel c.args.work.now u h)) l.v (λ j i h b t. l.invariant j h i b t) (c.has_lost.ensures.1 (subst (λ b. T (not b)) (sym c.if-has_lost.false) tt)) u a h
 
 pub returns : goal.returns
-returns c = (λ l. absurd (omega (arith, l, c.loop-v-test.false)), λ l u h a b t. c.loop-v.invariant.1 u h (omega (arith, a, l)) b t)
+returns c = (λ l. absurd (omega (arith, l)), λ l u h a b t. c.loop-v.invariant u h (omega (arith, a, l)) b t)

@@ -7,7 +7,4 @@ use Rattle.judging.specs.Sheets.Walk.{bytes_of}
 use Rattle.judging.proofs.sheet.write_sheet.Given as goal
 
 abbrev pub invariant-loop-i : goal.invariant-loop-i
-invariant-loop-i l = (l.i ≤ l.n) × (l.out ≡ put_at l.initial.out 0 (bytes_of (decode_graph l.graph) (decode_property l.property) l.work l.i)) × (length l.out ≡ length l.initial.out)
-
-abbrev pub decreases-loop-i : goal.decreases-loop-i
-decreases-loop-i l = l.n - l.i
+invariant-loop-i l = (l.out ≡ put_at l.initial.out 0 (bytes_of (decode_graph l.graph) (decode_property l.property) l.work l.i)) × (length l.out ≡ length l.initial.out)
