@@ -1,4 +1,4 @@
-use mathlib.Core.Path.{refl, sym, ◌∙◌}
+use mathlib.Core.Path.{sym}
 use native.Mathlib.Omega.{arith}
 use Rattle.files.specs.Decode.{decode_graph}
 use Rattle.judging.proofs.CauseLaws.{few_first, firsts_on, ranked_kept}
@@ -7,9 +7,6 @@ use Rattle.files.specs.Access.Laws.{first_edge_zero}
 use Rattle.judging.specs.Ranking.Files.{size_is}
 use Rattle.judging.proofs.causes.first_edges.Goals as goal
 
-pub put16-requires : goal.put16-requires
-put16-requires c = omega (arith, c.requires.1.0)
-
 pub loop-g-init : goal.loop-g-init
 loop-g-init c =
     let a = c.args in
@@ -17,16 +14,10 @@ loop-g-init c =
     let z = sym (first_edge_zero (decode_graph a.graph.now)) in
     (z, firsts_on a.s a.graph.now a.property.now c.requires.0 a.work.now _ 0 0 n.ensures c.requires.1.0 (omega arith) z (λ u h. absurd (omega arith)), ranked_kept a.s a.graph.now a.property.now c.requires.0 a.work.now _ 0 0 n.ensures c.requires.1.1)
 
-pub next_first-first-requires : goal.next_first-first-requires
-next_first-first-requires c = (c.requires.0.held.views.graph_file, c.requires.0.held.views.nodes_are, c.loop-g.invariant.0)
-
 pub overflow_cast-first : goal.overflow_cast-first
 overflow_cast-first c =
     let a = c.args in
     omega (arith, c.next_first-first.ensures, few_first a.s a.graph.now a.property.now c.requires.0 (c.loop-g.g + 1))
-
-pub put16-requires-in-loop-g : goal.put16-requires-in-loop-g
-put16-requires-in-loop-g c = omega (arith, c.requires.0.held.few_nodes, c.requires.1.0)
 
 pub loop-g-preserved : goal.loop-g-preserved
 loop-g-preserved c =

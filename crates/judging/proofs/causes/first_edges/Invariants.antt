@@ -1,10 +1,9 @@
 use mathlib.Core.Path.{◌≡◌}
 use Rattle.files.specs.Decode.{decode_graph, decode_property}
-use Prim.Native.Nat.{ℕ, ◌+◌, ◌-◌, ◌≤◌, ◌<◌}
-use lib.ListN.{length}
+use Prim.Native.Nat.{ℕ, ◌+◌, ◌<◌}
 use Rattle.files.specs.Access.{first_edge}
 use Rattle.files.specs.Cells.{cell}
-use Rattle.judging.specs.Places.{firsts_base, judge_room}
+use Rattle.judging.specs.Places.{firsts_base}
 use Rattle.judging.specs.Ranking.{Ranked}
 use Rattle.judging.proofs.causes.first_edges.Given as goal
 

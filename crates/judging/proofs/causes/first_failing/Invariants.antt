@@ -1,6 +1,6 @@
 use Rattle.files.specs.Decode.{decode_graph, decode_property}
 use mathlib.Core.Bool.{not}
-use Prim.Native.Nat.{ℕ, ◌-◌, ◌≤◌, ◌<◌}
+use Prim.Native.Nat.{ℕ, ◌<◌}
 use lib.Dec.{T}
 use Rattle.judging.specs.Sheets.{fails_at}
 use Rattle.judging.proofs.causes.first_failing.Given as goal

@@ -2,22 +2,13 @@ use mathlib.Core.Path.{◌≡◌, sym, ap, ◌∙◌}
 use native.Mathlib.Omega.{arith}
 use Rattle.files.specs.Decode.{decode_graph, decode_property}
 use Rattle.files.specs.Property.{aims, box_row}
-use Rattle.judging.proofs.CauseLaws.{few_first, edges_start, edge_there, best_start, best_le, best_turn, best_end}
+use Rattle.judging.proofs.CauseLaws.{edges_start, edge_there, best_start, best_le, best_turn, best_end}
 use Prim.Native.Nat.{ℕ, ◌+◌}
 use Rattle.files.specs.Access.{first_edge}
 use Rattle.files.specs.Basics.First.{first_or}
 use Rattle.judging.specs.Ranking.Files.{size_is}
 use Rattle.judging.specs.Sheets.{best_target}
 use Rattle.judging.proofs.causes.foremost.Goals as goal
-
-pub overflow_add-g : goal.overflow_add-g
-overflow_add-g c = omega (arith, c.requires.1.0, c.requires.0.held.few_nodes)
-
-pub get16-end-requires : goal.get16-end-requires
-get16-end-requires c = omega (arith, c.requires.1.0, c.requires.0.held.few_nodes, c.requires.1.1.1.room)
-
-pub get16-start-requires : goal.get16-start-requires
-get16-start-requires c = omega (arith, c.requires.1.0, c.requires.0.held.few_nodes, c.requires.1.1.1.room)
 
 pub loop-j-init : goal.loop-j-init
 loop-j-init c =

@@ -1,7 +1,7 @@
 use mathlib.Core.Path.{◌≡◌}
 use Rattle.files.specs.Decode.{decode_graph, decode_property}
 use Rattle.files.specs.Property.{aims, box_row}
-use Prim.Native.Nat.{◌+◌, ◌-◌, ◌≤◌}
+use Prim.Native.Nat.{◌+◌, ◌≤◌}
 use Rattle.files.specs.Access.{first_edge}
 use Rattle.files.specs.Basics.First.{first_or}
 use Rattle.judging.specs.Sheets.{best_target}

@@ -1,4 +1,4 @@
-use mathlib.Core.Path.{◌≡◌, refl, subst, ◌∙◌}
+use mathlib.Core.Path.{◌≡◌, subst}
 use native.Mathlib.Omega.{arith}
 use Rattle.files.specs.Decode.{decode_graph}
 use lib.ListN.{length}
@@ -6,12 +6,6 @@ use Rattle.files.specs.Graph.{size}
 use Rattle.judging.specs.Chains.{Chained, into}
 use Rattle.judging.proofs.ChainLaws.{edge_count, may_link, edge_on}
 use Rattle.judging.proofs.chains.link_graph.Goals as goal
-
-pub loop-e-init : goal.loop-e-init
-loop-e-init c = (c.requires.1.1.1.1.1.1, λ q d. refl)
-
-pub edge_target-to-requires : goal.edge_target-to-requires
-edge_target-to-requires c = (c.requires.0, (c.requires.1.0, omega (arith, c.requires.1.0, c.requires.1.1.0)))
 
 pub link-requires : goal.link-requires
 link-requires c = let a = c.args in let l = c.loop-e in may_link a.graph.now c.requires.0 a.nodes a.edges c.requires.1.0 c.requires.1.1.0 a.heads a.nexts c.requires.1.1.1.1.0 c.requires.1.1.1.0 l.work (omega (arith, c.requires.1.1.1.1.1.0)) l.e c.edge_target-to.result c.edge_target-to.ensures (omega arith)

@@ -1,7 +1,5 @@
-use mathlib.Core.Path.{◌≡◌}
 use Rattle.files.specs.Decode.{decode_graph}
-use Prim.Native.Nat.{◌+◌, ◌*◌, ◌-◌, ◌≤◌}
-use lib.ListN.{length}
+use Prim.Native.Nat.{◌+◌, ◌*◌}
 use Rattle.files.specs.Graph.{size}
 use Rattle.judging.specs.Chains.{Chained, Outside, into}
 use Rattle.judging.proofs.chains.link_graph.Given as goal

@@ -1,6 +1,3 @@
-use mathlib.Core.Path.{◌≡◌}
-use Prim.Native.Nat.{◌*◌, ◌-◌, ◌≤◌}
-use lib.ListN.{length}
 use Rattle.files.specs.Decode.{decode_property}
 use Rattle.judging.specs.Chains.{Chained, Outside, uses}
 use Rattle.judging.specs.Places.{judge_room, row_heads_base, row_nexts_base}

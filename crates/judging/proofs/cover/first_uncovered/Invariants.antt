@@ -1,6 +1,6 @@
 use Rattle.files.specs.Decode.{decode_graph}
 use mathlib.Core.Bool.{not}
-use Prim.Native.Nat.{ℕ, ◌-◌, ◌≤◌, ◌<◌}
+use Prim.Native.Nat.{ℕ, ◌<◌}
 use lib.Dec.{T}
 use Rattle.judging.specs.Simulation.Laws.{misses}
 use Rattle.judging.proofs.cover.first_uncovered.Given as goal

@@ -8,12 +8,6 @@ use Rattle.judging.proofs.cover.write_relation.Goals as goal
 pub loop-g-init : goal.loop-g-init
 loop-g-init c = let a = c.args in (lines_none (decode_graph a.first.now) (decode_graph a.second.now) a.out.now, refl)
 
-pub overflow_mul-g : goal.overflow_mul-g
-overflow_mul-g c = omega (arith, c.requires.0.first_held.few_nodes)
-
-pub put_line-requires : goal.put_line-requires
-put_line-requires c = (omega (arith, c.requires.1.1.1, c.loop-g.invariant.1), omega (arith, c.requires.0.first_held.few_nodes, c.requires.1.0))
-
 pub loop-g-preserved : goal.loop-g-preserved
 loop-g-preserved c = let l = c.loop-g in
     let x = c.put_line in

@@ -1,6 +1,5 @@
 use mathlib.Core.Path.{◌≡◌}
 use Rattle.files.specs.Decode.{decode_graph}
-use Prim.Native.Nat.{◌-◌, ◌≤◌}
 use lib.ListN.{length}
 use Rattle.files.specs.Cells.{put_at}
 use Rattle.judging.specs.Refinement.Cover.{lines_of}

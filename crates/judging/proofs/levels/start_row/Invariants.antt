@@ -1,8 +1,6 @@
-use mathlib.Core.Path.{◌≡◌}
-use Prim.Native.Nat.{ℕ, ◌-◌, ◌≤◌, ◌<◌}
+use Prim.Native.Nat.{ℕ, ◌<◌}
 use mathlib.Core.Bool.{not}
 use lib.Dec.{T}
-use lib.ListN.{length}
 use Rattle.files.specs.Decode.{decode_graph, decode_property}
 use Rattle.judging.specs.Levels.{level}
 use Rattle.judging.specs.Ranking.{Given, Grew}

@@ -1,6 +1,4 @@
-use mathlib.Core.Path.{◌≡◌}
-use Prim.Native.Nat.{ℕ, ◌-◌, ◌≤◌, ◌<◌}
-use lib.ListN.{length}
+use Prim.Native.Nat.{ℕ, ◌<◌}
 use Rattle.files.specs.Decode.{decode_graph}
 use Rattle.judging.specs.Refinement.{Shrank, LabelMatched}
 use Rattle.judging.proofs.matches.hand_on.Given as goal

@@ -1,5 +1,5 @@
 use mathlib.Core.Path.{◌≡◌}
-use Prim.Native.Nat.{◌*◌, ◌-◌, ◌≤◌}
+use Prim.Native.Nat.{◌*◌}
 use lib.ListN.{length, replicate}
 use Rattle.files.specs.Places.{line_bytes}
 use Rattle.judging.specs.Refinement.{Preceded}

@@ -1,19 +1,9 @@
-use mathlib.Core.Path.{refl, ◌∙◌}
 use Prim.Native.Nat.{◌-◌}
 use native.Mathlib.Omega.{arith}
 use Rattle.judging.specs.Places.{cursors_base, neighbours_base}
 use Rattle.judging.specs.Refinement.Files.{first_edge_in}
 use Rattle.judging.proofs.OrderLaws.{outside_on, pair_put}
 use Rattle.judging.proofs.order.put_cursors.Goals as goal
-
-pub loop-e-init : goal.loop-e-init
-loop-e-init c = (λ q d. refl)
-
-pub source_of-u-requires : goal.source_of-u-requires
-source_of-u-requires c = (c.requires.0.first_held.views.graph_file, (c.requires.0.first_held.views.nodes_are, omega (arith, c.requires.0.first_held.views.edges_are, c.requires.0.first_held.views.nodes_are)))
-
-pub overflow_cast-e : goal.overflow_cast-e
-overflow_cast-e c = omega (arith, c.requires.0.first_held.few_edges)
 
 pub put16-requires : goal.put16-requires
 put16-requires c = let b = first_edge_in c.args.s c.args.first.now c.args.second.now c.requires.0 (c.loop-e.e - 1) (omega arith) in omega (arith, c.source_of-u.ensures, b.0, c.requires.0.first_held.few_nodes, c.requires.1)
@@ -24,6 +14,3 @@ loop-e-preserved c =
     let p = c.put16 in
     let b = first_edge_in c.args.s c.args.first.now c.args.second.now c.requires.0 (l.e - 1) (omega arith) in
     (outside_on cursors_base neighbours_base c.args.work.now l.work p.new.work l.invariant (pair_put l.work p.new.work cursors_base c.source_of-u.result _ cursors_base neighbours_base p.ensures (omega arith) (omega (arith, c.source_of-u.ensures, b.0, c.requires.0.first_held.few_nodes))))
-
-pub returns : goal.returns
-returns c = c.loop-e.invariant

@@ -1,6 +1,3 @@
-use mathlib.Core.Path.{◌≡◌}
-use Prim.Native.Nat.{◌≤◌}
-use lib.ListN.{length}
 use Rattle.judging.specs.Chains.{Outside}
 use Rattle.judging.specs.Places.{cursors_base, neighbours_base}
 use Rattle.judging.proofs.order.put_cursors.Given as goal

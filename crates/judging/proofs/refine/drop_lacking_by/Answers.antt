@@ -1,21 +1,8 @@
-use mathlib.Core.Path.{refl, ◌∙◌}
 use native.Mathlib.Omega.{arith}
 use Rattle.files.specs.Decode.{decode_graph}
-use Rattle.judging.specs.Refinement.Handing.{shrank_none, shrank_on}
+use Rattle.judging.specs.Refinement.Handing.{shrank_on}
 use Rattle.judging.proofs.MatchLaws.{lacking_drop, dropped_turn, leading_all}
 use Rattle.judging.proofs.refine.drop_lacking_by.Goals as goal
-
-pub lacking-gone-requires : goal.lacking-gone-requires
-lacking-gone-requires c = (c.requires.1.1.room, (c.requires.0.second_held.few_nodes, c.requires.1.0))
-
-pub loop-v-init : goal.loop-v-init
-loop-v-init c = (shrank_none (decode_graph c.args.first.now) (decode_graph c.args.second.now) c.args.work.now c.requires.1.1, λ e h he li below. absurd (omega (arith, below)))
-
-pub overflow_mul-v : goal.overflow_mul-v
-overflow_mul-v c = omega (arith, c.requires.0.first_held.few_nodes)
-
-pub slice_bounds-drop_from-end : goal.slice_bounds-drop_from-end
-slice_bounds-drop_from-end c = omega (arith, c.lacking-gone.ensures.0)
 
 pub drop_from-requires : goal.drop_from-requires
 drop_from-requires c =

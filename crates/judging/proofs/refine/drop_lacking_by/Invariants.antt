@@ -1,7 +1,6 @@
 use mathlib.Core.Path.{◌≡◌}
-use Prim.Native.Nat.{ℕ, ◌-◌, ◌≤◌, ◌<◌}
+use Prim.Native.Nat.{ℕ, ◌<◌}
 use lib.Dec.{T}
-use lib.ListN.{length}
 use Rattle.files.specs.Cells.{has_bit}
 use Rattle.files.specs.Decode.{decode_graph}
 use Rattle.files.specs.Places.{max_nodes}

@@ -1,7 +1,6 @@
 use mathlib.Core.Path.{◌≡◌}
-use Prim.Native.Nat.{ℕ, ◌-◌, ◌≤◌, ◌<◌}
+use Prim.Native.Nat.{ℕ, ◌<◌}
 use lib.Dec.{ltb}
-use lib.ListN.{length}
 use Rattle.files.specs.Places.{max_nodes}
 use Rattle.judging.specs.Chains.{Outside}
 use Rattle.judging.specs.Places.{held_base, kinds_base}

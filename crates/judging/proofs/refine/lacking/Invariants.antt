@@ -1,5 +1,4 @@
 use mathlib.Core.Path.{◌≡◌}
-use Prim.Native.Nat.{◌-◌, ◌≤◌}
 use lib.ListN.{length}
 use Rattle.files.specs.Places.{line_bytes}
 use Rattle.judging.specs.Refinement.{Lacking}

@@ -1,4 +1,4 @@
-use Prim.Native.Nat.{ℕ, ◌-◌, ◌≤◌, ◌<◌}
+use Prim.Native.Nat.{ℕ, ◌<◌}
 use lib.Dec.{T}
 use Rattle.files.specs.Places.{max_nodes}
 use Rattle.judging.specs.Refinement.{rel, held}

@@ -1,6 +1,4 @@
-use mathlib.Core.Path.{◌≡◌}
-use Prim.Native.Nat.{◌-◌, ◌≤◌}
-use lib.ListN.{length}
+use Prim.Native.Nat.{◌≤◌}
 use Rattle.files.specs.Decode.{decode_graph}
 use Rattle.judging.specs.Refinement.{load, Matching}
 use Rattle.judging.proofs.refine.sweep.Given as goal
