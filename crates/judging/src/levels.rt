@@ -258,6 +258,7 @@ pub(crate) fn levels(graph: &[u8], property: &[u8], s: Shape, work: &mut [u8], f
     let mut head = 0;
     let mut tail = first;
     let mut k = 1;
+    // Each level sets where the next one begins and ends, until one is empty.
     while head < tail {
         let end = level(graph, property, s, work, head, tail, k);
         head = tail;
