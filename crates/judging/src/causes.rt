@@ -60,12 +60,9 @@ pub(crate) fn first_failing(graph: &[u8], property: &[u8], s: Shape, work: &[u8]
     requires { (Ready s graph.now property.now) × ((judge_room ≤ length work.now) × (Ranked (decode_graph graph.now) (decode_property property.now) work.now)) }
     ensures { result ≡ failing (decode_graph graph.now) (decode_property property.now) }
 {
-    for g in 0..s.graph.nodes {
-        if fails_at(graph, property, s, work, g) {
-            return g;
-        }
-    }
-    s.graph.nodes
+    (0..s.graph.nodes)
+        .find(|g| fails_at(graph, property, s, work, *g))
+        .unwrap_or(s.graph.nodes)
 }
 
 // Puts the first edge of each node, and the number of edges, into the buffer.

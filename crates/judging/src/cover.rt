@@ -67,12 +67,9 @@ pub(crate) fn first_uncovered(first: &[u8], second: &[u8], s: Sizes, work: &[u8]
     ensures { result ≡ uncovered (decode_graph first.now) (decode_graph second.now) }
 {
     let row = entries(first, second, s);
-    for g in 0..s.first.nodes {
-        if is_uncovered(first, second, s, work, &row, g) {
-            return g;
-        }
-    }
-    s.first.nodes
+    (0..s.first.nodes)
+        .find(|g| is_uncovered(first, second, s, work, &row, *g))
+        .unwrap_or(s.first.nodes)
 }
 
 // Writes the relation, 32 bytes for each node of the first graph.

@@ -1,22 +1,15 @@
-use mathlib.Core.Path.{◌≡◌, sym, subst, ◌∙◌}
-use native.Mathlib.Omega.{arith}
+use borrow.Author.Tests.{tests}
+use Rattle.std.specs.Prelude.{not, T}
+use Rattle.std.proofs.Common.{◌∙◌, rules}
+use Rattle.std.proofs.lemmas.Iterator.{first_from_Range}
 use Rattle.files.specs.Decode.{decode_graph, decode_property}
-use lib.Dec.{T}
-use Rattle.files.specs.Graph.{size}
-use Rattle.judging.specs.Ranking.Files.{size_is}
-use Rattle.judging.specs.Sheets.Laws.{failing_at, failing_none}
+use Rattle.judging.specs.Sheets.{fails_at}
+use Rattle.judging.proofs.CauseLaws.{lowest_failing}
 use Rattle.judging.proofs.causes.first_failing.Goals as goal
-
-pub returns-then-fails_at : goal.returns-then-fails_at
-returns-then-fails_at c =
-    let a = c.args in
-    let l = c.loop-g in
-    sym (failing_at (decode_graph a.graph.now) (decode_property a.property.now) l.g (omega (arith, size_is a.s a.graph.now a.property.now c.requires.0)) l.invariant (subst T (sym (sym c.fails_at.ensures ∙ c.if-fails_at.true)) tt))
 
 pub returns : goal.returns
 returns c =
     let a = c.args in
-    let l = c.loop-g in
-    let e : l.g ≡ size (decode_graph a.graph.now) = omega (arith, size_is a.s a.graph.now a.property.now c.requires.0) in
-    let n : a.s.graph.nodes ≡ l.g = omega arith in
-    n ∙ e ∙ sym (failing_none (decode_graph a.graph.now) (decode_property a.property.now) (λ u h. l.invariant u (omega (arith, h, e))))
+    let fails = fails_at (decode_graph a.graph.now) (decode_property a.property.now) in
+    let found = first_from_Range _ _ _ _ (λ g. T (fails g)) (λ g. T (not (fails g))) c.find.ensures.ran (λ g q k. search (rules, tests)) (λ g q k. search (rules, tests)) in
+    c.unwrap_or.ensures ∙ lowest_failing a.s a.graph.now a.property.now c.requires.0 c.find.result found

@@ -1,16 +1,15 @@
-use mathlib.Core.Path.{◌≡◌, ◌∙◌}
-use mathlib.Core.Path.{◌∙◌}
-use native.Mathlib.Omega.{arith}
-use Rattle.judging.proofs.CoverLaws.{lowest_at, lowest_none}
+use borrow.Author.Tests.{tests}
+use Rattle.std.specs.Prelude.{not, T}
+use Rattle.std.proofs.Common.{◌∙◌, rules}
+use Rattle.std.proofs.lemmas.Iterator.{first_from_Range}
+use Rattle.files.specs.Decode.{decode_graph}
+use Rattle.judging.specs.Simulation.Laws.{misses}
+use Rattle.judging.proofs.CoverLaws.{lowest_uncovered}
 use Rattle.judging.proofs.cover.first_uncovered.Goals as goal
-
-pub returns-then-is_uncovered : goal.returns-then-is_uncovered
-returns-then-is_uncovered c =
-    let l = c.loop-g in
-    lowest_at c.args.s c.args.first.now c.args.second.now c.requires.0 l.g (omega arith) l.invariant c.is_uncovered.result c.is_uncovered.ensures c.if-is_uncovered.true
 
 pub returns : goal.returns
 returns c =
-    let l = c.loop-g in
-    let n : c.args.s.first.nodes ≡ l.g = omega arith in
-    n ∙ lowest_none c.args.s c.args.first.now c.args.second.now c.requires.0 l.g (omega arith) (omega arith) l.invariant
+    let a = c.args in
+    let lacks = misses (decode_graph a.first.now) (decode_graph a.second.now) in
+    let found = first_from_Range _ _ _ _ (λ g. T (lacks g)) (λ g. T (not (lacks g))) c.find.ensures.ran (λ g q k. search (rules, tests)) (λ g q k. search (rules, tests)) in
+    c.unwrap_or.ensures ∙ lowest_uncovered a.s a.first.now a.second.now c.requires.0 c.find.result found
