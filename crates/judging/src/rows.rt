@@ -98,8 +98,8 @@ pub(crate) fn any_at(work: &[u8], at: usize) -> bool
     ensures { (T result → (h : ℕ) × (h < max_nodes) × T (has_bit work.now at h)) × (T (not result) → (h : ℕ) → h < max_nodes → has_bit work.now at h ≡ false) }
 {
     let mut any = 0;
-    for k in 0..LINE {
-        any = any | work[at + k];
+    for byte in &work[at..at + LINE] {
+        any |= *byte;
     }
     wide(any) > 0
 }

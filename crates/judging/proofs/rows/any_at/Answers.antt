@@ -4,5 +4,5 @@ use Rattle.judging.proofs.rows.any_at.Goals as goal
 
 pub returns : goal.returns
 returns c = let a = c.args in
-    let l = c.loop-k in
-    any_by a.work.now a.at l.any l.k c.wide.result l.invariant (omega arith) (omega arith) c.wide.ensures.0 c.wide.ensures.1
+    let l = c.loop-byte in
+    any_by a.work.now a.at l.any l.byte-index c.wide.result l.invariant (omega arith) (omega arith) c.wide.ensures.0 c.wide.ensures.1
