@@ -12,7 +12,7 @@ use Rattle.files.specs.Cells.Laws.{at_inside, at_outside, put_at_is}
 use Rattle.judging.specs.Chains.{Outside}
 
 -- a part put back is a run stored
-pub mid_is : (a k : ℕ) (w ys : List ℕ) → length ys ≡ k → put_mid a k w ys ≡ put_at w a ys
+mid_is : (a k : ℕ) (w ys : List ℕ) → length ys ≡ k → put_mid a k w ys ≡ put_at w a ys
 mid_is a k w ys e =
     ap (λ (l : List ℕ). take a w ++ (ys ++ l)) (drop-drop k a w ∙ ap (λ (n : ℕ). drop (a + n) w) (sym e))
     ∙ sym (append_assoc (take a w) ys (drop (a + length ys) w))

@@ -23,7 +23,9 @@ pub(crate) fn row_at(work: &[u8], at: usize) -> [u8; LINE]
     ensures { (length result ≡ line_bytes) × ((h : ℕ) → h < max_nodes → has_bit result 0 h ≡ has_bit work.now at h) }
 {
     let mut row = [0u8; LINE];
-    row.copy_from_slice(&work[at..at + LINE]);
+    for k in 0..LINE {
+        row[k] = work[at + k];
+    }
     row
 }
 
@@ -44,7 +46,9 @@ pub(crate) fn put_row(work: &mut [u8], at: usize, row: &[u8])
     requires { (at + line_bytes ≤ length work.old) × (32 ≤ length row.now) }
     ensures { ((h : ℕ) → h < max_nodes → has_bit work.new at h ≡ has_bit row.now 0 h) × (Outside at (at + line_bytes) work.old work.new) }
 {
-    work[at..at + LINE].copy_from_slice(&row[..LINE]);
+    for k in 0..LINE {
+        work[at + k] = row[k];
+    }
 }
 
 // A row and the row from `at` on together.

@@ -1,7 +1,7 @@
-use Rattle.std.proofs.lemmas.List.{places}
-use Rattle.std.proofs.Common.{refl, arith, rules}
+use mathlib.Core.Path.{refl}
+use native.Mathlib.Omega.{arith}
 use Rattle.judging.proofs.RowLaws.{copied_bits}
 use Rattle.judging.proofs.rows.row_at.Goals as goal
 
 pub returns : goal.returns
-returns c = let r = c.copy_from_slice.new.self in (search rules, copied_bits c.args.work.now c.args.at r r 32 (omega arith) (λ j h. search (rules, places), λ q d. refl))
+returns c = (c.loop-k.invariant.0, copied_bits c.args.work.now c.args.at c.loop-k.row c.loop-k.row c.loop-k.k (omega arith) (c.loop-k.invariant.1, λ q d. refl))
