@@ -1,9 +1,11 @@
 -- For the code that finds causes: ranks and first edges as their cells hold them, targets as numbers, and causes by a row's operator.
 use mathlib.Core.Path.{◌≡◌, refl, sym, ap, ap₂, subst, ◌∙◌}
 use mathlib.Core.Logic.{inl}
-use mathlib.Core.Bool.{Bool, true, false, cond, ◌&&◌, ◌||◌}
+use mathlib.Core.Bool.{Bool, true, false, not, cond, ◌&&◌, ◌||◌}
 use mathlib.Core.List.{List, [], ◌∷◌}
 use mathlib.Core.Option.{Option, none, some}
+use Rattle.std.specs.Prelude.{Option as OptionOf, None, Some, MatchOption}
+use Rattle.std.specs.Option.{unwrap_or}
 use Prim.Native.Nat.{ℕ, suc, ◌+◌, ◌*◌, ◌≤◌, ◌<◌}
 use native.Mathlib.Nat.{mul-le-mul}
 use native.Mathlib.Numerals.{add-one}
@@ -31,14 +33,14 @@ use Rattle.judging.specs.Places.{firsts_base, judge_room, max_pairs}
 use Rattle.judging.specs.declared.causes.Cause.{Cause}
 use Rattle.judging.specs.declared.shape.Shape.{Shape}
 use Rattle.judging.specs.Levels.{holds, rank}
-use Rattle.judging.specs.Levels.Sheet.{no_cause, targets, lower, ahead, box_causes, causes}
+use Rattle.judging.specs.Levels.Sheet.{no_cause, targets, lower, ahead, box_causes, causes, failing}
 use Rattle.judging.specs.Levels.Sheet.Laws.{lower_is, ahead_is, box_none, box_some, causes_both, causes_box, causes_rest}
 use Rattle.judging.proofs.Theorems.Levels.Sheet.Laws.{causes_either}
 use Rattle.judging.specs.Ranking.{Ready, rank_at, Ranked}
 use Rattle.judging.specs.Ranking.Files.{size_is, edges_is, rows_is, is_flow, is_property, nodes_fit, rows_fit}
 use Rattle.judging.specs.Ranking.Laws.{ranked_e, ranked_i}
-use Rattle.judging.specs.Sheets.{cause_held, AreCauses, as_causes, best_target, better}
-use Rattle.judging.specs.Sheets.Laws.{within, best_none, best_still, best_within, best_on, box_causes_are}
+use Rattle.judging.specs.Sheets.{cause_held, AreCauses, as_causes, fails_at, best_target, better}
+use Rattle.judging.specs.Sheets.Laws.{failing_at, failing_none, within, best_none, best_still, best_within, best_on, box_causes_are}
 use Rattle.judging.proofs.Theorems.Sheets.Laws.{zero_holds, rank_zero, rank_found}
 
 -- ---- ranks
@@ -58,6 +60,12 @@ module _ (s : Shape) (g p : List ℕ) (ready : Ready s g p) where
 
   as_row : (r : ℕ) → r < s.rows → r < length P
   as_row r h = omega (arith, rows_is s g p ready)
+
+  -- ---- the lowest failing entry, from what a search of the nodes gives
+
+  pub lowest_failing : (r : OptionOf ℕ) → MatchOption r ((v : ℕ) → 0 ≤ v → v < s.graph.nodes → T (not (fails_at G P v))) (λ v. (0 ≤ v) × (v < s.graph.nodes) × T (fails_at G P v) × ((u : ℕ) → 0 ≤ u → u < v → T (not (fails_at G P u)))) → unwrap_or r s.graph.nodes ≡ failing G P
+  lowest_failing None h = sym (size_is s g p ready) ∙ sym (failing_none G P (λ v l. h v (omega arith) (omega (arith, l, size_is s g p ready))))
+  lowest_failing (Some v) h = sym (failing_at G P v (as_node v h.1) (λ u l. h.3 u (omega arith) l) h.2)
 
   module _ (w : List ℕ) (found : Ranked G P w) where
     module _ (v r x : ℕ) (hv : v < s.graph.nodes) (hr : r < s.rows) (is : x ≡ rank_at w v r) where

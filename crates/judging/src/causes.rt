@@ -60,14 +60,9 @@ pub(crate) fn first_failing(graph: &[u8], property: &[u8], s: Shape, work: &[u8]
     requires { (Ready s graph.now property.now) × ((judge_room ≤ length work.now) × (Ranked (decode_graph graph.now) (decode_property property.now) work.now)) }
     ensures { result ≡ failing (decode_graph graph.now) (decode_property property.now) }
 {
-    let mut g = 0;
-    while g < s.graph.nodes {
-        if fails_at(graph, property, s, work, g) {
-            return g;
-        }
-        g += 1;
-    }
-    g
+    (0..s.graph.nodes)
+        .find(|g| fails_at(graph, property, s, work, *g))
+        .unwrap_or(s.graph.nodes)
 }
 
 // Puts the first edge of each node, and the number of edges, into the buffer.
@@ -75,13 +70,11 @@ pub(crate) fn first_edges(graph: &[u8], property: &[u8], s: Shape, work: &mut [u
     requires { (Ready s graph.now property.now) × ((judge_room ≤ length work.old) × (Ranked (decode_graph graph.now) (decode_property property.now) work.old)) }
     ensures { Settled (decode_graph graph.now) (decode_property property.now) work.new }
 {
-    let mut g = 0;
     let mut first = 0;
     put16(work, Shape::FIRSTS, 0, 0);
-    while g < s.graph.nodes {
+    for g in 0..s.graph.nodes {
         first = next_first(graph, s.graph.nodes, g, first);
-        g += 1;
-        put16(work, Shape::FIRSTS, g, first as u16);
+        put16(work, Shape::FIRSTS, g + 1, first as u16);
     }
 }
 
@@ -156,11 +149,10 @@ fn foremost(graph: &[u8], property: &[u8], s: Shape, work: &[u8], g: usize, x: P
     ensures { result ≡ first_or (best_target (decode_graph graph.now) (decode_property property.now) g (aims x.operator x.a) (box_row x.operator x.a x.b) s.graph.edges) s.graph.nodes }
 {
     let end = get16(work, Shape::FIRSTS, g + 1) as usize;
-    let mut j = get16(work, Shape::FIRSTS, g) as usize;
+    let start = get16(work, Shape::FIRSTS, g) as usize;
     let mut best = s.graph.nodes;
-    while j < end {
+    for j in start..end {
         best = better(graph, property, s, work, x, best, j);
-        j += 1;
     }
     best
 }

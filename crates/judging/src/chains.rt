@@ -76,11 +76,9 @@ pub(crate) fn link_graph(
     requires { (GraphFile graph.now) × ((nodes ≡ nodes_of graph.now) × ((edges ≡ count graph.now - nodes_of graph.now) × ((edges ≤ max_edges) × ((heads + 2 * nodes ≤ nexts) × ((nexts + 2 * edges ≤ length work.old) × (Chained work.old heads nexts (into (decode_graph graph.now)) (size (decode_graph graph.now)) 0)))))) }
     ensures { (Chained work.new heads nexts (into (decode_graph graph.now)) (size (decode_graph graph.now)) (length (decode_graph graph.now).edges)) × (Outside heads (nexts + 2 * edges) work.old work.new) }
 {
-    let mut e = 0;
-    while e < edges {
+    for e in 0..edges {
         let to = edge_target(graph, nodes, e);
         link(work, heads, nexts, to, e);
-        e += 1;
     }
 }
 
@@ -100,10 +98,8 @@ fn link_places(graph: &[u8], property: &[u8], s: Shape, work: &mut [u8])
     requires { (Ready s graph.now property.now) × ((judge_room ≤ length work.old) × (Chained work.old row_heads_base row_nexts_base (uses (decode_property property.now)) s.rows 0)) }
     ensures { (Chained work.new row_heads_base row_nexts_base (uses (decode_property property.now)) s.rows (2 * s.rows)) × (Outside row_heads_base judge_room work.old work.new) }
 {
-    let mut j = 0;
-    while j < 2 * s.rows {
+    for j in 0..2 * s.rows {
         link_place(graph, property, s, work, j);
-        j += 1;
     }
 }
 

@@ -107,11 +107,9 @@ fn start_row(
     if !may_fall(property, r) {
         return tail;
     }
-    let mut g = 0;
     let mut end = tail;
-    while g < s.graph.nodes {
+    for g in 0..s.graph.nodes {
         end = start_pair(graph, property, s, work, end, g, r);
-        g += 1;
     }
     end
 }
@@ -121,11 +119,9 @@ pub(crate) fn start(graph: &[u8], property: &[u8], s: Shape, work: &mut [u8]) ->
     requires { (Ready s graph.now property.now) × (Finding (decode_graph graph.now) (decode_property property.now) 0 0 work.old) }
     ensures { Found (decode_graph graph.now) (decode_property property.now) 1 0 result work.new }
 {
-    let mut r = 0;
     let mut end = 0;
-    while r < s.rows {
+    for r in 0..s.rows {
         end = start_row(graph, property, s, work, end, r);
-        r += 1;
     }
     end
 }
@@ -244,14 +240,12 @@ pub(crate) fn level(
     requires { (Ready s graph.now property.now) × ((Found (decode_graph graph.now) (decode_property property.now) k head tail work.old) × ((head < tail) × (1 ≤ k))) }
     ensures { Found (decode_graph graph.now) (decode_property property.now) (suc k) tail result work.new }
 {
-    let mut i = head;
     let mut end = tail;
-    while i < tail {
+    for i in head..tail {
         let p = get16(work, Shape::QUEUE, i) as usize;
         let v = p / Shape::STRIDE;
         let r = p % Shape::STRIDE;
         end = pop(graph, property, s, work, end, v, r, k);
-        i += 1;
     }
     end
 }
@@ -264,6 +258,7 @@ pub(crate) fn levels(graph: &[u8], property: &[u8], s: Shape, work: &mut [u8], f
     let mut head = 0;
     let mut tail = first;
     let mut k = 1;
+    // Each level sets where the next one begins and ends, until one is empty.
     while head < tail {
         let end = level(graph, property, s, work, head, tail, k);
         head = tail;

@@ -65,10 +65,8 @@ fn predecessors(work: &[u8], nodes: &[u8]) -> [u8; LINE]
     ensures { (length result ≡ line_bytes) × (Preceded work.now nodes.now (replicate line_bytes 0) result 0 256) }
 {
     let mut met = [0u8; LINE];
-    let mut k = 0;
-    while k < 8 {
+    for k in 0..8 {
         met = with_predecessors(work, nodes, &met, k);
-        k += 1;
     }
     met
 }
@@ -123,10 +121,8 @@ fn sift(work: &[u8], label: usize, row: &[u8], found: &[u8], gone: &mut [u8])
     requires { ((32 ≤ length row.now) × ((32 ≤ length found.now) × (32 ≤ length gone.old))) × ((compare_room ≤ length work.now) × (label < 9)) }
     ensures { Sifted work.now label row.now found.now gone.old gone.new 0 256 }
 {
-    let mut k = 0;
-    while k < 8 {
+    for k in 0..8 {
         sift_word(work, label, row, found, gone, k);
-        k += 1;
     }
 }
 
@@ -190,9 +186,7 @@ pub(crate) fn hand_on(first: &[u8], second: &[u8], s: Sizes, work: &mut [u8], v:
     let lost = row_without(work, Sizes::HELD + LINE * v, row);
     let met = predecessors(work, &lost);
     let near = nodes_near(first, second, s, work, row, &lost);
-    let mut label = 0;
-    while label < 9 {
+    for label in 0..9 {
         hand_on_by(first, second, s, work, v, label, row, &met, &near);
-        label += 1;
     }
 }

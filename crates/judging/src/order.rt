@@ -85,13 +85,11 @@ fn walk_from(
         left: left,
         ended: false,
     };
-    let mut steps = s.first.edges + s.first.nodes;
-    while steps > 0 {
+    for _ in 0..s.first.edges + s.first.nodes {
         if w.ended {
             return w.left;
         }
         w = step(first, second, s, work, w);
-        steps -= 1;
     }
     w.left
 }
@@ -114,11 +112,9 @@ fn put_cursors(first: &[u8], second: &[u8], s: Sizes, work: &mut [u8])
     requires { (Both s first.now second.now) × (compare_room ≤ length work.old) }
     ensures { Outside cursors_base neighbours_base work.old work.new }
 {
-    let mut left = s.first.edges;
-    while left > 0 {
-        left -= 1;
-        let u = source_of(first, s.first.nodes, left);
-        put16(work, Sizes::CURSORS, u, left as u16);
+    for e in (0..s.first.edges).rev() {
+        let u = source_of(first, s.first.nodes, e);
+        put16(work, Sizes::CURSORS, u, e as u16);
     }
 }
 
@@ -128,10 +124,8 @@ pub(crate) fn put_in_order(first: &[u8], second: &[u8], s: Sizes, work: &mut [u8
     ensures { Outside cursors_base neighbours_base work.old work.new }
 {
     put_cursors(first, second, s, work);
-    let mut root = 0;
     let mut left = 0;
-    while root < s.first.nodes {
+    for root in 0..s.first.nodes {
         left = visit(first, second, s, work, root, left);
-        root += 1;
     }
 }
