@@ -1,6 +1,6 @@
 // The record of six bytes, whatever its kind: its constants, its constructors, and what it reads as.
 ghost use Rattle.std.specs.Prelude.{◌≡◌, [], ◌∷◌};
-ghost use Rattle.files.specs.Record.{six, node_record, edge_record};
+ghost use Rattle.files.specs.Record.{six, node_record, edge_record, step_number, step_of};
 ghost use Rattle.files.specs.Limits.{desk};
 
 // The six bytes of a record, in file order.
@@ -72,13 +72,13 @@ impl Record {
     }
 
     // A record of a trail, which has no kind either: node, state, step, label, and the node and state reached.
-    pub fn step(node: u8, state: u8, step: u8, label: u8, reached: u8, next: u8) -> Self
-        ensures { six result ≡ node ∷ state ∷ step ∷ label ∷ reached ∷ next ∷ [] }
+    pub fn step(node: u8, state: u8, step: Step, label: u8, reached: u8, next: u8) -> Self
+        ensures { six result ≡ node ∷ state ∷ step_number step ∷ label ∷ reached ∷ next ∷ [] }
     {
         Record {
             kind: node,
             first: state,
-            second: step,
+            second: step.number(),
             third: label,
             fourth: reached,
             fifth: next,
@@ -113,19 +113,40 @@ impl Operator {
     pub const BOX_ALL: u8 = 10;
 }
 
-// The steps of a trail's records.
-#[derive(Drop)]
-pub struct Step {}
+// A step of a trail: its first record, an internal step, a call entered, and one passed over.
+#[derive(Clone, Copy, PartialEq, Eq)]
+pub enum Step {
+    Start,
+    Internal,
+    Entered,
+    Passed,
+}
 
 impl Step {
-    pub const START: u8 = 0;
+    // Its number in a trail's records.
+    pub fn number(self) -> u8
+        ensures { result ≡ step_number self }
+    {
+        match self {
+            Step::Start => 0,
+            Step::Internal => 1,
+            Step::Entered => 2,
+            Step::Passed => 3,
+        }
+    }
 
-    pub const INTERNAL: u8 = 1;
-
-    // A call entered, and one passed over.
-    pub const ENTERED: u8 = 2;
-
-    pub const PASSED: u8 = 3;
+    // The step of a number, if it is one's.
+    pub fn of(number: u8) -> Option<Self>
+        ensures { result ≡ step_of number }
+    {
+        match number {
+            0 => Some(Step::Start),
+            1 => Some(Step::Internal),
+            2 => Some(Step::Entered),
+            3 => Some(Step::Passed),
+            _ => None,
+        }
+    }
 }
 
 // How much a file may hold.

@@ -4,6 +4,7 @@ use Prim.Native.Nat.{◌*◌}
 use native.Mathlib.Omega.{arith}
 use lib.Dec.{T}
 use Rattle.files.specs.Cells.{put_at}
+use Rattle.files.specs.Record.{step_number}
 use Rattle.files.specs.Places.{record_len}
 use Rattle.runs.specs.Searching.{rec_of}
 use Rattle.runs.specs.Searching.Pushes.{push_seen, push_new}
@@ -12,7 +13,7 @@ use Rattle.runs.proofs.items.push.Goals as goal
 pub returns-then-has_bit : goal.returns-then-has_bit
 returns-then-has_bit c =
     let a = c.args in
-    push_seen a.work.now a.tail a.head (rec_of a.g a.q a.kind a.label a.to a.next) c.has_bit.result c.has_bit.ensures c.if-has_bit.true
+    push_seen a.work.now a.tail a.head (rec_of a.g a.q (step_number a.step) a.label a.to a.next) c.has_bit.result c.has_bit.ensures c.if-has_bit.true
 
 pub put_record-requires : goal.put_record-requires
 put_record-requires c =
@@ -41,7 +42,7 @@ pub returns : goal.returns
 returns c =
     let a = c.args in
     push_new a.work.now c.put_record.new.out
-    c.put16.new.work c.put_bit.new.work a.tail a.head (rec_of a.g a.q a.kind a.label a.to a.next)
+    c.put16.new.work c.put_bit.new.work a.tail a.head (rec_of a.g a.q (step_number a.step) a.label a.to a.next)
     c.has_bit.result
     c.has_bit.ensures
     c.if-has_bit.false
