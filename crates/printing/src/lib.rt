@@ -2,7 +2,8 @@
 // files. What is printed is tested, not proved; it is proved that nothing is read past its end and that every call returns.
 #![tactic(auto)]
 
-ghost use Rattle.std.specs.Prelude.{◌≡◌, length, take};
+ghost use Rattle.std.specs.Prelude.{◌≡◌, ◌/◌, length, take};
+ghost use Rattle.files.specs.Places.{record_len};
 
 pub mod input;
 pub mod stdout;
@@ -33,6 +34,17 @@ pub fn first(bytes: &[u8], n: usize) -> &[u8]
     &bytes[..n.min(bytes.len())]
 }
 
+// The bytes of a record.
+pub type Fields = [u8; Record::LEN];
+
+// The whole records of these bytes.
+pub fn records(bytes: &[u8]) -> &[Fields]
+    ensures { length result.now ≡ length bytes.now / record_len }
+{
+    let (records, _) = bytes.as_chunks();
+    records
+}
+
 // Words alone.
 pub fn say(stdout: &mut Buffered, words: &[u8]) {
     stdout.put_all(words);
@@ -60,8 +72,7 @@ pub fn say_bytes(stdout: &mut Buffered, bytes: &[u8]) {
 
 // The first n records of what a call wrote, or all that there are.
 pub fn say_records(stdout: &mut Buffered, out: &[u8], n: usize) {
-    let (records, _) = out.as_chunks::<{ Record::LEN }>();
-    for record in records.iter().take(n) {
+    for record in records(out).iter().take(n) {
         say_bytes(stdout, record);
     }
 }
