@@ -3,7 +3,7 @@ use crate::ranges::say_ranges;
 use files::cells::{put_bit, wide};
 use files::encode::LINE;
 use printing::stdout::Buffered;
-use printing::{Fields, records, say};
+use printing::{Fields, say};
 
 // An arrow up to its label. The spaces around a label keep it apart from the next arrow's.
 pub fn say_ends(stdout: &mut Buffered, from: u8, to: u8) {
@@ -26,8 +26,7 @@ fn labels_between(edges: &[Fields], from: u8, to: u8) -> [u8; LINE] {
 }
 
 // The arrow of each edge and of all later ones between its nodes, where no earlier edge has drawn it.
-pub fn say_arrows(stdout: &mut Buffered, edges: &[u8]) {
-    let edges = records(edges);
+pub fn say_arrows(stdout: &mut Buffered, edges: &[Fields]) {
     for (i, edge) in edges.iter().enumerate() {
         let [_, from, _, to, ..] = *edge;
         if !edges[..i].iter().any(|earlier| joins(earlier, from, to)) {

@@ -82,8 +82,12 @@ pub fn model(stdout: &mut Buffered, at: Option<usize>) {
     say_modelled(stdout, answer, &out, at);
 }
 
-// The join with the second side's files, of the first side's, which are loaded. A function with four buffers of its own takes several times as long to prove.
-fn join_with(stdout: &mut Buffered, interface1: &[u8], graph1: &[u8], at: Option<usize>) {
+pub fn join(stdout: &mut Buffered, at: Option<usize>) {
+    let mut interface1 = large_buffer();
+    let mut graph1 = large_buffer();
+    let Some((interface1, graph1)) = load_two(stdout, 2, &mut interface1, &mut graph1) else {
+        return;
+    };
     let mut interface2 = large_buffer();
     let mut graph2 = large_buffer();
     let Some((interface2, graph2)) = load_two(stdout, 4, &mut interface2, &mut graph2) else {
@@ -92,15 +96,6 @@ fn join_with(stdout: &mut Buffered, interface1: &[u8], graph1: &[u8], at: Option
     let mut out = large_buffer();
     let answer = runs::join(interface1, graph1, interface2, graph2, &mut out);
     say_joined(stdout, answer, &out, at);
-}
-
-pub fn join(stdout: &mut Buffered, at: Option<usize>) {
-    let mut interface1 = large_buffer();
-    let mut graph1 = large_buffer();
-    let Some((interface1, graph1)) = load_two(stdout, 2, &mut interface1, &mut graph1) else {
-        return;
-    };
-    join_with(stdout, interface1, graph1, at);
 }
 
 pub fn show(stdout: &mut Buffered, at: Option<usize>) {
@@ -146,17 +141,28 @@ pub fn watch(stdout: &mut Buffered, at: Option<usize>) {
     );
 }
 
-// The composed verdict of loaded files. `first` is the known side's graph, or the first side's property where both sides are unwritten.
+// Two sides' files: an interface of each; the first side's graph, or its property where both sides are unwritten; the second side's property.
+#[derive(Clone, Copy)]
+struct Sides<'a> {
+    interface1: &'a [u8],
+    first: &'a [u8],
+    interface2: &'a [u8],
+    property2: &'a [u8],
+}
+
 fn composed(
-    interface1: &[u8],
-    first: &[u8],
-    interface2: &[u8],
-    property2: &[u8],
+    sides: Sides,
     rules: &[u8],
     start: u8,
     out: &mut [u8],
     unwritten: Unwritten,
 ) -> Verdict {
+    let Sides {
+        interface1,
+        first,
+        interface2,
+        property2,
+    } = sides;
     // That of two unwritten sides is the longer store.
     let mut store = zeros::<{ Regions::TWO_GRAPHS }>();
     let mut work = zeros::<{ Places::ROOM }>();
@@ -170,31 +176,8 @@ fn composed(
     }
 }
 
-fn say_composed(
-    stdout: &mut Buffered,
-    answer: Verdict,
-    out: &[u8],
-    start: u8,
-    at: Option<usize>,
-    unwritten: Unwritten,
-) {
-    let clean: &[u8] = match unwritten {
-        Unwritten::Second => b"clean with every module that conforms\n",
-        Unwritten::Both => b"clean with every two modules that conform\n",
-    };
-    say_watched(stdout, answer, clean, out, start, at);
-}
-
 // The composed verdict by the rules, of both sides' files, which are loaded.
-fn compose_by(
-    stdout: &mut Buffered,
-    interface1: &[u8],
-    first: &[u8],
-    interface2: &[u8],
-    property2: &[u8],
-    at: Option<usize>,
-    unwritten: Unwritten,
-) {
+fn compose_by(stdout: &mut Buffered, sides: Sides, at: Option<usize>, unwritten: Unwritten) {
     let mut rules = large_buffer();
     let rules = load(stdout, 6, &mut rules);
     let start = number(stdout, 7);
@@ -203,28 +186,12 @@ fn compose_by(
     };
     let start = method_of(start);
     let mut out = large_buffer();
-    let answer = composed(
-        interface1, first, interface2, property2, rules, start, &mut out, unwritten,
-    );
-    say_composed(stdout, answer, &out, start, at, unwritten);
-}
-
-// The composed verdict with the second side's files, of the first side's, which are loaded.
-fn compose_with(
-    stdout: &mut Buffered,
-    interface1: &[u8],
-    first: &[u8],
-    at: Option<usize>,
-    unwritten: Unwritten,
-) {
-    let mut interface2 = large_buffer();
-    let mut property2 = large_buffer();
-    let Some((interface2, property2)) = load_two(stdout, 4, &mut interface2, &mut property2) else {
-        return;
+    let answer = composed(sides, rules, start, &mut out, unwritten);
+    let clean: &[u8] = match unwritten {
+        Unwritten::Second => b"clean with every module that conforms\n",
+        Unwritten::Both => b"clean with every two modules that conform\n",
     };
-    compose_by(
-        stdout, interface1, first, interface2, property2, at, unwritten,
-    );
+    say_watched(stdout, answer, clean, &out, start, at);
 }
 
 pub fn compose(stdout: &mut Buffered, at: Option<usize>, unwritten: Unwritten) {
@@ -233,5 +200,16 @@ pub fn compose(stdout: &mut Buffered, at: Option<usize>, unwritten: Unwritten) {
     let Some((interface1, first)) = load_two(stdout, 2, &mut interface1, &mut first) else {
         return;
     };
-    compose_with(stdout, interface1, first, at, unwritten);
+    let mut interface2 = large_buffer();
+    let mut property2 = large_buffer();
+    let Some((interface2, property2)) = load_two(stdout, 4, &mut interface2, &mut property2) else {
+        return;
+    };
+    let sides = Sides {
+        interface1,
+        first,
+        interface2,
+        property2,
+    };
+    compose_by(stdout, sides, at, unwritten);
 }

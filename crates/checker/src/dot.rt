@@ -4,10 +4,10 @@ use crate::lit::{Lit, is_in, is_lit, say_at_node, say_red};
 use crate::load::{load, load_two};
 use crate::refusals::say_refused;
 use files::check::{Checked, check_graph};
-use files::record::{Limits, Record};
+use files::record::Limits;
 use printing::input::large_buffer;
 use printing::stdout::Buffered;
-use printing::{Fields, first, records, say};
+use printing::{Fields, records, say};
 
 // Node i by its number, then the lines that a trail or a sheet adds.
 fn say_node(stdout: &mut Buffered, lit: Lit, i: usize, returns: u8, entry: u8) {
@@ -45,9 +45,9 @@ fn say_method(stdout: &mut Buffered, nodes: &[Fields], lit: Lit, method: u8) {
     say!(stdout, "  }}\n");
 }
 
-fn say_methods(stdout: &mut Buffered, nodes: &[u8], lit: Lit) {
+fn say_methods(stdout: &mut Buffered, nodes: &[Fields], lit: Lit) {
     for method in 1..9 {
-        say_method(stdout, records(nodes), lit, method);
+        say_method(stdout, nodes, lit, method);
     }
 }
 
@@ -68,13 +68,9 @@ fn say_legend(stdout: &mut Buffered, lit: Lit) {
         "  fontsize=10;\n  label=\"grey: entry, double line: return\\n0: internal step, 1-8: call of that method"
     );
     match lit {
-        Lit::Trail(trail) if !trail.is_empty() => {
-            say!(stdout, "\\nred: the trail, step by step")
-        }
-        Lit::Sheet(sheet) if !sheet.is_empty() => {
-            say!(stdout, "\\nred: rows that are false, and why")
-        }
-        _ => {}
+        Lit::Nothing => {}
+        Lit::Trail(_) => say!(stdout, "\\nred: the trail, step by step"),
+        Lit::Sheet(_) => say!(stdout, "\\nred: rows that are false, and why"),
     }
     say!(stdout, "\";\n}}\n");
 }
@@ -83,10 +79,11 @@ fn draw(stdout: &mut Buffered, graph: &[u8], lit: Lit) {
     match check_graph(graph, 1, Limits::desk()) {
         Checked::Refused(r) => say_refused(stdout, r),
         Checked::Accepted { nodes, .. } => {
-            let end = first(graph, nodes.saturating_mul(Record::LEN)).len();
+            let graph = records(graph);
+            let (nodes, edges) = graph.split_at(nodes.min(graph.len()));
             say_head(stdout);
-            say_methods(stdout, &graph[..end], lit);
-            say_arrows(stdout, &graph[end..]);
+            say_methods(stdout, nodes, lit);
+            say_arrows(stdout, edges);
             say_red(stdout, lit);
             say_legend(stdout, lit);
         }
@@ -104,7 +101,7 @@ pub fn dot_trail(stdout: &mut Buffered) {
     let mut graph = large_buffer();
     let mut trail = large_buffer();
     if let Some((graph, trail)) = load_two(stdout, 2, &mut graph, &mut trail) {
-        draw(stdout, graph, Lit::Trail(trail));
+        draw(stdout, graph, Lit::trail(trail));
     }
 }
 
@@ -112,6 +109,6 @@ pub fn dot_sheet(stdout: &mut Buffered) {
     let mut graph = large_buffer();
     let mut sheet = large_buffer();
     if let Some((graph, sheet)) = load_two(stdout, 2, &mut graph, &mut sheet) {
-        draw(stdout, graph, Lit::Sheet(sheet));
+        draw(stdout, graph, Lit::sheet(sheet));
     }
 }

@@ -10,12 +10,30 @@ use files::record::Step;
 use printing::stdout::Buffered;
 use printing::{Fields, records, say};
 
-// The file that lights a picture, if there is one. No byte of a file tells a trail from a fault sheet.
+// What lights a picture. No byte of a file tells a trail from a fault sheet.
 #[derive(Clone, Copy)]
 pub enum Lit<'a> {
     Nothing,
-    Trail(&'a [u8]),
-    Sheet(&'a [u8]),
+    Trail(&'a [Fields]),
+    Sheet(&'a [Fields]),
+}
+
+impl<'a> Lit<'a> {
+    // The trail of a file, which lights nothing if it is empty.
+    pub fn trail(file: &'a [u8]) -> Self {
+        if file.is_empty() {
+            return Lit::Nothing;
+        }
+        Lit::Trail(records(file))
+    }
+
+    // The fault sheet of a file, likewise.
+    pub fn sheet(file: &'a [u8]) -> Self {
+        if file.is_empty() {
+            return Lit::Nothing;
+        }
+        Lit::Sheet(records(file))
+    }
 }
 
 // Field k of some record is the value.
@@ -29,23 +47,23 @@ pub fn is_in(records: &[Fields], k: usize, value: u8) -> bool
 pub fn is_lit(lit: Lit, node: u8) -> bool {
     match lit {
         Lit::Nothing => false,
-        Lit::Trail(trail) => is_in(records(trail), 4, node),
-        Lit::Sheet(sheet) => is_in(records(sheet), 0, node),
+        Lit::Trail(trail) => is_in(trail, 4, node),
+        Lit::Sheet(sheet) => is_in(sheet, 0, node),
     }
 }
 
 // A node's line for the trail's start.
-fn say_start(stdout: &mut Buffered, trail: &[u8], node: u8) {
-    if let Some([_, _, kind, _, reached, _]) = records(trail).first() {
+fn say_start(stdout: &mut Buffered, trail: &[Fields], node: u8) {
+    if let Some([_, _, kind, _, reached, _]) = trail.first() {
         if *kind == Step::START && *reached == node {
             say!(stdout, "\\n1: start");
         }
     }
 }
 
-fn rows_at(sheet: &[u8], node: u8) -> [u8; LINE] {
+fn rows_at(sheet: &[Fields], node: u8) -> [u8; LINE] {
     let mut rows = [0; LINE];
-    for fault in records(sheet) {
+    for fault in sheet {
         if fault[0] == node {
             put_bit(&mut rows, 0, wide(fault[1]));
         }
@@ -87,23 +105,32 @@ fn say_cause(stdout: &mut Buffered, node: u8, row: u8, cause: u8, cause_row: u8)
     }
 }
 
+fn say_steps(stdout: &mut Buffered, trail: &[Fields]) {
+    for (i, step) in trail.iter().enumerate() {
+        say_step(stdout, i + 1, step);
+    }
+}
+
+fn say_causes(stdout: &mut Buffered, sheet: &[Fields]) {
+    for fault in sheet {
+        let [node, row, node1, row1, node2, row2] = *fault;
+        say_cause(stdout, node, row, node1, row1);
+        say_cause(stdout, node, row, node2, row2);
+    }
+}
+
 // The red arrows, behind one line that makes them red.
 pub fn say_red(stdout: &mut Buffered, lit: Lit) {
+    let red = "  edge [color=red, fontcolor=red];\n";
     match lit {
-        Lit::Trail(trail) if !trail.is_empty() => {
-            say!(stdout, "  edge [color=red, fontcolor=red];\n");
-            for (i, step) in records(trail).iter().enumerate() {
-                say_step(stdout, i + 1, step);
-            }
+        Lit::Nothing => {}
+        Lit::Trail(trail) => {
+            say!(stdout, "{red}");
+            say_steps(stdout, trail);
         }
-        Lit::Sheet(sheet) if !sheet.is_empty() => {
-            say!(stdout, "  edge [color=red, fontcolor=red];\n");
-            for fault in records(sheet) {
-                let [node, row, node1, row1, node2, row2] = *fault;
-                say_cause(stdout, node, row, node1, row1);
-                say_cause(stdout, node, row, node2, row2);
-            }
+        Lit::Sheet(sheet) => {
+            say!(stdout, "{red}");
+            say_causes(stdout, sheet);
         }
-        _ => {}
     }
 }

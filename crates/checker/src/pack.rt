@@ -94,9 +94,7 @@ fn pack_all(listing: &mut [u8]) -> Result<usize, Unreadable> {
 // The listing is spent: its bytes stand where it stood.
 pub fn pack(stdout: &mut Buffered, listing: &mut [u8], at: Option<usize>) {
     match pack_all(listing) {
-        Ok(bytes) => give(stdout, first(listing, bytes), at, |stdout, bytes| {
-            stdout.put_all(bytes)
-        }),
+        Ok(bytes) => give(stdout, first(listing, bytes), at, Buffered::put_all),
         Err(Unreadable { line }) => {
             say!(stdout, "error no decimal from 0 to 255 on line {line}\n")
         }

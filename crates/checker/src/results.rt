@@ -25,9 +25,7 @@ fn give_graph(stdout: &mut Buffered, out: &[u8], nodes: usize, edges: usize, at:
 
 fn give_relation(stdout: &mut Buffered, out: &[u8], nodes: usize, at: Option<usize>) {
     let relation = first(out, nodes.saturating_mul(LINE));
-    give(stdout, relation, at, |stdout, relation| {
-        say_relation(stdout, relation)
-    });
+    give(stdout, relation, at, say_relation);
 }
 
 fn give_sheet(
@@ -142,7 +140,7 @@ pub fn say_joined(stdout: &mut Buffered, answer: Joined, out: &[u8], at: Option<
 
 pub fn say_shown(stdout: &mut Buffered, part: &[u8], at: Option<usize>) {
     say!(stdout, "shown\n");
-    give(stdout, part, at, |stdout, part| say_bytes(stdout, part));
+    give(stdout, part, at, say_bytes);
 }
 
 pub fn say_watched(

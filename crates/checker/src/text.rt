@@ -75,14 +75,14 @@ fn say_interface(stdout: &mut Buffered, provided: u8, required: u8) {
 
 // What a record says, which is record i behind the last opening.
 fn say_meaning(stdout: &mut Buffered, i: usize, record: &Fields) {
-    let [kind, a, b, c, d, e] = *record;
+    let [kind, first, second, third, fourth, fifth] = *record;
     match kind {
-        Record::NODE => say_node(stdout, i, a, b, c),
-        Record::EDGE => say_edge(stdout, a, b, c),
-        Record::ROW => say_row(stdout, i, a, b, c),
-        Record::RULE => say_rule(stdout, a, b, c, d, e),
-        Record::INTERFACE => say_interface(stdout, a, b),
-        Record::OPENING => say!(stdout, "delivery of method {a}, revision {b}"),
+        Record::NODE => say_node(stdout, i, first, second, third),
+        Record::EDGE => say_edge(stdout, first, second, third),
+        Record::ROW => say_row(stdout, i, first, second, third),
+        Record::RULE => say_rule(stdout, first, second, third, fourth, fifth),
+        Record::INTERFACE => say_interface(stdout, first, second),
+        Record::OPENING => say!(stdout, "delivery of method {first}, revision {second}"),
         _ => say!(stdout, "no record of this kind"),
     }
 }
