@@ -1,7 +1,7 @@
 // What the records of a result say, behind a # on their lines: a trail, a fault sheet, a relation. The decimals stand in front as they do without notes, so that `checker pack`
 // reads a printed result back.
 use crate::ranges::{members, say_ranges};
-use crate::text::{say_decimals, say_formula, say_record};
+use crate::text::{Formula, say_decimals, say_record};
 use files::cells::wide;
 use files::encode::LINE;
 use files::record::Step;
@@ -51,9 +51,12 @@ pub fn say_trail(stdout: &mut Buffered, trail: &[u8], start: u8) {
 // What the row asks for, in brackets.
 fn say_asked(stdout: &mut Buffered, property: &[u8], row: u8) {
     if let Some([_, op, a, b, ..]) = records(property).get(wide(row)) {
-        say!(stdout, " (");
-        say_formula(stdout, *op, *a, *b);
-        say!(stdout, ")");
+        let formula = Formula {
+            op: *op,
+            a: *a,
+            b: *b,
+        };
+        say!(stdout, " ({formula})");
     }
 }
 

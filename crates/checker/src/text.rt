@@ -2,6 +2,8 @@
 use files::record::{Operator, Record};
 use printing::stdout::Buffered;
 use printing::{Fields, say};
+use std::fmt;
+use std::fmt::{Display, Formatter, Write};
 
 fn say_node(stdout: &mut Buffered, i: usize, method: u8, returns: u8, entry: u8) {
     say!(stdout, "node {i} in method {method}");
@@ -24,25 +26,30 @@ fn say_edge(stdout: &mut Buffered, from: u8, label: u8, to: u8) {
 }
 
 // What a row asks for.
-pub fn say_formula(stdout: &mut Buffered, op: u8, a: u8, b: u8) {
-    match op {
-        Operator::TRUE => say!(stdout, "true"),
-        Operator::FALSE => say!(stdout, "false"),
-        Operator::IN_METHOD => say!(stdout, "in method {a}"),
-        Operator::NOT_IN_METHOD => say!(stdout, "not in method {a}"),
-        Operator::RETURNS => say!(stdout, "return"),
-        Operator::NOT_RETURNS => say!(stdout, "not return"),
-        Operator::AND => say!(stdout, "row {a} and row {b}"),
-        Operator::OR => say!(stdout, "row {a} or row {b}"),
-        Operator::BOX => say!(stdout, "after every edge with label {a}, row {b}"),
-        Operator::BOX_ALL => say!(stdout, "after every edge, row {a}"),
-        _ => say!(stdout, "no operator of this number"),
-    }
+#[derive(Clone, Copy)]
+pub struct Formula {
+    pub op: u8,
+    pub a: u8,
+    pub b: u8,
 }
 
-fn say_row(stdout: &mut Buffered, i: usize, op: u8, a: u8, b: u8) {
-    say!(stdout, "row {i}: ");
-    say_formula(stdout, op, a, b);
+impl Display for Formula {
+    fn fmt<W: Write>(&self, f: &mut Formatter<W>) -> fmt::Result {
+        let Formula { op, a, b } = *self;
+        match op {
+            Operator::TRUE => write!(f, "true"),
+            Operator::FALSE => write!(f, "false"),
+            Operator::IN_METHOD => write!(f, "in method {a}"),
+            Operator::NOT_IN_METHOD => write!(f, "not in method {a}"),
+            Operator::RETURNS => write!(f, "return"),
+            Operator::NOT_RETURNS => write!(f, "not return"),
+            Operator::AND => write!(f, "row {a} and row {b}"),
+            Operator::OR => write!(f, "row {a} or row {b}"),
+            Operator::BOX => write!(f, "after every edge with label {a}, row {b}"),
+            Operator::BOX_ALL => write!(f, "after every edge, row {a}"),
+            _ => write!(f, "no operator of this number"),
+        }
+    }
 }
 
 fn say_rule(stdout: &mut Buffered, state: u8, event: u8, m1: u8, m2: u8, next: u8) {
@@ -53,24 +60,30 @@ fn say_rule(stdout: &mut Buffered, state: u8, event: u8, m1: u8, m2: u8, next: u
     );
 }
 
-// The methods of a set: method k + 1 is in it where its bit of weight 2^k is set.
-fn say_methods(stdout: &mut Buffered, set: u8) {
-    for k in 0..8u8 {
-        if (set >> k) % 2 == 1 {
-            let method = k + 1;
-            say!(stdout, " {method}");
+// A set of methods: k + 1 is in it where its bit of weight 2^k is set.
+#[derive(Clone, Copy)]
+struct Methods(u8);
+
+impl Display for Methods {
+    fn fmt<W: Write>(&self, f: &mut Formatter<W>) -> fmt::Result {
+        let Methods(set) = *self;
+        if set == 0 {
+            return write!(f, " nothing");
         }
-    }
-    if set == 0 {
-        say!(stdout, " nothing");
+        for k in 0..8u8 {
+            if (set >> k) % 2 == 1 {
+                let method = k + 1;
+                write!(f, " {method}")?;
+            }
+        }
+        Ok(())
     }
 }
 
 fn say_interface(stdout: &mut Buffered, provided: u8, required: u8) {
-    say!(stdout, "provides");
-    say_methods(stdout, provided);
-    say!(stdout, ", requires");
-    say_methods(stdout, required);
+    let provided = Methods(provided);
+    let required = Methods(required);
+    say!(stdout, "provides{provided}, requires{required}");
 }
 
 // What a record says, which is record i behind the last opening.
@@ -79,7 +92,14 @@ fn say_meaning(stdout: &mut Buffered, i: usize, record: &Fields) {
     match kind {
         Record::NODE => say_node(stdout, i, first, second, third),
         Record::EDGE => say_edge(stdout, first, second, third),
-        Record::ROW => say_row(stdout, i, first, second, third),
+        Record::ROW => {
+            let formula = Formula {
+                op: first,
+                a: second,
+                b: third,
+            };
+            say!(stdout, "row {i}: {formula}")
+        }
         Record::RULE => say_rule(stdout, first, second, third, fourth, fifth),
         Record::INTERFACE => say_interface(stdout, first, second),
         Record::OPENING => say!(stdout, "delivery of method {first}, revision {second}"),
