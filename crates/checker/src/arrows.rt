@@ -1,5 +1,5 @@
 // The arrows of `checker dot`: one for all edges between two nodes, with their labels as ranges. An arrow for every label makes a model's picture too wide to be read.
-use crate::ranges::say_ranges;
+use crate::ranges::Ranges;
 use files::cells::{put_bit, wide};
 use files::encode::LINE;
 use printing::stdout::Buffered;
@@ -30,10 +30,13 @@ pub fn say_arrows(stdout: &mut Buffered, edges: &[Fields]) {
     for (i, edge) in edges.iter().enumerate() {
         let [_, from, _, to, ..] = *edge;
         if !edges[..i].iter().any(|earlier| joins(earlier, from, to)) {
-            let labels = labels_between(edges, from, to);
+            let labels = Ranges {
+                set: &labels_between(edges, from, to),
+                first: "",
+                comma: ",",
+            };
             say_ends(stdout, from, to);
-            say_ranges(stdout, &labels, "", ",");
-            say!(stdout, " \"];\n");
+            say!(stdout, "{labels} \"];\n");
         }
     }
 }

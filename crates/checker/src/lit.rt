@@ -3,7 +3,7 @@
 ghost use Rattle.std.specs.Prelude.{◌<◌};
 
 use crate::arrows::say_ends;
-use crate::ranges::say_ranges;
+use crate::ranges::Ranges;
 use files::cells::{put_bit, wide};
 use files::encode::LINE;
 use files::record::Step;
@@ -77,8 +77,12 @@ pub fn say_at_node(stdout: &mut Buffered, lit: Lit, node: u8) {
         Lit::Nothing => {}
         Lit::Trail(trail) => say_start(stdout, trail, node),
         Lit::Sheet(sheet) => {
-            let rows = rows_at(sheet, node);
-            say_ranges(stdout, &rows, "\\nrow ", ", ");
+            let rows = Ranges {
+                set: &rows_at(sheet, node),
+                first: "\\nrow ",
+                comma: ", ",
+            };
+            say!(stdout, "{rows}");
         }
     }
 }

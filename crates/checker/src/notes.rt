@@ -1,6 +1,6 @@
 // What the records of a result say, behind a # on their lines: a trail, a fault sheet, a relation. The decimals stand in front as they do without notes, so that `checker pack`
 // reads a printed result back.
-use crate::ranges::{members, say_ranges};
+use crate::ranges::{Ranges, members};
 use crate::text::{Formula, say_decimals, say_record};
 use files::cells::wide;
 use files::encode::LINE;
@@ -86,12 +86,17 @@ pub fn say_sheet(stdout: &mut Buffered, sheet: &[u8], property: &[u8]) {
 
 // The nodes of a line.
 fn say_related(stdout: &mut Buffered, line: &[u8; LINE]) {
-    match members(line) {
-        0 => say!(stdout, "none"),
-        1 => say!(stdout, "node "),
-        _ => say!(stdout, "nodes "),
-    }
-    say_ranges(stdout, line, "", ", ");
+    let noun = match members(line) {
+        0 => "none",
+        1 => "node ",
+        _ => "nodes ",
+    };
+    let nodes = Ranges {
+        set: line,
+        first: "",
+        comma: ", ",
+    };
+    say!(stdout, "{noun}{nodes}");
 }
 
 pub fn say_relation(stdout: &mut Buffered, relation: &[u8]) {

@@ -3,8 +3,8 @@ ghost use Rattle.std.specs.Prelude.{◌<◌};
 
 use files::cells::has_bit;
 use files::encode::LINE;
-use printing::say;
-use printing::stdout::Buffered;
+use std::fmt;
+use std::fmt::{Display, Formatter, Write};
 
 fn has(set: &[u8; LINE], h: usize) -> bool
     requires { h < 256 }
@@ -21,18 +21,29 @@ pub fn members(set: &[u8; LINE]) -> u32 {
     n
 }
 
-// The set, with `first` before its first range and `comma` before every other.
-pub fn say_ranges(stdout: &mut Buffered, set: &[u8; LINE], first: &str, comma: &str) {
-    let mut any = false;
-    for h in 0..256 {
-        if has(set, h) {
-            if h == 0 || !has(set, h - 1) {
-                let before = if any { comma } else { first };
-                say!(stdout, "{before}{h}");
-                any = true;
-            } else if h == 255 || !has(set, h + 1) {
-                say!(stdout, "-{h}");
+// The numbers of a set as ranges, with `first` before the first of them and `comma` before every other.
+#[derive(Clone, Copy)]
+pub struct Ranges<'a> {
+    pub set: &'a [u8; LINE],
+    pub first: &'a str,
+    pub comma: &'a str,
+}
+
+impl Display for Ranges<'_> {
+    fn fmt<W: Write>(&self, f: &mut Formatter<W>) -> fmt::Result {
+        let Ranges { set, first, comma } = *self;
+        let mut any = false;
+        for h in 0..256 {
+            if has(set, h) {
+                if h == 0 || !has(set, h - 1) {
+                    let before = if any { comma } else { first };
+                    write!(f, "{before}{h}")?;
+                    any = true;
+                } else if h == 255 || !has(set, h + 1) {
+                    write!(f, "-{h}")?;
+                }
             }
         }
+        Ok(())
     }
 }
