@@ -13,7 +13,7 @@ use printing::zeros;
 
 // The longest file of these that is read: all 255 revisions of all eight methods, each round of them within the limits, 8 openings, 256 nodes and 4,096 edges of six bytes. The
 // buffer stands on the stack, 8 MiB by default, and what the program has beside it takes less than 1, so arguments and environment have 0.8 left. Unoptimised, as
-// in `rt try`, the program has it three times, and these commands do not fit.
+// in `rt try`, the program has it several times, and these commands do not fit.
 const LONGEST: usize = Lengths::FILE;
 
 fn long_buffer() -> [u8; LONGEST]

@@ -46,7 +46,7 @@ fn call_fault(number: u8) -> &'static str {
 // File f of a call is the argument after the one that names the command and the f - 1 before it.
 fn say_file(stdout: &mut Buffered, file: u8) {
     say!(stdout, ", in ");
-    say_argument(stdout, file as usize + 1);
+    say_argument(stdout, usize::from(file) + 1);
 }
 
 pub fn say_refused(stdout: &mut Buffered, r: Refusal) {

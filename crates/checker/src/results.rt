@@ -1,4 +1,5 @@
-// Verdicts in one line of plain words, the first of them fit for scripts; then what the call wrote, as decimals with notes, or to the file that argument `at` names, where there is one.
+// Verdicts in one line of plain words, the first of them fit for scripts; then what the call wrote, as decimals with notes, or to the file that argument `at` names, where there
+// is one.
 use crate::load::give;
 use crate::notes::{say_relation, say_sheet, say_trail};
 use crate::refusals::say_refused;
