@@ -40,6 +40,7 @@ pub fn load_two<'a>(
     second: &'a mut [u8],
 ) -> Option<(&'a mut [u8], &'a mut [u8])>
     requires { i < 100 }
+    ensures { IfSome result (λ files. (length files.0.now ≤ length first.old) × (length files.1.now ≤ length second.old)) }
 {
     let first = load(stdout, i, first);
     let second = load(stdout, i + 1, second);
