@@ -9,10 +9,12 @@ use printing::{say, say_graph, say_lines, say_number, say_records};
 use runs::answers::{Joined, Verdict};
 
 pub(crate) fn say_refused(stdout: &mut Buffered, r: Refusal) {
-    say(stdout, b": refused");
-    say_number(stdout, r.number as u64);
-    say_number(stdout, r.file as u64);
-    say_number(stdout, r.record as u64);
+    let Refusal {
+        number,
+        file,
+        record,
+    } = r;
+    say!(stdout, ": refused {number} {file} {record}");
 }
 
 pub(crate) fn say_checked(stdout: &mut Buffered, c: Checked) {
@@ -64,10 +66,7 @@ pub(crate) fn say_compared(stdout: &mut Buffered, answer: Compared, out: &[u8]) 
 
 // A graph of so many nodes and edges that stands in the output.
 fn say_written(stdout: &mut Buffered, nodes: usize, edges: usize, out: &[u8]) {
-    say(stdout, b": written");
-    say_number(stdout, nodes as u64);
-    say_number(stdout, edges as u64);
-    say(stdout, b"\n");
+    say!(stdout, ": written {nodes} {edges}\n");
     say_graph(stdout, out, nodes, edges);
 }
 
