@@ -3,18 +3,18 @@ use crate::arguments::number;
 use crate::command::Unwritten;
 use crate::load::{load, load_two};
 use crate::refusals::say_refused;
-use crate::results::{
-    say_assembled, say_compared, say_joined, say_judged, say_modelled, say_shown, say_watched,
-};
-use files::check::{Checked, check_graph};
+use crate::results::{say_compared, say_joined, say_judged, say_shown, say_watched, say_written};
+use files::check::check;
+use files::offence::FileKind;
 use files::record::Limits;
+use files::refusal::Refusal;
 use judging::shape::Shape;
 use judging::sizes::Sizes;
 use maximal::places::Places;
 use printing::input::large_buffer;
 use printing::stdout::Buffered;
 use printing::zeros;
-use runs::answers::{Shown, Verdict};
+use runs::answers::Verdict;
 use runs::regions::Regions;
 
 pub fn judge(stdout: &mut Buffered, at: Option<usize>) {
@@ -33,7 +33,7 @@ pub fn judge(stdout: &mut Buffered, at: Option<usize>) {
 pub fn assemble(stdout: &mut Buffered, deliveries: &[u8], at: Option<usize>) {
     let mut out = large_buffer();
     let answer = files::assemble(deliveries, &mut out);
-    say_assembled(stdout, answer, &out, at);
+    say_written(stdout, answer, &out, at);
 }
 
 // That graph judged by the property, which is the file after the deliveries.
@@ -51,10 +51,7 @@ pub fn judge_deliveries(stdout: &mut Buffered, deliveries: &[u8], at: Option<usi
 
 // The nodes of a graph file, or 0 where it is refused.
 fn nodes_in(graph: &[u8]) -> usize {
-    match check_graph(graph, 1, Limits::desk()) {
-        Checked::Accepted { nodes, .. } => nodes,
-        Checked::Refused(_) => 0,
-    }
+    check(FileKind::Graph, graph, 1, Limits::desk()).map_or(0, |counts| counts.nodes)
 }
 
 pub fn compare(stdout: &mut Buffered, at: Option<usize>) {
@@ -79,7 +76,7 @@ pub fn model(stdout: &mut Buffered, at: Option<usize>) {
     let mut out = large_buffer();
     let mut work = zeros::<{ Places::ROOM }>();
     let answer = maximal::model(interface, property, &mut out, &mut work);
-    say_modelled(stdout, answer, &out, at);
+    say_written(stdout, answer, &out, at);
 }
 
 pub fn join(stdout: &mut Buffered, at: Option<usize>) {
@@ -107,8 +104,8 @@ pub fn show(stdout: &mut Buffered, at: Option<usize>) {
         return;
     };
     match runs::show_refusal(graph1, graph2, value) {
-        Shown::Part => say_shown(stdout, runs::show(graph1, graph2, value), at),
-        Shown::Refused(r) => say_refused(stdout, r),
+        Ok(()) => say_shown(stdout, runs::show(graph1, graph2, value), at),
+        Err(r) => say_refused(stdout, r),
     }
 }
 
@@ -134,7 +131,7 @@ pub fn watch(stdout: &mut Buffered, at: Option<usize>) {
     say_watched(
         stdout,
         answer,
-        b"clean from the start method\n",
+        "clean from the start method",
         &out,
         start,
         at,
@@ -156,7 +153,7 @@ fn composed(
     start: u8,
     out: &mut [u8],
     unwritten: Unwritten,
-) -> Verdict {
+) -> Result<Verdict, Refusal> {
     let Sides {
         interface1,
         first,
@@ -187,9 +184,9 @@ fn compose_by(stdout: &mut Buffered, sides: Sides, at: Option<usize>, unwritten:
     let start = method_of(start);
     let mut out = large_buffer();
     let answer = composed(sides, rules, start, &mut out, unwritten);
-    let clean: &[u8] = match unwritten {
-        Unwritten::Second => b"clean with every module that conforms\n",
-        Unwritten::Both => b"clean with every two modules that conform\n",
+    let clean = match unwritten {
+        Unwritten::Second => "clean with every module that conforms",
+        Unwritten::Both => "clean with every two modules that conform",
     };
     say_watched(stdout, answer, clean, &out, start, at);
 }

@@ -3,7 +3,8 @@ use crate::arrows::say_arrows;
 use crate::lit::{Lit, is_in, is_lit, say_at_node, say_red};
 use crate::load::{load, load_two};
 use crate::refusals::say_refused;
-use files::check::{Checked, check_graph};
+use files::check::check;
+use files::offence::FileKind;
 use files::record::Limits;
 use printing::input::large_buffer;
 use printing::stdout::Buffered;
@@ -76,11 +77,11 @@ fn say_legend(stdout: &mut Buffered, lit: Lit) {
 }
 
 fn draw(stdout: &mut Buffered, graph: &[u8], lit: Lit) {
-    match check_graph(graph, 1, Limits::desk()) {
-        Checked::Refused(r) => say_refused(stdout, r),
-        Checked::Accepted { nodes, .. } => {
+    match check(FileKind::Graph, graph, 1, Limits::desk()) {
+        Err(r) => say_refused(stdout, r),
+        Ok(counts) => {
             let graph = records(graph);
-            let (nodes, edges) = graph.split_at(nodes.min(graph.len()));
+            let (nodes, edges) = graph.split_at(counts.nodes.min(graph.len()));
             say_head(stdout);
             say_methods(stdout, nodes, lit);
             say_arrows(stdout, edges);

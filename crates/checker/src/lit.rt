@@ -55,7 +55,7 @@ pub fn is_lit(lit: Lit, node: u8) -> bool {
 // A node's line for the trail's start.
 fn say_start(stdout: &mut Buffered, trail: &[Fields], node: u8) {
     if let Some([_, _, kind, _, reached, _]) = trail.first() {
-        if *kind == Step::START && *reached == node {
+        if Step::of(*kind) == Some(Step::Start) && *reached == node {
             say!(stdout, "\\n1: start");
         }
     }
@@ -90,13 +90,14 @@ pub fn say_at_node(stdout: &mut Buffered, lit: Lit, node: u8) {
 // The arrow of step i of a trail, from 1, where it is no start. A call entered leads where no edge of the graph does, so it is dashed.
 fn say_step(stdout: &mut Buffered, i: usize, step: &Fields) {
     let [node, _, kind, label, reached, _] = *step;
-    if kind == Step::START {
+    let step = Step::of(kind);
+    if step == Some(Step::Start) {
         return;
     }
     say_ends(stdout, node, reached);
-    match kind {
-        Step::INTERNAL => say!(stdout, "{i}: step \"];\n"),
-        Step::ENTERED => say!(stdout, "{i}: enters {label} \", style=dashed];\n"),
+    match step {
+        Some(Step::Internal) => say!(stdout, "{i}: step \"];\n"),
+        Some(Step::Entered) => say!(stdout, "{i}: enters {label} \", style=dashed];\n"),
         _ => say!(stdout, "{i}: call {label} \"];\n"),
     }
 }

@@ -10,9 +10,9 @@ use printing::{Fields, records, say};
 
 // What a step does, by its kind: an internal step, a call entered, or a call passed over.
 fn say_act(stdout: &mut Buffered, kind: u8, label: u8) {
-    match kind {
-        Step::INTERNAL => say!(stdout, ", steps to"),
-        Step::ENTERED => say!(stdout, ", calls method {label} and enters"),
+    match Step::of(kind) {
+        Some(Step::Internal) => say!(stdout, ", steps to"),
+        Some(Step::Entered) => say!(stdout, ", calls method {label} and enters"),
         _ => say!(stdout, ", calls method {label}, which returns:"),
     }
 }
@@ -20,11 +20,12 @@ fn say_act(stdout: &mut Buffered, kind: u8, label: u8) {
 // The step that a record is, made in the method.
 fn say_step(stdout: &mut Buffered, step: &Fields, method: u8) {
     let [node, state, kind, label, reached, next] = *step;
-    if kind == Step::START {
+    let starts = Step::of(kind) == Some(Step::Start);
+    if starts {
         say!(stdout, "starts at ");
     }
     say!(stdout, "node {node} of method {method}, in state {state}");
-    if kind != Step::START {
+    if !starts {
         say_act(stdout, kind, label);
         say!(stdout, " node {reached} in state {next}");
         if next == 7 {
@@ -42,7 +43,7 @@ pub fn say_trail(stdout: &mut Buffered, trail: &[u8], start: u8) {
         say!(stdout, "step {number}: ");
         say_step(stdout, step, method);
         say!(stdout, "\n");
-        if step[2] == Step::ENTERED {
+        if Step::of(step[2]) == Some(Step::Entered) {
             method = step[3];
         }
     }

@@ -3,13 +3,13 @@
 use crate::load::give;
 use crate::notes::{say_relation, say_sheet, say_trail};
 use crate::refusals::say_refused;
-use files::answers::Assembled;
 use files::encode::LINE;
 use files::record::Record;
+use files::refusal::Refusal;
+use files::view::GraphView;
 use judging::answers::{Compared, Judged};
-use maximal::answers::Modelled;
 use printing::stdout::Buffered;
-use printing::{first, say, say_bytes, say_graph, say_number};
+use printing::{first, say, say_bytes, say_graph};
 use runs::answers::{Joined, Verdict};
 
 // The bytes of so many records.
@@ -56,86 +56,84 @@ fn say_counts(stdout: &mut Buffered, nodes: usize, edges: usize) {
 // The property's rows are what the sheet's notes speak of.
 pub fn say_judged(
     stdout: &mut Buffered,
-    answer: Judged,
+    answer: Result<Judged, Refusal>,
     out: &[u8],
     property: &[u8],
     at: Option<usize>,
 ) {
     match answer {
-        Judged::Holds => {
-            say(stdout, b"holds at every entry\n");
+        Ok(Judged::Holds) => {
+            say!(stdout, "holds at every entry\n");
             give_sheet(stdout, out, 0, property, at);
         }
-        Judged::Fails(records) => {
-            say(stdout, b"fails with a fault sheet of");
-            say_number(stdout, records as u64);
-            say(stdout, b" records\n");
+        Ok(Judged::Fails(records)) => {
+            say!(stdout, "fails with a fault sheet of {records} records\n");
             give_sheet(stdout, out, records, property, at);
         }
-        Judged::Refused(r) => say_refused(stdout, r),
+        Err(r) => say_refused(stdout, r),
     }
 }
 
 pub fn say_compared(
     stdout: &mut Buffered,
-    answer: Compared,
+    answer: Result<Compared, Refusal>,
     out: &[u8],
     nodes: usize,
     at: Option<usize>,
 ) {
     match answer {
-        Compared::Yes => {
-            say(stdout, b"yes the second simulates the first\n");
+        Ok(Compared::Yes) => {
+            say!(stdout, "yes the second simulates the first\n");
             give_relation(stdout, out, nodes, at);
         }
-        Compared::No(entry) => {
-            say(stdout, b"no entry of the second covers entry");
-            say_number(stdout, entry as u64);
-            say(stdout, b" of the first\n");
+        Ok(Compared::No(entry)) => {
+            say!(
+                stdout,
+                "no entry of the second covers entry {entry} of the first\n"
+            );
             give_relation(stdout, out, nodes, at);
         }
-        Compared::Refused(r) => say_refused(stdout, r),
+        Err(r) => say_refused(stdout, r),
     }
 }
 
-// A graph of which nothing is told but its counts.
-fn say_written(stdout: &mut Buffered, out: &[u8], nodes: usize, edges: usize, at: Option<usize>) {
-    say_counts(stdout, nodes, edges);
-    say!(stdout, "\n");
-    give_graph(stdout, out, nodes, edges, at);
-}
-
-pub fn say_modelled(stdout: &mut Buffered, answer: Modelled, out: &[u8], at: Option<usize>) {
+// A graph of which nothing is told but its counts: a model, or the standing graph.
+pub fn say_written(
+    stdout: &mut Buffered,
+    answer: Result<GraphView, Refusal>,
+    out: &[u8],
+    at: Option<usize>,
+) {
     match answer {
-        Modelled::Written(nodes, edges) => say_written(stdout, out, nodes, edges, at),
-        Modelled::Refused(r) => say_refused(stdout, r),
-    }
-}
-
-pub fn say_assembled(stdout: &mut Buffered, answer: Assembled, out: &[u8], at: Option<usize>) {
-    match answer {
-        Assembled::Written { nodes, edges } => say_written(stdout, out, nodes, edges, at),
-        Assembled::Refused(r) => say_refused(stdout, r),
-    }
-}
-
-pub fn say_joined(stdout: &mut Buffered, answer: Joined, out: &[u8], at: Option<usize>) {
-    match answer {
-        Joined::Written {
-            nodes,
-            edges,
-            provided,
-            required,
-        } => {
+        Ok(GraphView { nodes, edges }) => {
             say_counts(stdout, nodes, edges);
-            say(stdout, b", provided");
-            say_number(stdout, provided as u64);
-            say(stdout, b", required");
-            say_number(stdout, required as u64);
-            say(stdout, b"\n");
+            say!(stdout, "\n");
             give_graph(stdout, out, nodes, edges, at);
         }
-        Joined::Refused(r) => say_refused(stdout, r),
+        Err(r) => say_refused(stdout, r),
+    }
+}
+
+pub fn say_joined(
+    stdout: &mut Buffered,
+    answer: Result<Joined, Refusal>,
+    out: &[u8],
+    at: Option<usize>,
+) {
+    match answer {
+        Ok(
+            Joined {
+                nodes,
+                edges,
+                provided,
+                required,
+            },
+        ) => {
+            say_counts(stdout, nodes, edges);
+            say!(stdout, ", provided {provided}, required {required}\n");
+            give_graph(stdout, out, nodes, edges, at);
+        }
+        Err(r) => say_refused(stdout, r),
     }
 }
 
@@ -146,30 +144,28 @@ pub fn say_shown(stdout: &mut Buffered, part: &[u8], at: Option<usize>) {
 
 pub fn say_watched(
     stdout: &mut Buffered,
-    answer: Verdict,
-    clean: &[u8],
+    answer: Result<Verdict, Refusal>,
+    clean: &str,
     out: &[u8],
     start: u8,
     at: Option<usize>,
 ) {
     match answer {
-        Verdict::Clean => {
-            say(stdout, clean);
+        Ok(Verdict::Clean) => {
+            say!(stdout, "{clean}\n");
             give_trail(stdout, out, 0, start, at);
         }
-        Verdict::Bad(records) => {
-            say(stdout, b"bad by a trail of");
-            say_number(stdout, records as u64);
-            say(stdout, b" records\n");
+        Ok(Verdict::Bad(records)) => {
+            say!(stdout, "bad by a trail of {records} records\n");
             give_trail(stdout, out, records, start, at);
         }
-        Verdict::Refused(r) => say_refused(stdout, r),
-        Verdict::Impossible => {
-            say(
+        Ok(Verdict::Impossible) => {
+            say!(
                 stdout,
-                b"impossible since on an unwritten side no module with an entry for each provided method satisfies the property\n",
+                "impossible since on an unwritten side no module with an entry for each provided method satisfies the property\n"
             );
             give_trail(stdout, out, 0, start, at);
         }
+        Err(r) => say_refused(stdout, r),
     }
 }

@@ -1,5 +1,5 @@
 // Examples of deliveries: assembling what stands of them, and judging it.
-use crate::answers::{say_assembled, say_judged};
+use crate::answers::{say_judged, say_written};
 use crate::lengths::{OUTPUT, lent, two_bytes};
 use judging::shape::Shape;
 use printing::stdout::Buffered;
@@ -13,7 +13,7 @@ pub(crate) fn assemble_standing(stdout: &mut Buffered, example: &[u8]) {
     let mut out = zeros::<OUTPUT>();
     let out = &mut out[..two_bytes(head, 0) as usize];
     let answer = files::assemble(deliveries, out);
-    say_assembled(stdout, answer, out);
+    say_written(stdout, answer, out);
 }
 
 // Judging. The example starts with the lengths of the deliveries and of the output, two bytes each, low byte first, then 1 for a store of the published length or 0

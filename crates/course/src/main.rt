@@ -11,8 +11,7 @@ use crate::lengths::EXAMPLE;
 use crate::pairs::{compare, judge, model};
 use crate::sides::{join_sides, show_node};
 use crate::watched::{compose_both, compose_one, watch_runs};
-use files::check::{check_graph, check_interface, check_property, check_rules};
-use files::record::Limits;
+use files::offence::FileKind;
 use printing::input::{arg, arg_count, buffer, open_read, read_full};
 use printing::stdout::Buffered;
 use printing::{first, zeros};
@@ -39,10 +38,10 @@ fn run(stdout: &mut Buffered, name: &[u8], file: &[u8]) {
         [b'b', ..] => compose_both(stdout, file),
         [b'a', ..] => assemble_standing(stdout, file),
         [b'd', ..] => judge_standing(stdout, file),
-        [b'g', ..] => say_checked(stdout, check_graph(file, 1, Limits::desk())),
-        [b'p', ..] => say_checked(stdout, check_property(file, 1, Limits::desk())),
-        [b'r', ..] => say_checked(stdout, check_rules(file, 1, Limits::desk())),
-        _ => say_checked(stdout, check_interface(file, 1, Limits::desk())),
+        [b'g', ..] => say_checked(stdout, FileKind::Graph, file),
+        [b'p', ..] => say_checked(stdout, FileKind::Property, file),
+        [b'r', ..] => say_checked(stdout, FileKind::Rules, file),
+        _ => say_checked(stdout, FileKind::Interface, file),
     }
 }
 

@@ -1,5 +1,5 @@
 // Examples of two files: judging, comparing and modelling.
-use crate::answers::{say_compared, say_judged, say_modelled};
+use crate::answers::{say_compared, say_judged, say_written};
 use crate::lengths::{OUTPUT, lent, two_bytes};
 use judging::shape::Shape;
 use judging::sizes::Sizes;
@@ -60,5 +60,5 @@ pub(crate) fn model(stdout: &mut Buffered, example: &[u8]) {
     let mut work = zeros::<{ Places::ROOM }>();
     let out = &mut out[..pair.room as usize];
     let answer = maximal::model(pair.first, pair.second, out, lent(&mut work, pair.flag));
-    say_modelled(stdout, answer, out);
+    say_written(stdout, answer, out);
 }

@@ -3,7 +3,6 @@ use crate::answers::{say_joined, say_refused};
 use crate::lengths::{OUTPUT, two_bytes};
 use printing::stdout::Buffered;
 use printing::{say, say_bytes, zeros};
-use runs::answers::Shown;
 
 // The first three files, of the lengths that the head tells, and the fourth.
 fn four_files<'a>(
@@ -40,13 +39,10 @@ pub(crate) fn show_node(stdout: &mut Buffered, example: &[u8]) {
     };
     let number = two_bytes(head, 2) as usize;
     match runs::show_refusal(graph1, graph2, number) {
-        Shown::Part => {
-            say(stdout, b": shown\n");
+        Ok(()) => {
+            say!(stdout, ": shown\n");
             say_bytes(stdout, runs::show(graph1, graph2, number));
         }
-        Shown::Refused(r) => {
-            say_refused(stdout, r);
-            say(stdout, b"\n");
-        }
+        Err(r) => say_refused(stdout, r),
     }
 }

@@ -2,11 +2,10 @@
 #![tactic(auto)]
 
 use files::record::{Limits, Record};
-use maximal::answers::Modelled;
 use maximal::places::Places;
 use printing::input::read_full;
 use printing::stdout::Buffered;
-use printing::{say, say_decimal, say_graph, zeros};
+use printing::{say, say_graph, zeros};
 use std::io;
 
 // Bytes past these stay unread.
@@ -19,13 +18,8 @@ const OUTPUT: usize = Record::LEN * (Limits::NODES + Limits::EDGES);
 fn list(stdout: &mut Buffered, input: &[u8], out: &mut [u8], work: &mut [u8]) {
     let (interface, property) = input.split_at(input.len().min(Record::LEN));
     match maximal::model(interface, property, out, work) {
-        Modelled::Written(nodes, edges) => {
-            say_graph(stdout, out, nodes, edges);
-        }
-        Modelled::Refused(refusal) => {
-            say_decimal(stdout, refusal.number as u64);
-            say(stdout, b"\n");
-        }
+        Ok(model) => say_graph(stdout, out, model.nodes, model.edges),
+        Err(refusal) => say!(stdout, "{}\n", refusal.number),
     }
 }
 

@@ -45,20 +45,6 @@ pub fn records(bytes: &[u8]) -> &[Fields]
     records
 }
 
-// Words alone.
-pub fn say(stdout: &mut Buffered, words: &[u8]) {
-    stdout.put_all(words);
-}
-
-pub fn say_decimal(stdout: &mut Buffered, n: u64) {
-    say!(stdout, "{n}");
-}
-
-// A number after a space.
-pub fn say_number(stdout: &mut Buffered, n: u64) {
-    say!(stdout, " {n}");
-}
-
 // Bytes as decimals, in a line.
 pub fn say_bytes(stdout: &mut Buffered, bytes: &[u8]) {
     if let [first, others @ ..] = bytes {
