@@ -9,7 +9,7 @@ ghost use Rattle.files.specs.Refusal.{graph, property, rules, interface, edge_be
 ghost use Rattle.files.specs.FileKind.{kind_of};
 ghost use Rattle.files.specs.Checking.{test, unread_number, found_at};
 
-use crate::parse::{kind_at, parse_edge, parse_interface, parse_node, parse_row, parse_rule, read};
+use crate::parse::{kind_at, parse_as, read};
 use crate::record::{Parsed, Record};
 use crate::refusal::Refusal;
 
@@ -96,7 +96,7 @@ fn look_node(records: &[u8], i: usize, first: usize, position: u8) -> Result<(),
     if edge_before(records, i) {
         return Err(Refusal::at(2, position, first + i));
     }
-    let p = parse_node(records, i);
+    let p = parse_as(Record::NODE, records, i);
     let Parsed::Node { .. } = p else {
         return Err(unread(p, 2, position, first + i));
     };
@@ -108,7 +108,7 @@ fn look_edge(records: &[u8], i: usize, first: usize, position: u8) -> Result<(),
     requires { (record_len * i + record_len ≤ length records.now) × ((first + i < usize_end) × (kind_at records.now i ≡ 1 → ⊥)) }
     ensures { result ≡ found_at 3 2 (test graph records.now) first position i }
 {
-    let p = parse_edge(records, i);
+    let p = parse_as(Record::EDGE, records, i);
     let Parsed::Edge { .. } = p else {
         return Err(unread(p, 2, position, first + i));
     };
@@ -137,7 +137,7 @@ fn look_row(records: &[u8], i: usize, first: usize, position: u8) -> Result<(), 
     requires { (record_len * i + record_len ≤ length records.now) × (first + i < usize_end) }
     ensures { result ≡ found_at 3 2 (test property records.now) first position i }
 {
-    let p = parse_row(records, i);
+    let p = parse_as(Record::ROW, records, i);
     let Parsed::Row { .. } = p else {
         return Err(unread(p, 2, position, first + i));
     };
@@ -148,7 +148,7 @@ fn look_rule(records: &[u8], i: usize, first: usize, position: u8) -> Result<(),
     requires { (record_len * i + record_len ≤ length records.now) × (first + i < usize_end) }
     ensures { result ≡ found_at 3 2 (test rules records.now) first position i }
 {
-    let p = parse_rule(records, i);
+    let p = parse_as(Record::RULE, records, i);
     let Parsed::Rule { .. } = p else {
         return Err(unread(p, 2, position, first + i));
     };
@@ -166,7 +166,7 @@ fn look_interface(records: &[u8], i: usize, first: usize, position: u8) -> Resul
     if 1 <= i {
         return Err(Refusal::at(2, position, first + i));
     }
-    let p = parse_interface(records, i);
+    let p = parse_as(Record::INTERFACE, records, i);
     let Parsed::Interface { .. } = p else {
         return Err(unread(p, 2, position, first + i));
     };

@@ -10,7 +10,7 @@ ghost use Rattle.files.specs.Access.{GraphFile, InterfaceFile};
 
 use crate::graph::node_at;
 use crate::interface::{in_set, provided_methods, provides, required_methods};
-use crate::parse::{parse_edge, parse_node};
+use crate::parse::parse_as;
 use crate::record::{Parsed, Record};
 
 // A node whose method is not provided.
@@ -38,8 +38,8 @@ fn foreign(graph: &[u8], i: usize, provided: u8, required: u8) -> bool
     requires { record_len * i + record_len ≤ length graph.now }
     ensures { result ≡ foreign_of (record { provided = provided; required = required }) (parsed_at graph.now i) }
 {
-    let node = parse_node(graph, i);
-    let edge = parse_edge(graph, i);
+    let node = parse_as(Record::NODE, graph, i);
+    let edge = parse_as(Record::EDGE, graph, i);
     foreign_node(node, provided, required) | foreign_call(edge, provided, required)
 }
 

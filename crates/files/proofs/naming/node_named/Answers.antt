@@ -6,4 +6,4 @@ pub returns-then-nodes-g : goal.returns-then-nodes-g
 returns-then-nodes-g c = rw (le-leb _ _ c.if-nodes-g.true) refl
 
 pub returns : goal.returns
-returns c = rw (lt-leb _ _ c.if-nodes-g.false) c.parse_node.ensures
+returns c = rw (lt-leb _ _ c.if-nodes-g.false) c.parse_as.ensures

@@ -6,4 +6,4 @@ pub returns-then-names_past : goal.returns-then-names_past
 returns-then-names_past c = rw (sym (ap (names_past c.args.rows) c.read-r.ensures) ∙ sym c.names_past.ensures ∙ c.if-names_past.true) refl
 
 pub returns : goal.returns
-returns c = rw (sym (ap (names_past c.args.rows) c.read-r.ensures) ∙ sym c.names_past.ensures ∙ c.if-names_past.false) c.parse_row.ensures
+returns c = rw (sym (ap (names_past c.args.rows) c.read-r.ensures) ∙ sym c.names_past.ensures ∙ c.if-names_past.false) c.parse_as.ensures

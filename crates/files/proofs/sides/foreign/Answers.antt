@@ -8,4 +8,4 @@ use Rattle.files.proofs.sides.foreign.Goals as goal
 pub returns : goal.returns
 returns c =
     let I : Sets = record { provided = c.args.provided; required = c.args.required } in
-    ap₂ ◌||◌ (c.foreign_node.ensures ∙ ap (foreign_node I) c.parse_node-node.ensures ∙ foreign_node_as I _) (c.foreign_call.ensures ∙ ap (foreign_call I) c.parse_edge-edge.ensures ∙ foreign_call_as I _)
+    ap₂ ◌||◌ (c.foreign_node.ensures ∙ ap (foreign_node I) c.parse_as-node.ensures ∙ foreign_node_as I _) (c.foreign_call.ensures ∙ ap (foreign_call I) c.parse_as-edge.ensures ∙ foreign_call_as I _)
