@@ -12,7 +12,6 @@ use Rattle.files.specs.Record.{parsed, parsed_as}
 use Rattle.files.specs.Record.Laws.{kind_read, as_same}
 use Rattle.files.specs.Interface.{Interface as Sets}
 use Rattle.files.specs.Sides.{foreign_node, foreign_call}
-use Rattle.files.specs.Checking.{unread_number}
 
 -- ---- the records that do not read as kind k, from what the code's arm for any other variant knows
 
@@ -107,15 +106,6 @@ pub asked_as : {A : Type 0} (k : ℕ) (f : Parsed → A) → Asks k f → 1 ≤ 
 asked_as k f a h r = as_same k r f h (elsewhere k f a)
 
 -- ---- the tests
-
-pub not_wrong : (low : ℕ) (x : Parsed) → (x ≡ Wrong → ⊥) → low ≡ unread_number low x
-not_wrong low (Node m r e) h = refl
-not_wrong low (Edge f l t) h = refl
-not_wrong low (Row o a b) h = refl
-not_wrong low (Rule q v m n p) h = refl
-not_wrong low (Interface p q) h = refl
-not_wrong low Wrong h = absurd (h refl)
-not_wrong low Other h = refl
 
 pub foreign_node_as : (I : Sets) (r : Record) → foreign_node I (parsed_as 1 r) ≡ foreign_node I (parsed r)
 foreign_node_as I = asked_as 1 (foreign_node I) refl (omega arith)

@@ -118,7 +118,6 @@ pub(crate) fn name(
     match kind {
         FileKind::Graph => name_nodes(records, bound, i, first, position),
         FileKind::Property => name_rows(records, bound, i, first, position),
-        FileKind::Rules => Ok(()),
-        FileKind::Interface => Ok(()),
+        FileKind::Rules | FileKind::Interface => Ok(()),
     }
 }
