@@ -150,7 +150,7 @@ fn read_interface(r: Record) -> Parsed
 
 // The record parsed: its kind's own tests are made, and a record of none of the five kinds is Other.
 #[inline(always)]
-fn parsed(r: Record) -> Parsed
+pub(crate) fn parsed(r: Record) -> Parsed
     ensures { result ≡ parsed r }
 {
     match r.kind {
