@@ -2,20 +2,6 @@
 ghost use Rattle.std.specs.Prelude.{◌≡◌, ◌+◌, ◌*◌, ◌/◌, ◌≤◌, ◌<◌, length, replicate};
 ghost use Rattle.files.specs.Cells.{cell, put_cell, has_bit, put_bit, put_at};
 
-// What the third and the fourth byte of a number weigh, as counts and as words of 32 bits.
-#[derive(Drop)]
-pub struct Weight {}
-
-impl Weight {
-    pub const THIRD: usize = 256 * 256;
-
-    pub const FOURTH: usize = 256 * 256 * 256;
-
-    pub const THIRD_OF_WORD: u32 = 256 * 256;
-
-    pub const FOURTH_OF_WORD: u32 = 256 * 256 * 256;
-}
-
 // A byte as a length, with its bound.
 pub fn wide(x: u8) -> usize
     ensures { (result ≡ x) × (result < 256) }
@@ -37,7 +23,7 @@ pub fn get16(work: &[u8], base: usize, i: usize) -> u16
     ensures { result ≡ cell work.now base 2 i }
 {
     let p = base + 2 * i;
-    (wide(work[p]) + 256 * wide(work[p + 1])) as u16
+    u16::from_le_bytes([work[p], work[p + 1]])
 }
 
 // What cell i of four bytes holds.
@@ -46,10 +32,7 @@ pub fn get32(work: &[u8], base: usize, i: usize) -> u32
     ensures { result ≡ cell work.now base 4 i }
 {
     let p = base + 4 * i;
-    (wide(work[p])
-        + 256 * wide(work[p + 1])
-        + Weight::THIRD * wide(work[p + 2])
-        + Weight::FOURTH * wide(work[p + 3])) as u32
+    u32::from_le_bytes([work[p], work[p + 1], work[p + 2], work[p + 3]])
 }
 
 // Stores v in cell i of one byte.
@@ -65,11 +48,7 @@ pub fn put16(work: &mut [u8], base: usize, i: usize, v: u16)
     requires { base + 2 * i + 2 ≤ length work.old }
     ensures { work.new ≡ put_cell work.old base 2 i v }
 {
-    let p = base + 2 * i;
-    let low = (v % 256) as u8;
-    let high = (v / 256 % 256) as u8;
-    work[p] = low;
-    work[p + 1] = high;
+    copy_at(work, base + 2 * i, &v.to_le_bytes());
 }
 
 // Stores v in cell i of four bytes.
@@ -77,11 +56,7 @@ pub fn put32(work: &mut [u8], base: usize, i: usize, v: u32)
     requires { base + 4 * i + 4 ≤ length work.old }
     ensures { work.new ≡ put_cell work.old base 4 i v }
 {
-    let p = base + 4 * i;
-    work[p] = (v % 256) as u8;
-    work[p + 1] = (v / 256 % 256) as u8;
-    work[p + 2] = (v / Weight::THIRD_OF_WORD % 256) as u8;
-    work[p + 3] = (v / Weight::FOURTH_OF_WORD % 256) as u8;
+    copy_at(work, base + 4 * i, &v.to_le_bytes());
 }
 
 // Whether bit h of the row of bits from base on is one.

@@ -1,10 +1,10 @@
-use native.Mathlib.Omega.{arith}
-use lib.ListN.{length-set}
+use mathlib.Core.Path.{sym, ap, ◌∙◌}
+use Rattle.files.specs.Cells.{put_at}
 use Rattle.files.specs.Cells.Laws.{put_cell_two}
+use Rattle.files.proofs.AccessLaws.{put_two_is}
 use Rattle.files.proofs.cells.put16.Goals as goal
 
-pub bounds-work-p-2 : goal.bounds-work-p-2
-bounds-work-p-2 c = simp length-set (omega arith)
-
 pub returns : goal.returns
-returns c = rw put_cell_two
+returns c =
+    let a = c.args in
+    c.copy_at.ensures ∙ ap (put_at a.work.now _) c.to_le_bytes.ensures ∙ sym (put_two_is a.work.now _ _ _ c.requires) ∙ sym (put_cell_two a.work.now a.base a.i a.v)
