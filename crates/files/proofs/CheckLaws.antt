@@ -1,10 +1,10 @@
--- What the code of a check asks for: the record before one, what number 5 counts, a pass over the records, and the steps.
+-- What the code of a check asks for: what number 5 counts, a pass over the records, and the steps.
 use Rattle.std.specs.Prelude.{Err}
 use mathlib.Core.Path.{◌≡◌, refl, sym, ap, ap₂, ◌∙◌}
 use mathlib.Core.Bool.{Bool, false, true}
 use mathlib.Core.Option.{none}
 use mathlib.Core.List.{List}
-use Prim.Native.Nat.{ℕ, zero, suc, ◌+◌, ◌-◌, ◌≤◌, ◌%◌}
+use Prim.Native.Nat.{ℕ, suc, ◌+◌, ◌≤◌, ◌%◌}
 use native.Mathlib.Nat.{add_comm}
 use native.Mathlib.Omega.{arith}
 use native.Mathlib.Numerals.{add-one}
@@ -12,17 +12,13 @@ use lib.Dec.{eqb}
 use Rattle.files.specs.Basics.Tests.{one}
 use Rattle.files.specs.Basics.Tables.{tally, tally_le}
 use Rattle.files.specs.Basics.First.{first_where, first_miss}
-use Rattle.files.specs.Record.{kind_at, count}
-use Rattle.files.specs.Refusal.{edge_before, Kind, graph, property, rules, interface, missing}
+use Rattle.files.specs.Record.{count}
+use Rattle.files.specs.Refusal.{Kind, graph, property, rules, interface, missing}
 use Rattle.files.specs.Checking.{test, found_at, lower, lowest, counts, counted, nodes_in, nodes_with, bound_with, bound_of, missing_with, unless, over, checked, from_two, from_five, from_seven}
 use lib.ListN.{length}
 use Rattle.files.specs.Outcome.{refusal_at, Accepted, Settled}
 use Rattle.files.specs.declared.record.Limits.{Limits}
 use Rattle.files.specs.Checking.Laws.{counted_is, lowest_more, from_seven_is, from_five_is, from_two_is, from_one_is, checked_steps}
-
-pub edge_before_at : (l : List ℕ) (i : ℕ) → (i ≡ 0 → ⊥) → eqb (kind_at l (i - 1)) 2 ≡ edge_before l i
-edge_before_at l zero h = absurd (h refl)
-edge_before_at l (suc i) h = let e : suc i - 1 ≡ i = omega arith in ap (λ (n : ℕ). eqb (kind_at l n) 2) e
 
 -- ---- counting
 

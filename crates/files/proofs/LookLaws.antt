@@ -1,23 +1,25 @@
 -- For the checks of a record: what is found where it is misplaced, wrong or out of order, where it does not read as its place asks for, and where it does; and
 -- what is found of the nodes and rows that it names.
-use Rattle.std.specs.Prelude.{Err}
+use Rattle.std.specs.Prelude.{Err, Some, None, Option}
+use Rattle.std.specs.Ordering.{is_ge, is_some_and, nat_cmp, partial_ordering_then}
+use Rattle.std.proofs.Common.{Ordering, Less, Equal, Greater}
 use mathlib.Core.Path.{◌≡◌, refl, sym, ap, subst, ◌∙◌}
 use mathlib.Core.Logic.{◌⊎◌, inl, inr}
 use mathlib.Core.Bool.{Bool, true, false, not, cond, or-false, ◌&&◌, ◌||◌}
-use mathlib.Core.List.{List}
+use mathlib.Core.List.{List, [], ◌∷◌}
 use Prim.Native.Nat.{ℕ, zero, suc, ◌+◌, ◌-◌, ◌≤◌, ◌<◌}
 use native.Mathlib.Decide.{ℕ_discrete, dec_lt}
 use native.Mathlib.Omega.{arith}
 use lib.Dec.{T, leb, ltb, eqb}
 use borrow.Author.Tests.{eq-eqb, ne_eqb, le-leb, lt-leb, lt-ltb}
-use Rattle.files.specs.Basics.Lexical.{before}
+use Rattle.files.specs.Basics.Lexical.{before, before_three, before_four}
 use Rattle.files.specs.Checking.{test, found_at, unread_number, names_past, Sound}
 use Rattle.files.specs.Checking.Laws.{looked_is, named_is}
 use Rattle.files.specs.Checking.Reads.{right_kind, read_right, node_or_edge, sound_node, sound_edge, sound_row}
 use Rattle.files.specs.Outcome.{refusal_at, Passed}
 use Rattle.files.specs.Record.{record_at, count, kind_at, wrong, parsed, parsed_as}
 use Rattle.files.specs.Record.Laws.{kind_read, parsed_wrong, as_kind, as_other}
-use Rattle.files.specs.Refusal.{Kind, graph, property, rules, interface, of_kind, nodes_of, edge_before, misplaced, edge_key, rule_key, disordered, past, method_at, crossing}
+use Rattle.files.specs.Refusal.{Kind, graph, property, interface, of_kind, nodes_of, edge_before, misplaced, disordered, past, method_at, crossing}
 use Rattle.files.specs.declared.record.Parsed.{Parsed}
 use Rattle.files.specs.declared.record.Parsed.TheVariants.{Node, Edge, Row, Wrong, Other}
 use Rattle.files.specs.declared.record.Record.{Record}
@@ -90,17 +92,57 @@ node_ordered l (suc i) e = rw e (go (of_kind l 2 i))
     go true = refl
     go false = refl
 
--- the record before i, and i
-module _ (l : List ℕ) (r s : Record) (b : Bool) where
-  pub edges_disordered : (i : ℕ) → (i ≡ 0 → ⊥) → r ≡ record_at l (i - 1) → s ≡ record_at l i → b ≡ before (edge_key r) (edge_key s)
-      → (eqb r.kind 2 && (eqb s.kind 2 && not b)) ≡ disordered graph l i
-  edges_disordered zero h d e f = absurd (h refl)
-  edges_disordered (suc i) h d e f = let q : suc i - 1 ≡ i = omega arith in rw (f, d, e, q) refl
+-- ---- order of keys, which the library compares as tuples and the definitions as lists
 
-  pub rules_disordered : (i : ℕ) → (i ≡ 0 → ⊥) → r ≡ record_at l (i - 1) → s ≡ record_at l i → b ≡ before (rule_key r) (rule_key s)
-      → (eqb r.kind 4 && (eqb s.kind 4 && not b)) ≡ disordered rules l i
-  rules_disordered zero h d e f = absurd (h refl)
-  rules_disordered (suc i) h d e f = let q : suc i - 1 ≡ i = omega arith in rw (f, d, e, q) refl
+-- the library's order of two numbers
+abbrev of_two : ℕ → ℕ → Option Ordering
+of_two x y = Some (nat_cmp x y)
+
+then_then : (a b c : Option Ordering) → partial_ordering_then (partial_ordering_then a b) c ≡ partial_ordering_then a (partial_ordering_then b c)
+then_then None b c = refl
+then_then (Some Less) b c = refl
+then_then (Some Equal) b c = refl
+then_then (Some Greater) b c = refl
+
+-- one number more: what is known of the numbers after it tells of all
+not_ascending : (x y : ℕ) (o : Option Ordering) (w : Bool) → is_some_and is_ge o ≡ not w
+    → is_some_and is_ge (partial_ordering_then (of_two x y) o) ≡ not (ltb x y || (eqb x y && w))
+not_ascending x y o w h = go (ltb x y) (eqb x y)
+  where
+    go : (a b : Bool) → is_some_and is_ge (partial_ordering_then (Some (cond a Less (cond b Equal Greater))) o) ≡ not (a || (b && w))
+    go true b = refl
+    go false true = h
+    go false false = refl
+
+last_not_ascending : (x y : ℕ) → is_some_and is_ge (of_two x y) ≡ not (ltb x y)
+last_not_ascending x y = go (ltb x y) (eqb x y)
+  where
+    go : (a b : Bool) → is_some_and is_ge (Some (cond a Less (cond b Equal Greater))) ≡ not a
+    go true b = refl
+    go false true = refl
+    go false false = refl
+
+pub three_not_ascending : (a b c x y z : ℕ)
+    → is_some_and is_ge (partial_ordering_then (partial_ordering_then (of_two a x) (of_two b y)) (of_two c z)) ≡ not (before (a ∷ b ∷ c ∷ []) (x ∷ y ∷ z ∷ []))
+three_not_ascending a b c x y z =
+    ap (is_some_and is_ge) (then_then (of_two a x) (of_two b y) (of_two c z)) ∙ not_ascending a x _ _ (not_ascending b y _ _ (last_not_ascending c z))
+    ∙ ap not (before_three a b c x y z)
+
+pub four_not_ascending : (a b c d w x y z : ℕ)
+    → is_some_and is_ge (partial_ordering_then (partial_ordering_then (partial_ordering_then (of_two a w) (of_two b x)) (of_two c y)) (of_two d z))
+    ≡ not (before (a ∷ b ∷ c ∷ d ∷ []) (w ∷ x ∷ y ∷ z ∷ []))
+four_not_ascending a b c d w x y z =
+    ap (is_some_and is_ge)
+    (then_then (partial_ordering_then (of_two a w) (of_two b x)) (of_two c y) (of_two d z) ∙ then_then (of_two a w) (of_two b x) (partial_ordering_then (of_two c y) (of_two d z)))
+    ∙ not_ascending a w _ _ (not_ascending b x _ _ (not_ascending c y _ _ (last_not_ascending d z))) ∙ ap not (before_four a b c d w x y z)
+
+-- the record before i, and i: two of kind n, which has this key
+pub neighbours_disordered : (k : Kind) (l : List ℕ) (n : ℕ) (key : Record → List ℕ)
+    → ((j : ℕ) → (of_kind l n j && (of_kind l n (suc j) && not (before (key (record_at l j)) (key (record_at l (suc j)))))) ≡ disordered k l (suc j))
+    → (r s : Record) (b : Bool) (i : ℕ) → (i ≡ 0 → ⊥) → r ≡ record_at l (i - 1) → s ≡ record_at l i → b ≡ not (before (key r) (key s))
+    → (eqb r.kind n && (eqb s.kind n && b)) ≡ disordered k l i
+neighbours_disordered k l n key is r s b zero h d e f = absurd (h refl)
+neighbours_disordered k l n key is r s b (suc i) h d e f = let q : suc i - 1 ≡ i = omega arith in rw (f, d, e, q) (is i)
 
 -- ---- 7 and 8 of an edge
 

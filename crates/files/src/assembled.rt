@@ -14,6 +14,7 @@ ghost use Rattle.files.specs.Record.{write};
 
 use crate::cells::copy_at;
 use crate::moved::write_all_moved;
+use crate::parts::records_in;
 use crate::record::Record;
 use crate::standing::METHODS;
 use crate::stood::standing_part;
@@ -31,9 +32,8 @@ fn write_own_nodes(
     ensures { (result ≡ at + length (node_recs (decode_deliveries file.now) method)) × (out.new ≡ put_at out.old (record_len * at) (write (node_recs (decode_deliveries file.now) method))) }
 {
     let part = standing_part(file, kept, method);
-    let from = Record::LEN * part.start;
-    let to = Record::LEN * (part.start + part.nodes);
-    copy_at(out, Record::LEN * at, &file[from..to]);
+    let nodes = records_in(file, part.start, part.start + part.nodes);
+    copy_at(out, Record::LEN * at, nodes);
     at + part.nodes
 }
 
@@ -65,9 +65,13 @@ fn write_own_edges(
         nodes: part.nodes,
         edges: part.end - part.start - part.nodes,
     };
-    let from = Record::LEN * part.start;
-    let to = Record::LEN * part.end;
-    write_all_moved(&file[from..to], view, before, out, at);
+    write_all_moved(
+        records_in(file, part.start, part.end),
+        view,
+        before,
+        out,
+        at,
+    );
     view
 }
 

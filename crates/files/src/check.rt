@@ -25,9 +25,7 @@ fn bound(kind: FileKind, apart: usize, records: usize) -> usize
 {
     match kind {
         FileKind::Graph => apart,
-        FileKind::Property => records,
-        FileKind::Rules => records,
-        FileKind::Interface => records,
+        FileKind::Property | FileKind::Rules | FileKind::Interface => records,
     }
 }
 
@@ -37,9 +35,7 @@ fn nodes(kind: FileKind, apart: usize) -> usize
 {
     match kind {
         FileKind::Graph => apart,
-        FileKind::Property => 0,
-        FileKind::Rules => 0,
-        FileKind::Interface => 0,
+        FileKind::Property | FileKind::Rules | FileKind::Interface => 0,
     }
 }
 
@@ -51,8 +47,7 @@ pub(crate) fn over(limits: Limits, kind: FileKind, apart: usize, n: usize) -> bo
     match kind {
         FileKind::Graph => (limits.nodes < apart) | (limits.edges < n - apart),
         FileKind::Property => (limits.rows < n) | (limits.ors < apart),
-        FileKind::Rules => false,
-        FileKind::Interface => false,
+        FileKind::Rules | FileKind::Interface => false,
     }
 }
 
@@ -61,10 +56,8 @@ fn missing(kind: FileKind, n: usize) -> bool
     ensures { result ≡ missing_with (kind_of kind) n }
 {
     match kind {
-        FileKind::Graph => false,
-        FileKind::Property => n == 0,
-        FileKind::Rules => false,
-        FileKind::Interface => n == 0,
+        FileKind::Graph | FileKind::Rules => false,
+        FileKind::Property | FileKind::Interface => n == 0,
     }
 }
 

@@ -9,7 +9,7 @@ ghost use Rattle.files.specs.Checking.{test, found_at, bound_of, names_past, Sou
 ghost use Rattle.files.specs.declared.record.Parsed.TheVariants.{Wrong, Other};
 
 use crate::offence::{FileKind, unread};
-use crate::parse::{parse_edge, parse_node, parse_row, read};
+use crate::parse::{parse_as, read};
 use crate::record::{Operator, Parsed, Record};
 use crate::refusal::Refusal;
 
@@ -21,7 +21,7 @@ fn node_named(records: &[u8], nodes: usize, g: usize) -> Parsed
     if nodes <= g {
         return Parsed::Other;
     }
-    parse_node(records, g)
+    parse_as(Record::NODE, records, g)
 }
 
 // Node g; Other past the last, Wrong in another method.
@@ -34,7 +34,7 @@ fn node_beside(records: &[u8], nodes: usize, g: usize, method: u8) -> Parsed
     }
     let r = read(records, g);
     if r.first == method {
-        return parse_node(records, g);
+        return parse_as(Record::NODE, records, g);
     }
     Parsed::Wrong
 }
@@ -50,7 +50,7 @@ pub(crate) fn name_nodes(
     requires { (Sound graph records.now) × ((nodes ≡ nodes_of records.now) × ((i < count records.now) × (first + i < usize_end))) }
     ensures { result ≡ found_at 2 7 (test graph records.now) first position i }
 {
-    let Parsed::Edge { from, to, .. } = parse_edge(records, i) else {
+    let Parsed::Edge { from, to, .. } = parse_as(Record::EDGE, records, i) else {
         return Ok(());
     };
     let Parsed::Node { method, .. } = node_named(records, nodes, from) else {
@@ -83,7 +83,7 @@ fn row_within(records: &[u8], rows: usize, i: usize) -> Parsed
     if names_past(r, rows) {
         return Parsed::Other;
     }
-    parse_row(records, i)
+    parse_as(Record::ROW, records, i)
 }
 
 // 7 of a row: the rows that it names are there.
@@ -118,7 +118,6 @@ pub(crate) fn name(
     match kind {
         FileKind::Graph => name_nodes(records, bound, i, first, position),
         FileKind::Property => name_rows(records, bound, i, first, position),
-        FileKind::Rules => Ok(()),
-        FileKind::Interface => Ok(()),
+        FileKind::Rules | FileKind::Interface => Ok(()),
     }
 }

@@ -1,7 +1,6 @@
 // Numbers 2 to 4 at one record of a file that is read as a graph, property, rules or interface: the parsed record is taken apart, and the refusal otherwise
 // returned with its place. States of `look` that it finds the lowest of the three that applies at the record.
-ghost use Rattle.std.specs.Prelude.{◌≡◌, [], ◌∷◌, ◌+◌, ◌*◌, ◌≤◌, ◌<◌, length};
-ghost use Rattle.files.specs.Basics.Lexical.{before};
+ghost use Rattle.std.specs.Prelude.{◌≡◌, ◌+◌, ◌*◌, ◌≤◌, ◌<◌, length};
 ghost use Rattle.files.specs.Outcome.{refusal_at};
 ghost use Rattle.files.specs.Places.{usize_end, record_len};
 ghost use Rattle.files.specs.Record.{kind_at};
@@ -9,7 +8,7 @@ ghost use Rattle.files.specs.Refusal.{graph, property, rules, interface, edge_be
 ghost use Rattle.files.specs.FileKind.{kind_of};
 ghost use Rattle.files.specs.Checking.{test, unread_number, found_at};
 
-use crate::parse::{kind_at, parse_edge, parse_interface, parse_node, parse_row, parse_rule, read};
+use crate::parse::{kind_at, parse_as, read};
 use crate::record::{Parsed, Record};
 use crate::refusal::Refusal;
 
@@ -20,20 +19,6 @@ pub enum FileKind {
     Property,
     Rules,
     Interface,
-}
-
-// Whether (a, b, c) comes strictly before (x, y, z).
-fn before3(a: u8, b: u8, c: u8, x: u8, y: u8, z: u8) -> bool
-    ensures { result ≡ before (a ∷ b ∷ c ∷ []) (x ∷ y ∷ z ∷ []) }
-{
-    (a < x) | ((a == x) & ((b < y) | ((b == y) & (c < z))))
-}
-
-// Whether (a, b, c, d) comes strictly before (w, x, y, z).
-fn before4(a: u8, b: u8, c: u8, d: u8, w: u8, x: u8, y: u8, z: u8) -> bool
-    ensures { result ≡ before (a ∷ b ∷ c ∷ d ∷ []) (w ∷ x ∷ y ∷ z ∷ []) }
-{
-    (a < w) | ((a == w) & ((b < x) | ((b == x) & ((c < y) | ((c == y) & (d < z))))))
 }
 
 // The record before record i is an edge.
@@ -47,34 +32,30 @@ fn edge_before(records: &[u8], i: usize) -> bool
     kind_at(records, i - 1) == Record::EDGE
 }
 
-// 4: two edges in a row whose keys do not ascend.
-fn edge_disordered(records: &[u8], i: usize) -> bool
+// 4: two edges of a graph, or two rules, in a row whose keys do not ascend. In line at both calls, as each names a constant kind.
+#[inline(always)]
+fn disordered(kind: FileKind, records: &[u8], i: usize) -> bool
     requires { record_len * i + record_len ≤ length records.now }
-    ensures { result ≡ disordered graph records.now i }
+    ensures { result ≡ disordered (kind_of kind) records.now i }
 {
     if i == 0 {
         return false;
     }
     let r = read(records, i - 1);
     let s = read(records, i);
-    let ascend = before3(r.first, r.second, r.third, s.first, s.second, s.third);
-    (r.kind == Record::EDGE) & ((s.kind == Record::EDGE) & !ascend)
-}
-
-// 4: two rules in a row whose keys do not ascend.
-fn rule_disordered(records: &[u8], i: usize) -> bool
-    requires { record_len * i + record_len ≤ length records.now }
-    ensures { result ≡ disordered rules records.now i }
-{
-    if i == 0 {
-        return false;
+    match kind {
+        FileKind::Graph => {
+            let before = (r.first, r.second, r.third);
+            let key = (s.first, s.second, s.third);
+            (r.kind == Record::EDGE) & ((s.kind == Record::EDGE) & (before >= key))
+        }
+        FileKind::Rules => {
+            let before = (r.first, r.second, r.third, r.fourth);
+            let key = (s.first, s.second, s.third, s.fourth);
+            (r.kind == Record::RULE) & ((s.kind == Record::RULE) & (before >= key))
+        }
+        FileKind::Property | FileKind::Interface => false,
     }
-    let r = read(records, i - 1);
-    let s = read(records, i);
-    let ascend = before4(
-        r.first, r.second, r.third, r.fourth, s.first, s.second, s.third, s.fourth,
-    );
-    (r.kind == Record::RULE) & ((s.kind == Record::RULE) & !ascend)
 }
 
 // The refusal of what does not read as its place asks for: by the number after `low` where it is there and wrong, by `low` where it is not there.
@@ -96,7 +77,7 @@ fn look_node(records: &[u8], i: usize, first: usize, position: u8) -> Result<(),
     if edge_before(records, i) {
         return Err(Refusal::at(2, position, first + i));
     }
-    let p = parse_node(records, i);
+    let p = parse_as(Record::NODE, records, i);
     let Parsed::Node { .. } = p else {
         return Err(unread(p, 2, position, first + i));
     };
@@ -108,11 +89,11 @@ fn look_edge(records: &[u8], i: usize, first: usize, position: u8) -> Result<(),
     requires { (record_len * i + record_len ≤ length records.now) × ((first + i < usize_end) × (kind_at records.now i ≡ 1 → ⊥)) }
     ensures { result ≡ found_at 3 2 (test graph records.now) first position i }
 {
-    let p = parse_edge(records, i);
+    let p = parse_as(Record::EDGE, records, i);
     let Parsed::Edge { .. } = p else {
         return Err(unread(p, 2, position, first + i));
     };
-    if edge_disordered(records, i) {
+    if disordered(FileKind::Graph, records, i) {
         return Err(Refusal::at(4, position, first + i));
     }
     Ok(())
@@ -137,7 +118,7 @@ fn look_row(records: &[u8], i: usize, first: usize, position: u8) -> Result<(), 
     requires { (record_len * i + record_len ≤ length records.now) × (first + i < usize_end) }
     ensures { result ≡ found_at 3 2 (test property records.now) first position i }
 {
-    let p = parse_row(records, i);
+    let p = parse_as(Record::ROW, records, i);
     let Parsed::Row { .. } = p else {
         return Err(unread(p, 2, position, first + i));
     };
@@ -148,11 +129,11 @@ fn look_rule(records: &[u8], i: usize, first: usize, position: u8) -> Result<(),
     requires { (record_len * i + record_len ≤ length records.now) × (first + i < usize_end) }
     ensures { result ≡ found_at 3 2 (test rules records.now) first position i }
 {
-    let p = parse_rule(records, i);
+    let p = parse_as(Record::RULE, records, i);
     let Parsed::Rule { .. } = p else {
         return Err(unread(p, 2, position, first + i));
     };
-    if rule_disordered(records, i) {
+    if disordered(FileKind::Rules, records, i) {
         return Err(Refusal::at(4, position, first + i));
     }
     Ok(())
@@ -166,7 +147,7 @@ fn look_interface(records: &[u8], i: usize, first: usize, position: u8) -> Resul
     if 1 <= i {
         return Err(Refusal::at(2, position, first + i));
     }
-    let p = parse_interface(records, i);
+    let p = parse_as(Record::INTERFACE, records, i);
     let Parsed::Interface { .. } = p else {
         return Err(unread(p, 2, position, first + i));
     };

@@ -1,6 +1,7 @@
 // Numbers 5, 7 and 8 of a file of deliveries in which 2 and 3 found nothing: each delivery is a graph by itself, which starts behind its opening and ends at the next. States
 // of `passed_deliveries` that it tells 5, and of `name_deliveries` that it finds the lower of 7 and 8 at its first record.
-ghost use Rattle.std.specs.Prelude.{◌≡◌, ◌+◌, ◌≤◌, ◌<◌};
+ghost use Rattle.std.specs.Prelude.{◌≡◌, ◌+◌, ◌-◌, ◌*◌, ◌≤◌, ◌<◌, take, drop};
+ghost use Rattle.files.specs.Places.{record_len};
 ghost use Rattle.files.specs.Record.{count, kind_at};
 ghost use Rattle.files.specs.Refusal.{graph, passed};
 ghost use Rattle.files.specs.Checking.{found_at, lowest};
@@ -24,6 +25,14 @@ pub struct Part {
     pub nodes: usize,
 }
 
+// The records of the file from `start` up to `end`.
+pub(crate) fn records_in(file: &[u8], start: usize, end: usize) -> &[u8]
+    requires { (start ≤ end) × (end ≤ count file.now) }
+    ensures { result.now ≡ take (record_len * end - record_len * start) (drop (record_len * start) file.now) }
+{
+    &file[Record::LEN * start..Record::LEN * end]
+}
+
 // The next opening from record a on, or the count of records.
 fn part_end(file: &[u8], a: usize) -> usize
     requires { a ≤ count file.now }
@@ -44,9 +53,7 @@ pub(crate) fn part_at(file: &[u8], a: usize) -> Part
     ensures { PartAt file.now a result }
 {
     let e = part_end(file, a);
-    let from = Record::LEN * a;
-    let to = Record::LEN * e;
-    let nodes = count(FileKind::Graph, &file[from..to]);
+    let nodes = count(FileKind::Graph, records_in(file, a, e));
     Part {
         start: a,
         end: e,
@@ -105,10 +112,8 @@ fn name_edge(file: &[u8], part: Part, i: usize, position: u8) -> Result<(), Refu
     requires { (SoundParts file.now) × ((i < count file.now) × ((Held file.now i part) × ((kind_at file.now i ≡ 1 → ⊥) × (kind_at file.now i ≡ 6 → ⊥)))) }
     ensures { result ≡ found_at 2 7 (delivery_test file.now) 0 position i }
 {
-    let from = Record::LEN * part.start;
-    let to = Record::LEN * part.end;
     name_nodes(
-        &file[from..to],
+        records_in(file, part.start, part.end),
         part.nodes,
         i - part.start,
         part.start,

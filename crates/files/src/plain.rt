@@ -6,7 +6,6 @@ ghost use Rattle.files.specs.Places.{record_len};
 ghost use Rattle.files.specs.Record.{count};
 ghost use Rattle.files.specs.Plain.{PlainNode, Inside, PlainEdges, edge_number};
 
-use crate::cells::Weight;
 use crate::parse::{edge_wrong, node_wrong, read};
 use crate::record::Record;
 
@@ -28,7 +27,7 @@ pub(crate) fn leading_nodes(records: &[u8]) -> usize
 fn edge_number(r: Record) -> u32
     ensures { result ≡ edge_number r }
 {
-    Weight::THIRD_OF_WORD * (r.first as u32) + 256 * (r.second as u32) + (r.third as u32)
+    u32::from_be_bytes([0, r.first, r.second, r.third])
 }
 
 // Whether an edge is between two of so many nodes, of one method.

@@ -79,8 +79,7 @@ fn counts(kind: FileKind, records: &[u8], i: usize) -> bool
             let r = read(records, i);
             r.first == Operator::OR
         }
-        FileKind::Rules => false,
-        FileKind::Interface => false,
+        FileKind::Rules | FileKind::Interface => false,
     }
 }
 

@@ -4,43 +4,25 @@ ghost use Rattle.std.specs.Prelude.{◌≡◌, ◌+◌, ◌*◌, ◌≤◌, leng
 ghost use Rattle.files.specs.Places.{record_len};
 ghost use Rattle.files.specs.Record.{parsed_at};
 ghost use Rattle.files.specs.Decode.{decode_graph, decode_interface};
-ghost use Rattle.files.specs.Sides.{foreign_node, foreign_call, foreign_of, first_foreign_record, shares, lacks, unprovided, has_entry, lacks_entry};
+ghost use Rattle.files.specs.Sides.{foreign_of, first_foreign_record, shares, lacks, unprovided, has_entry, lacks_entry};
 ghost use Rattle.files.specs.Refusal.{nodes_of};
 ghost use Rattle.files.specs.Access.{GraphFile, InterfaceFile};
 
 use crate::graph::node_at;
 use crate::interface::{in_set, provided_methods, provides, required_methods};
-use crate::parse::{parse_edge, parse_node};
+use crate::parse::{parsed, read};
 use crate::record::{Parsed, Record};
 
-// A node whose method is not provided.
-fn foreign_node(p: Parsed, provided: u8, required: u8) -> bool
-    ensures { result ≡ foreign_node (record { provided = provided; required = required }) p }
-{
-    let Parsed::Node { method, .. } = p else {
-        return false;
-    };
-    !in_set(provided, method)
-}
-
-// An edge that calls a method that is not required.
-fn foreign_call(p: Parsed, provided: u8, required: u8) -> bool
-    ensures { result ≡ foreign_call (record { provided = provided; required = required }) p }
-{
-    let Parsed::Edge { label, .. } = p else {
-        return false;
-    };
-    (0 < label) & !in_set(required, label)
-}
-
-// Record i is not of the interface with these sets.
+// Record i is not of the interface with these sets: a node whose method is not provided, or an edge that calls a method that is not required.
 fn foreign(graph: &[u8], i: usize, provided: u8, required: u8) -> bool
     requires { record_len * i + record_len ≤ length graph.now }
     ensures { result ≡ foreign_of (record { provided = provided; required = required }) (parsed_at graph.now i) }
 {
-    let node = parse_node(graph, i);
-    let edge = parse_edge(graph, i);
-    foreign_node(node, provided, required) | foreign_call(edge, provided, required)
+    match parsed(read(graph, i)) {
+        Parsed::Node { method, .. } => !in_set(provided, method),
+        Parsed::Edge { label, .. } => (0 < label) & !in_set(required, label),
+        _ => false,
+    }
 }
 
 // The first record of the graph that is not of the interface, or the count of records.
