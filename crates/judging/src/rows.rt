@@ -17,7 +17,7 @@ pub(crate) fn without(x: u8, y: u8) -> u8
     x & !y
 }
 
-// The row from `at` on.
+// The row from `at` on. (Here and in `put_row` a loop over the bytes is built into the caller, where `copy_from_slice` is a call and makes comparing up to a third slower.)
 pub(crate) fn row_at(work: &[u8], at: usize) -> [u8; LINE]
     requires { at + line_bytes ≤ length work.now }
     ensures { (length result ≡ line_bytes) × ((h : ℕ) → h < max_nodes → has_bit result 0 h ≡ has_bit work.now at h) }
