@@ -97,15 +97,15 @@ second_of (Box l b) = b
 second_of (BoxAll a) = 0
 
 -- whether a row looks along an edge of label l, and the row that it then looks at
-abbrev pub looks_along : PropertyRow → ℕ → Bool
-looks_along x l = aims (operator_of x) (first_of x) l
+abbrev pub aims_along : PropertyRow → ℕ → Bool
+aims_along x l = aims (operator_of x) (first_of x) l
 
 abbrev pub looked_at : PropertyRow → ℕ
 looked_at x = box_row (operator_of x) (first_of x) (second_of x)
 
 -- the row, if any, that a row looks at along a label (Boxes, `looks_obliged`: what the row obliges to)
 abbrev pub looks : PropertyRow → ℕ → Option ℕ
-looks x l = cond (looks_along x l) (Some (looked_at x)) None
+looks x l = cond (aims_along x l) (Some (looked_at x)) None
 
 abbrev pub rule_held : Rule → MonitorRule
 rule_held u = record { state = u.state; event = u.event.kind; m1 = u.event.m1; m2 = u.event.m2; next = u.next }

@@ -14,7 +14,7 @@ use Rattle.files.specs.Basics.Lists.{index_e}
 use Rattle.files.specs.Graph.{Graph, size, no_edge}
 use Rattle.files.specs.Places.{max_edges, two_bytes_last}
 use Rattle.files.specs.Property.{Row, always, never, returns, not_returns, in_method, not_in_method, both, either, box, box_all, row}
-use Rattle.files.specs.Access.{GraphFile, row_held}
+use Rattle.files.specs.Access.{GraphFile, row_held, first_of, operator_of, second_of}
 use Rattle.files.specs.Cells.{cell, put_cell}
 use Rattle.files.specs.Decode.{decode_graph, decode_property}
 use Rattle.files.specs.Decode.Graphs.{decoded_size, decoded_edges, decoded_flow}
@@ -37,7 +37,7 @@ linked_by w once twice heads nexts key item held a b c = c ∙ rw (b, a, add-one
 
 -- ---- the row that a record names
 
-operand_is : (x : Row) (i n : ℕ) → operand_of (row_held x).operator (row_held x).a (row_held x).b i n ≡ named_or (named x i) n
+operand_is : (x : Row) (i n : ℕ) → operand_of (operator_of (row_held x)) (first_of (row_held x)) (second_of (row_held x)) i n ≡ named_or (named x i) n
 operand_is always i n = refl
 operand_is never i n = refl
 operand_is returns i n = refl
@@ -58,8 +58,8 @@ operand_is (box_all a) i n = go (eqb i 0)
     go false = refl
 
 -- what the operands of row v, read as u, name
-pub row_names : (u : PropertyRow) (v : Row) (i n r : ℕ) → u ≡ row_held v → r ≡ operand_of u.operator u.a u.b i n → r ≡ named_or (named v i) n
-row_names u v i n r is e = e ∙ ap (λ (y : PropertyRow). operand_of y.operator y.a y.b i n) is ∙ operand_is v i n
+pub row_names : (u : PropertyRow) (v : Row) (i n r : ℕ) → u ≡ row_held v → r ≡ operand_of (operator_of u) (first_of u) (second_of u) i n → r ≡ named_or (named v i) n
+row_names u v i n r is e = e ∙ ap (λ (y : PropertyRow). operand_of (operator_of y) (first_of y) (second_of y) i n) is ∙ operand_is v i n
 
 -- ---- bytes
 

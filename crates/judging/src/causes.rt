@@ -1,4 +1,5 @@
 // Why a pair of a node and a row is false, read off the ranks: its rank, the lowest failing entry, and its causes.
+ghost use Rattle.files.specs.Access.{looked_at, aims_along};
 ghost use Rattle.std.specs.Prelude.{◌≡◌, ◌+◌, ◌*◌, ◌≤◌, ◌<◌, length, get_or};
 ghost use Rattle.files.specs.Basics.First.{first_or};
 ghost use Rattle.files.specs.Property.{aims, box_row};
@@ -127,8 +128,8 @@ fn better(
     best: usize,
     j: usize,
 ) -> usize
-    requires { (Ready s graph.now property.now) × ((box_row x.operator x.a x.b < s.rows) × ((best ≤ s.graph.nodes) × ((j < s.graph.edges) × (Settled (decode_graph graph.now) (decode_property property.now) work.now)))) }
-    ensures { result ≡ better (decode_graph graph.now) (decode_property property.now) (aims x.operator x.a) (box_row x.operator x.a x.b) s.graph.nodes best j }
+    requires { (Ready s graph.now property.now) × ((looked_at x < s.rows) × ((best ≤ s.graph.nodes) × ((j < s.graph.edges) × (Settled (decode_graph graph.now) (decode_property property.now) work.now)))) }
+    ensures { result ≡ better (decode_graph graph.now) (decode_property property.now) (aims_along x) (looked_at x) s.graph.nodes best j }
 {
     let edge = edge_at(graph, s.graph.nodes, j);
     let on = obliged(x, edge.label);
@@ -145,8 +146,8 @@ fn better(
 
 // The foremost target at node g of box x, or the number of nodes.
 fn foremost(graph: &[u8], property: &[u8], s: Shape, work: &[u8], g: usize, x: PropertyRow) -> usize
-    requires { (Ready s graph.now property.now) × ((g < s.graph.nodes) × ((box_row x.operator x.a x.b < s.rows) × (Settled (decode_graph graph.now) (decode_property property.now) work.now))) }
-    ensures { result ≡ first_or (best_target (decode_graph graph.now) (decode_property property.now) g (aims x.operator x.a) (box_row x.operator x.a x.b) s.graph.edges) s.graph.nodes }
+    requires { (Ready s graph.now property.now) × ((g < s.graph.nodes) × ((looked_at x < s.rows) × (Settled (decode_graph graph.now) (decode_property property.now) work.now))) }
+    ensures { result ≡ first_or (best_target (decode_graph graph.now) (decode_property property.now) g (aims_along x) (looked_at x) s.graph.edges) s.graph.nodes }
 {
     let end = get16(work, Shape::FIRSTS, g + 1) as usize;
     let start = get16(work, Shape::FIRSTS, g) as usize;
@@ -166,8 +167,8 @@ fn box_cause(
     g: usize,
     x: PropertyRow,
 ) -> Cause
-    requires { (Ready s graph.now property.now) × ((g < s.graph.nodes) × ((box_row x.operator x.a x.b < s.rows) × (Settled (decode_graph graph.now) (decode_property property.now) work.now))) }
-    ensures { result ≡ cause_held (get_or (as_causes (box_row x.operator x.a x.b) (best_target (decode_graph graph.now) (decode_property property.now) g (aims x.operator x.a) (box_row x.operator x.a x.b) s.graph.edges)) 0 no_cause) }
+    requires { (Ready s graph.now property.now) × ((g < s.graph.nodes) × ((looked_at x < s.rows) × (Settled (decode_graph graph.now) (decode_property property.now) work.now))) }
+    ensures { result ≡ cause_held (get_or (as_causes (looked_at x) (best_target (decode_graph graph.now) (decode_property property.now) g (aims_along x) (looked_at x) s.graph.edges)) 0 no_cause) }
 {
     let t = foremost(graph, property, s, work, g, x);
     let on = obliged(x, 0);

@@ -1,7 +1,7 @@
 // Levels on lent bytes: what is false by itself has rank 1; each next level pops the pairs of the level before from a queue and gives the next rank to what
 // turns false with them. `levels` states that all ranks are found. One level is one call of `level`.
 ghost use Rattle.std.specs.Prelude.{◌≡◌, not, ◌&&◌, ℕ, suc, ◌+◌, ◌*◌, ◌≤◌, ◌<◌, T, leb, length, get_or};
-ghost use Rattle.files.specs.Access.{PropertyFile, row_held};
+ghost use Rattle.files.specs.Access.{PropertyFile, row_held, aims_along, operator_of};
 ghost use Rattle.files.specs.Graph.{no_edge};
 ghost use Rattle.files.specs.Property.{row, aims};
 ghost use Rattle.files.specs.Record.{count};
@@ -86,7 +86,7 @@ fn start_pair(
 // Whether row r may be false by itself: it has no operands, and is not "true".
 fn may_fall(property: &[u8], r: usize) -> bool
     requires { (PropertyFile property.now) × (r < count property.now) }
-    ensures { result ≡ may_fall (row_held (row (decode_property property.now) r)).operator }
+    ensures { result ≡ may_fall (operator_of (row_held (row (decode_property property.now) r))) }
 {
     let x = row_at(property, r);
     (Operator::FALSE <= x.operator) & (x.operator <= Operator::NOT_RETURNS)
@@ -140,8 +140,8 @@ fn arrive(
     q: usize,
     k: u16,
 ) -> usize
-    requires { (Ready s graph.now property.now) × ((e < s.graph.edges) × ((q < s.rows) × ((Finding (decode_graph graph.now) (decode_property property.now) k tail work.old) × (T (aims x.operator x.a (get_or (decode_graph graph.now).edges e no_edge).label) → T (not (level (decode_graph graph.now) (decode_property property.now) (suc k) (get_or (decode_graph graph.now).edges e no_edge).from q)))))) }
-    ensures { (Grew (decode_graph graph.now) (decode_property property.now) k tail result work.old work.new) × (T (aims x.operator x.a (get_or (decode_graph graph.now).edges e no_edge).label) → Given work.new (get_or (decode_graph graph.now).edges e no_edge).from q) }
+    requires { (Ready s graph.now property.now) × ((e < s.graph.edges) × ((q < s.rows) × ((Finding (decode_graph graph.now) (decode_property property.now) k tail work.old) × (T (aims_along x (get_or (decode_graph graph.now).edges e no_edge).label) → T (not (level (decode_graph graph.now) (decode_property property.now) (suc k) (get_or (decode_graph graph.now).edges e no_edge).from q)))))) }
+    ensures { (Grew (decode_graph graph.now) (decode_property property.now) k tail result work.old work.new) × (T (aims_along x (get_or (decode_graph graph.now).edges e no_edge).label) → Given work.new (get_or (decode_graph graph.now).edges e no_edge).from q) }
 {
     let edge = edge_at(graph, s.graph.nodes, e);
     let on = obliged(x, edge.label);
@@ -163,8 +163,8 @@ fn boxes(
     q: usize,
     k: u16,
 ) -> usize
-    requires { (Ready s graph.now property.now) × ((v < s.graph.nodes) × ((q < s.rows) × ((Finding (decode_graph graph.now) (decode_property property.now) k tail work.old) × ((e : ℕ) → e < s.graph.edges → T (into (decode_graph graph.now) v e) → T (aims x.operator x.a (get_or (decode_graph graph.now).edges e no_edge).label) → T (not (level (decode_graph graph.now) (decode_property property.now) (suc k) (get_or (decode_graph graph.now).edges e no_edge).from q)))))) }
-    ensures { (Grew (decode_graph graph.now) (decode_property property.now) k tail result work.old work.new) × ((e : ℕ) → e < s.graph.edges → T (into (decode_graph graph.now) v e) → T (aims x.operator x.a (get_or (decode_graph graph.now).edges e no_edge).label) → Given work.new (get_or (decode_graph graph.now).edges e no_edge).from q) }
+    requires { (Ready s graph.now property.now) × ((v < s.graph.nodes) × ((q < s.rows) × ((Finding (decode_graph graph.now) (decode_property property.now) k tail work.old) × ((e : ℕ) → e < s.graph.edges → T (into (decode_graph graph.now) v e) → T (aims_along x (get_or (decode_graph graph.now).edges e no_edge).label) → T (not (level (decode_graph graph.now) (decode_property property.now) (suc k) (get_or (decode_graph graph.now).edges e no_edge).from q)))))) }
+    ensures { (Grew (decode_graph graph.now) (decode_property property.now) k tail result work.old work.new) × ((e : ℕ) → e < s.graph.edges → T (into (decode_graph graph.now) v e) → T (aims_along x (get_or (decode_graph graph.now).edges e no_edge).label) → Given work.new (get_or (decode_graph graph.now).edges e no_edge).from q) }
 {
     let mut at = get16(work, Shape::NODE_HEADS, v) as usize;
     let mut end = tail;

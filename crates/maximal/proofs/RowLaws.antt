@@ -8,7 +8,7 @@ use native.Mathlib.Omega.{arith}
 use lib.Bits.{bit_or}
 use lib.Dec.{T, eqb, leb, leb→le, ltb, ltb→lt}
 use lib.ListN.{length}
-use Rattle.files.specs.Access.{PropertyFile, row_held, looks}
+use Rattle.files.specs.Access.{PropertyFile, row_held, looks, first_of, operator_of, second_of}
 use Rattle.files.specs.Access.Boxes.{looks_obliged}
 use Rattle.files.specs.Basics.Tests.{and_l, and_r, and_e}
 use Rattle.files.specs.Decode.{decode_property}
@@ -25,7 +25,7 @@ use Rattle.maximal.specs.Masks.{operands_or, and_rows, untrue_at, obliged_rows}
 -- ---- what a row's record says
 
 -- the operands of operators 7 and 8 are rows
-operands_rows : (n : ℕ) (x : Row) → T (names n x) → 7 ≤ (row_held x).operator → (row_held x).operator ≤ 8 → ((row_held x).a < n) × ((row_held x).b < n)
+operands_rows : (n : ℕ) (x : Row) → T (names n x) → 7 ≤ (operator_of (row_held x)) → operator_of (row_held x) ≤ 8 → ((first_of (row_held x)) < n) × ((second_of (row_held x)) < n)
 operands_rows n always t l h = absurd (omega arith)
 operands_rows n never t l h = absurd (omega arith)
 operands_rows n returns t l h = absurd (omega arith)
@@ -39,10 +39,10 @@ operands_rows n (box_all a) t l h = absurd (omega arith)
 
 -- what the code makes of the operator and the operands
 abbrev pub operands_by : PropertyRow → ℕ → ℕ → ℕ
-operands_by u last other = cond (leb 7 u.operator && leb u.operator last) (bit_or (2 ^ u.a) (2 ^ u.b)) other
+operands_by u last other = cond (leb 7 (operator_of u) && leb (operator_of u) last) (bit_or (2 ^ (first_of u)) (2 ^ (second_of u))) other
 
 abbrev pub untrue_by : PropertyRow → ℕ → Bool → Bool
-untrue_by u m f = leaf_false u.operator u.a m f
+untrue_by u m f = leaf_false (operator_of u) (first_of u) m f
 
 pub and_rows_are : (x : Row) → operands_or x 7 0 ≡ and_rows x
 and_rows_are always = refl
@@ -125,14 +125,14 @@ module _ (p : List ℕ) (file : PropertyFile p) (n : ℕ) (n_is : n ≡ count p)
 
   -- row r, read as u
   module _ (r : ℕ) (h : r < n) (u : PropertyRow) (read : u ≡ row_held (row (decode_property p) r)) where
-    both_below : 7 ≤ u.operator → u.operator ≤ 8 → (u.a < n) × (u.b < n)
+    both_below : 7 ≤ (operator_of u) → operator_of u ≤ 8 → (first_of u < n) × (second_of u < n)
     both_below =
-        subst (λ (y : PropertyRow). 7 ≤ y.operator → y.operator ≤ 8 → (y.a < n) × (y.b < n)) (sym read) (operands_rows n (row (decode_property p) r) (names_rows r h))
+        subst (λ (y : PropertyRow). 7 ≤ (operator_of y) → operator_of y ≤ 8 → (first_of y < n) × (second_of y < n)) (sym read) (operands_rows n (row (decode_property p) r) (names_rows r h))
 
-    pub pair_below : (last : ℕ) → last ≤ 8 → (leb 7 u.operator && leb u.operator last) ≡ true → (u.a < n) × (u.b < n)
+    pub pair_below : (last : ℕ) → last ≤ 8 → (leb 7 (operator_of u) && leb (operator_of u) last) ≡ true → (first_of u < n) × (second_of u < n)
     pair_below last l e =
-        let t = and_e (leb 7 u.operator) (leb u.operator last) (subst T (sym e) tt) in
-        both_below (leb→le 7 u.operator t.0) (omega (arith, l, leb→le u.operator last t.1))
+        let t = and_e (leb 7 (operator_of u)) (leb (operator_of u) last) (subst T (sym e) tt) in
+        both_below (leb→le 7 (operator_of u) t.0) (omega (arith, l, leb→le (operator_of u) last t.1))
 
     pub looked_below : (l : ℕ) (y : Looks) → y ≡ looks u l → y.along ≡ true → y.at < n
     looked_below l y looked t =

@@ -2,7 +2,7 @@
 // rows that are untrue at a method and flag; the boxes that look along a label; and what a state asks of its successors under it.
 ghost use Rattle.std.specs.Prelude.{◌≡◌, cond, ℕ, ◌+◌, ◌^◌, ◌≤◌, ◌<◌, T, get_or};
 ghost use Rattle.std.specs.Int.Bits.{bit_or};
-ghost use Rattle.files.specs.Access.{PropertyFile, looks};
+ghost use Rattle.files.specs.Access.{PropertyFile, looks, aims_along};
 ghost use Rattle.files.specs.Decode.{decode_property};
 ghost use Rattle.files.specs.Property.{row, obliged};
 ghost use Rattle.files.specs.Record.{count};
@@ -141,7 +141,7 @@ pub(crate) fn asked(property: &[u8], n: usize, set: u32, label: u8) -> u32
 // Enters row r, read as x, under each label that it looks along.
 fn enter_box(boxes: [u32; LABELS], x: PropertyRow, r: usize) -> [u32; LABELS]
     requires { r < 32 }
-    ensures { (l : ℕ) → l < 9 → get_or result l 0 ≡ cond (looks x l).along (bit_or (get_or boxes l 0) (2 ^ r)) (get_or boxes l 0) }
+    ensures { (l : ℕ) → l < 9 → get_or result l 0 ≡ cond (aims_along x l) (bit_or (get_or boxes l 0) (2 ^ r)) (get_or boxes l 0) }
 {
     let mut all = boxes;
     for label in 0..LABELS {

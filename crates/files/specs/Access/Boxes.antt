@@ -3,11 +3,11 @@ use Rattle.std.specs.Prelude.{◌≡◌, refl, Bool, true, false, cond, ℕ, ◌
 use Rattle.std.proofs.Math.Option.{none, some}
 use Rattle.std.proofs.Common.{sym, ap, ◌∙◌, arith, ltb→lt}
 use Rattle.files.specs.declared.property.PropertyRow.{PropertyRow}
-use Rattle.files.specs.Access.{row_held, operator_of, looks, looks_along, looked_at}
+use Rattle.files.specs.Access.{row_held, operator_of, looks, aims_along, looked_at}
 use Rattle.files.specs.Property.{Row, always, never, returns, not_returns, in_method, not_in_method, both, either, box, box_all, names, obliged, Boxed, by_label, by_any, is_box}
 
 -- what a row obliges to under a label is what it looks at
-pub looks_obliged : (x : Row) (l : ℕ) → obliged x l ≡ cond (looks_along (row_held x) l) (some (looked_at (row_held x))) none
+pub looks_obliged : (x : Row) (l : ℕ) → obliged x l ≡ cond (aims_along (row_held x) l) (some (looked_at (row_held x))) none
 looks_obliged always l = refl
 looks_obliged never l = refl
 looks_obliged returns l = refl
@@ -21,21 +21,21 @@ looks_obliged (box_all a) l = refl
 
 -- what was found along a label: where it is some row, the row looks along the label and at that row; where it is none, it does not look along it
 module _ (x : PropertyRow) (l : ℕ) {y : Option ℕ} (found : y ≡ looks x l) where
-  pub along_is : is_some y ≡ looks_along x l
-  along_is = ap is_some found ∙ go (looks_along x l)
+  pub along_is : is_some y ≡ aims_along x l
+  along_is = ap is_some found ∙ go (aims_along x l)
     where
       go : (b : Bool) → is_some (cond b (Some (looked_at x)) None) ≡ b
       go true = refl
       go false = refl
 
-  pub found_at : (r : ℕ) → y ≡ Some r → (looks_along x l ≡ true) × (r ≡ looked_at x)
-  found_at r e = go (looks_along x l) (sym e ∙ found)
+  pub found_at : (r : ℕ) → y ≡ Some r → (aims_along x l ≡ true) × (r ≡ looked_at x)
+  found_at r e = go (aims_along x l) (sym e ∙ found)
     where
       go : (b : Bool) → Some r ≡ cond b (Some (looked_at x)) None → (b ≡ true) × (r ≡ looked_at x)
       go true d = (refl, ap (λ o. unwrap_or o 0) d)
       go false d = let z : ◌≡◌ {A = ℕ} 0 1 = cc in absurd (omega arith)
 
-  pub none_found : y ≡ None → looks_along x l ≡ false
+  pub none_found : y ≡ None → aims_along x l ≡ false
   none_found e = sym along_is ∙ ap is_some e
 
 -- the operator tells a box

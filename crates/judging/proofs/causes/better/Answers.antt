@@ -1,4 +1,5 @@
 use mathlib.Core.Path.{refl, sym, ap, subst, ◌∙◌}
+use Rattle.files.specs.Access.{looked_at, aims_along}
 use Rattle.files.specs.Decode.{decode_graph, decode_property}
 use Rattle.files.specs.Property.{aims, box_row}
 use Rattle.judging.proofs.CauseLaws.{to_node, better_is}
@@ -20,24 +21,24 @@ pub returns-then-is_ahead : goal.returns-then-is_ahead
 returns-then-is_ahead c =
     let a = c.args in
     let u = c.edge_at-edge.ensures in
-    better_is (decode_graph a.graph.now) (decode_property a.property.now) _ (aims a.x.operator a.x.a) (box_row a.x.operator a.x.a a.x.b) a.s.graph.nodes a.best a.j true true true u (sym (ap (λ (y : Looks). y.along) c.obliged-on.ensures) ∙ c.if-on.true) (lt-ltb _ _ c.if-best-s.true)
+    better_is (decode_graph a.graph.now) (decode_property a.property.now) _ (aims_along a.x) (looked_at a.x) a.s.graph.nodes a.best a.j true true true u (sym (ap (λ (y : Looks). y.along) c.obliged-on.ensures) ∙ c.if-on.true) (lt-ltb _ _ c.if-best-s.true)
     (sym (c.is_ahead.ensures ∙ ap (λ (y : Looks). ahead (decode_graph a.graph.now) (decode_property a.property.now) (a.best, y.at) (c.edge_at-edge.result.to, y.at)) c.obliged-on.ensures) ∙ c.if-is_ahead.true)
 
 pub returns-else-is_ahead : goal.returns-else-is_ahead
 returns-else-is_ahead c =
     let a = c.args in
     let u = c.edge_at-edge.ensures in
-    better_is (decode_graph a.graph.now) (decode_property a.property.now) _ (aims a.x.operator a.x.a) (box_row a.x.operator a.x.a a.x.b) a.s.graph.nodes a.best a.j true true false u (sym (ap (λ (y : Looks). y.along) c.obliged-on.ensures) ∙ c.if-on.true) (lt-ltb _ _ c.if-best-s.true)
+    better_is (decode_graph a.graph.now) (decode_property a.property.now) _ (aims_along a.x) (looked_at a.x) a.s.graph.nodes a.best a.j true true false u (sym (ap (λ (y : Looks). y.along) c.obliged-on.ensures) ∙ c.if-on.true) (lt-ltb _ _ c.if-best-s.true)
     (sym (c.is_ahead.ensures ∙ ap (λ (y : Looks). ahead (decode_graph a.graph.now) (decode_property a.property.now) (a.best, y.at) (c.edge_at-edge.result.to, y.at)) c.obliged-on.ensures) ∙ c.if-is_ahead.false)
 
 pub returns-else-best-s : goal.returns-else-best-s
 returns-else-best-s c =
     let a = c.args in
     let u = c.edge_at-edge.ensures in
-    better_is (decode_graph a.graph.now) (decode_property a.property.now) _ (aims a.x.operator a.x.a) (box_row a.x.operator a.x.a a.x.b) a.s.graph.nodes a.best a.j true false _ u (sym (ap (λ (y : Looks). y.along) c.obliged-on.ensures) ∙ c.if-on.true) (le-ltb _ _ c.if-best-s.false) refl
+    better_is (decode_graph a.graph.now) (decode_property a.property.now) _ (aims_along a.x) (looked_at a.x) a.s.graph.nodes a.best a.j true false _ u (sym (ap (λ (y : Looks). y.along) c.obliged-on.ensures) ∙ c.if-on.true) (le-ltb _ _ c.if-best-s.false) refl
 
 pub returns : goal.returns
 returns c =
     let a = c.args in
     let u = c.edge_at-edge.ensures in
-    better_is (decode_graph a.graph.now) (decode_property a.property.now) _ (aims a.x.operator a.x.a) (box_row a.x.operator a.x.a a.x.b) a.s.graph.nodes a.best a.j false _ _ u (sym (ap (λ (y : Looks). y.along) c.obliged-on.ensures) ∙ c.if-on.false) refl refl
+    better_is (decode_graph a.graph.now) (decode_property a.property.now) _ (aims_along a.x) (looked_at a.x) a.s.graph.nodes a.best a.j false _ _ u (sym (ap (λ (y : Looks). y.along) c.obliged-on.ensures) ∙ c.if-on.false) refl refl
