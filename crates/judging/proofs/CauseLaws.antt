@@ -23,10 +23,9 @@ use Rattle.files.specs.Cells.{cell, put_cell}
 use Rattle.files.specs.Cells.Laws.{cells_on, cell_apart}
 use Rattle.files.specs.Decode.{decode_graph, decode_property, row_of, Filed}
 use Rattle.files.specs.Decode.Graphs.{decoded_filed}
-use Rattle.files.specs.Decode.Values.{row_written}
 use Rattle.files.specs.Graph.{Graph, size, no_edge}
 use Rattle.files.specs.Places.{max_edges}
-use Rattle.files.specs.Property.{Row, both, either, row, names, obliged, Boxed, is_box, aims, box_row}
+use Rattle.files.specs.Property.{Row, always, never, returns, not_returns, in_method, not_in_method, both, either, box, box_all, row, names, obliged, Boxed, is_box, aims, box_row}
 use Rattle.files.specs.declared.graph.GraphEdge.{GraphEdge}
 use Rattle.files.specs.declared.property.PropertyRow.{PropertyRow}
 use Rattle.judging.specs.Places.{firsts_base, judge_room, max_pairs}
@@ -198,13 +197,25 @@ module _ (G : Graph) (P : List Row) where
 
 -- ---- a row by its operator
 
+row_told : (x : Row) → x ≡ row_of (operator_of (row_held x)) (first_of (row_held x)) (second_of (row_held x))
+row_told always = refl
+row_told never = refl
+row_told returns = refl
+row_told not_returns = refl
+row_told (in_method a) = refl
+row_told (not_in_method a) = refl
+row_told (both a b) = refl
+row_told (either a b) = refl
+row_told (box l b) = refl
+row_told (box_all a) = refl
+
 -- row r, read as u
 module _ (s : Shape) (g p : List ℕ) (ready : Ready s g p) (v r : ℕ) (hr : r < s.rows) (u : PropertyRow) (is : u ≡ row_held (row (decode_property p) r)) where
   operator_is : operator_of u ≡ operator_of (row_held (row (decode_property p) r))
   operator_is = ap (λ (x : PropertyRow). operator_of x) is
 
   by_operator : (o : ℕ) → operator_of u ≡ o → row (decode_property p) r ≡ row_of o (first_of u) (second_of u)
-  by_operator o e = sym (row_written (row (decode_property p) r)).0 ∙ ap (λ (x : PropertyRow). row_of (operator_of x) (first_of x) (second_of x)) (sym is) ∙ ap (λ (n : ℕ). row_of n (first_of u) (second_of u)) e
+  by_operator o e = row_told (row (decode_property p) r) ∙ ap (λ (x : PropertyRow). row_of (operator_of x) (first_of x) (second_of x)) (sym is) ∙ ap (λ (n : ℕ). row_of n (first_of u) (second_of u)) e
 
   both_read : operator_of u ≡ 7 → row (decode_property p) r ≡ both (first_of u) (second_of u)
   both_read = by_operator 7

@@ -112,10 +112,10 @@ module _ (s : Shape) (g p : List ℕ) (ready : Ready s g p) where
       b_is : second_of u ≡ two.b
       b_is = ap (λ (y : PropertyRow). second_of y) is ∙ two.is_b
 
-      pub a_fits : (pair v first_of u < max_pairs) × (judge_room ≤ length w)
+      pub a_fits : (pair v (first_of u) < max_pairs) × (judge_room ≤ length w)
       a_fits = (omega (arith, a_is, two.a_row, rows_fit s g p ready, ready.held.few_nodes), f.room)
 
-      pub b_fits : (pair v second_of u < max_pairs) × (judge_room ≤ length w)
+      pub b_fits : (pair v (second_of u) < max_pairs) × (judge_room ≤ length w)
       b_fits = (omega (arith, b_is, two.b_row, rows_fit s g p ready, ready.held.few_nodes), f.room)
 
       -- it has a rank where the pair is, and so is done
