@@ -25,7 +25,7 @@ use Rattle.files.specs.Decode.{decode_graph, decode_property, row_of, Filed}
 use Rattle.files.specs.Decode.Graphs.{decoded_filed}
 use Rattle.files.specs.Graph.{Graph, size, no_edge}
 use Rattle.files.specs.Places.{max_edges}
-use Rattle.files.specs.Property.{Row, always, never, returns, not_returns, in_method, not_in_method, both, either, box, box_all, row, names, obliged, Boxed, is_box, aims, box_row}
+use Rattle.files.specs.Property.{Row, always, never, returns, not_returns, in_method, not_in_method, both, either, box, box_all, row, names, obliged, Boxed, is_box}
 use Rattle.files.specs.declared.graph.GraphEdge.{GraphEdge}
 use Rattle.files.specs.declared.property.PropertyRow.{PropertyRow}
 use Rattle.judging.specs.Places.{firsts_base, judge_room, max_pairs}
@@ -186,17 +186,9 @@ module _ (G : Graph) (P : List Row) where
   pub ahead_by : (x t b m n : ℕ) → m ≡ rank G P x b → n ≡ rank G P t b → ltb m n || (eqb m n && leb x t) ≡ ahead G P (x, b) (t, b)
   ahead_by x t b m n d e = ap₂ (λ (i j : ℕ). ltb i j || (eqb i j && leb x t)) d e ∙ sym (ahead_is G P (x, b) (t, b))
 
-  -- edge j, read as u, by the three tests on it
-  pub better_is : (u : GraphEdge) (l : ℕ → Bool) (b n best j : ℕ) (c d a : Bool) → u ≡ edge_held (get_or G.edges j no_edge) → l u.label ≡ c → ltb best n ≡ d → ahead G P (best, b) (u.to, b) ≡ a
-      → cond c (cond (d && a) best u.to) best ≡ better G P l b n best j
-  better_is u l b n best j c d a q x y z =
-      sym (ap (λ (i : Bool). cond i (cond (ltb best n && ahead G P (best, b) (u.to, b)) best u.to) best) x
-      ∙ ap (λ (i : Bool). cond c (cond (i && ahead G P (best, b) (u.to, b)) best u.to) best) y
-      ∙ ap (λ (i : Bool). cond c (cond (d && i) best u.to) best) z)
-      ∙ ap (λ (i : GraphEdge). cond (l i.label) (cond (ltb best n && ahead G P (best, b) (i.to, b)) best i.to) best) q
-
 -- ---- a row by its operator
 
+-- a row is told by its operator and its operands
 row_told : (x : Row) → x ≡ row_of (operator_of (row_held x)) (first_of (row_held x)) (second_of (row_held x))
 row_told always = refl
 row_told never = refl

@@ -16,7 +16,7 @@ use Rattle.files.specs.Basics.Tests.{T_eq}
 use Rattle.files.specs.Cells.{cell}
 use Rattle.files.specs.Decode.{decode_graph, decode_property}
 use Rattle.files.specs.Graph.{Graph, size, no_edge}
-use Rattle.files.specs.Property.{Row, both, either, row, obliged, Boxed, is_box, aims}
+use Rattle.files.specs.Property.{Row, both, either, row, obliged, Boxed, is_box}
 use Rattle.files.specs.declared.property.PropertyRow.{PropertyRow}
 use Rattle.judging.specs.Places.{judge_room, max_pairs}
 use Rattle.judging.specs.declared.shape.Shape.{Shape}

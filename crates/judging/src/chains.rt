@@ -41,26 +41,10 @@ fn operand(x: PropertyRow, i: usize, n: usize) -> usize
 {
     match x {
         PropertyRow::And(a, b) | PropertyRow::Or(a, b) => {
-            if i == 0 {
-                a as usize
-            } else {
-                b as usize
-            }
+            if i == 0 { a as usize } else { b as usize }
         }
-        PropertyRow::Box { row, .. } => {
-            if i == 0 {
-                n
-            } else {
-                row as usize
-            }
-        }
-        PropertyRow::BoxAll(row) => {
-            if i == 0 {
-                row as usize
-            } else {
-                n
-            }
-        }
+        PropertyRow::Box { row, .. } => if i == 0 { n } else { row as usize },
+        PropertyRow::BoxAll(row) => if i == 0 { row as usize } else { n },
         PropertyRow::True
         | PropertyRow::False
         | PropertyRow::InMethod(_)

@@ -3,7 +3,7 @@
 ghost use Rattle.std.specs.Prelude.{◌≡◌, not, ◌&&◌, ℕ, suc, ◌+◌, ◌*◌, ◌≤◌, ◌<◌, T, leb, length, get_or};
 ghost use Rattle.files.specs.Access.{PropertyFile, row_held, aims_along, operator_of, first_of};
 ghost use Rattle.files.specs.Graph.{no_edge};
-ghost use Rattle.files.specs.Property.{row, aims};
+ghost use Rattle.files.specs.Property.{row};
 ghost use Rattle.files.specs.Record.{count};
 ghost use Rattle.files.specs.Decode.{decode_graph, decode_property};
 ghost use Rattle.judging.specs.Chains.{into};

@@ -1,9 +1,6 @@
 -- The row is read once; its variant tells the causes.
-use mathlib.Core.Path.{◌≡◌, refl, sym, ◌∙◌}
-use mathlib.Core.Bool.{true, false}
+use mathlib.Core.Path.{refl, sym, ◌∙◌}
 use Rattle.std.proofs.Common.{rules}
-use Rattle.files.specs.Access.{operator_of}
-use Rattle.files.specs.Property.{is_box}
 use Rattle.judging.proofs.CauseLaws.{both_rows, box_row_in, both_causes, either_causes, box_causes_of, no_causes}
 use Rattle.judging.proofs.causes.causes_of.Goals as goal
 
@@ -26,14 +23,12 @@ returns-in-Or c =
 pub box_cause-requires : goal.box_cause-requires
 box_cause-requires c =
     let a = c.args in
-    let is : is_box (operator_of c.row_at-x.result) ≡ true = search rules in
-    (c.requires.0, (c.requires.1.0, (box_row_in a.s a.graph.now a.property.now c.requires.0 a.g a.r c.requires.1.1.0 _ c.row_at-x.ensures is, (c.requires.1.1.1, search rules))))
+    (c.requires.0, (c.requires.1.0, (box_row_in a.s a.graph.now a.property.now c.requires.0 a.g a.r c.requires.1.1.0 _ c.row_at-x.ensures (search rules), (c.requires.1.1.1, search rules))))
 
 pub returns-in-Box : goal.returns-in-Box
 returns-in-Box c =
     let a = c.args in
-    let is : is_box (operator_of c.row_at-x.result) ≡ true = search rules in
-    box_causes_of a.s a.graph.now a.property.now c.requires.0 a.g a.r c.requires.1.1.0 _ c.row_at-x.ensures c.box_cause.result is c.box_cause.ensures
+    box_causes_of a.s a.graph.now a.property.now c.requires.0 a.g a.r c.requires.1.1.0 _ c.row_at-x.ensures c.box_cause.result (search rules) c.box_cause.ensures
 
 pub returns-in-True : goal.returns-in-True
 returns-in-True c =

@@ -4,7 +4,7 @@ use lib.Dec.{T}
 use lib.ListN.{length, get_or}
 use Rattle.files.specs.Access.{aims_along}
 use Rattle.files.specs.Access.Boxes.{along_is}
-use Rattle.files.specs.Decode.{decode_graph, decode_property}
+use Rattle.files.specs.Decode.{decode_graph}
 use Rattle.files.specs.Graph.{no_edge}
 use Rattle.judging.specs.Places.{judge_room, max_pairs}
 use Rattle.judging.proofs.LevelLaws.{from_in, may_give, gave}

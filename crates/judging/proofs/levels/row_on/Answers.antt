@@ -1,10 +1,7 @@
-use mathlib.Core.Path.{◌≡◌, refl, sym, ◌∙◌}
-use mathlib.Core.Bool.{true}
+use mathlib.Core.Path.{refl, sym, ◌∙◌}
 use native.Mathlib.Omega.{arith}
 use Rattle.std.proofs.Common.{rules}
-use Rattle.files.specs.Access.{operator_of}
 use Rattle.files.specs.Decode.{decode_graph, decode_property}
-use Rattle.files.specs.Property.{is_box}
 use Rattle.judging.specs.Ranking.Stores.{grew_none}
 use Rattle.judging.proofs.LevelLaws.{may_give, gave, is_boxed, aims_obliges, obliges_aims, a_fits, b_fits, given_done, row_turns, row_stays}
 use Rattle.judging.specs.Ranking.Files.{edges_is, box_level}
@@ -14,15 +11,13 @@ use Rattle.judging.proofs.levels.row_on.Goals as goal
 pub boxes-requires : goal.boxes-requires
 boxes-requires c =
     let a = c.args in
-    let is : is_box (operator_of c.row_at-x.result) ≡ true = search rules in
-    (c.requires.0, (c.requires.1.0, (c.requires.1.1.1.0, (c.requires.1.1.1.1.0, λ e he i d. box_level (decode_graph a.graph.now) (decode_property a.property.now) a.k a.v a.q a.r e (omega (arith, he, edges_is a.s a.graph.now a.property.now c.requires.0)) i (aims_obliges a.s a.graph.now a.property.now c.requires.0 a.k a.tail a.work.now c.requires.1.1.1.1.0 a.v a.r a.q c.requires.1.0 c.requires.1.1.1.0 c.requires.1.1.1.1.1.0 c.requires.1.1.1.1.1.1 _ c.row_at-x.ensures is _ d) c.requires.1.1.1.1.1.0))))
+    (c.requires.0, (c.requires.1.0, (c.requires.1.1.1.0, (c.requires.1.1.1.1.0, λ e he i d. box_level (decode_graph a.graph.now) (decode_property a.property.now) a.k a.v a.q a.r e (omega (arith, he, edges_is a.s a.graph.now a.property.now c.requires.0)) i (aims_obliges a.s a.graph.now a.property.now c.requires.0 a.k a.tail a.work.now c.requires.1.1.1.1.0 a.v a.r a.q c.requires.1.0 c.requires.1.1.1.0 c.requires.1.1.1.1.1.0 c.requires.1.1.1.1.1.1 _ c.row_at-x.ensures (search rules) _ d) c.requires.1.1.1.1.1.0))))
 
 pub returns-in-Box : goal.returns-in-Box
 returns-in-Box c =
     let a = c.args in
     let x = c.boxes in
-    let is : is_box (operator_of c.row_at-x.result) ≡ true = search rules in
-    (x.ensures.0, box_done (decode_graph a.graph.now) (decode_property a.property.now) a.k x.new.work a.v a.r a.q (is_boxed a.s a.graph.now a.property.now c.requires.0 a.k a.tail a.work.now c.requires.1.1.1.1.0 a.v a.r a.q c.requires.1.0 c.requires.1.1.1.0 c.requires.1.1.1.1.1.0 c.requires.1.1.1.1.1.1 _ c.row_at-x.ensures is) (λ j hj i d. x.ensures.1 j (omega (arith, hj, edges_is a.s a.graph.now a.property.now c.requires.0)) i (obliges_aims a.s a.graph.now a.property.now c.requires.0 a.k a.tail a.work.now c.requires.1.1.1.1.0 a.v a.r a.q c.requires.1.0 c.requires.1.1.1.0 c.requires.1.1.1.1.1.0 c.requires.1.1.1.1.1.1 _ c.row_at-x.ensures is _ d)))
+    (x.ensures.0, box_done (decode_graph a.graph.now) (decode_property a.property.now) a.k x.new.work a.v a.r a.q (is_boxed a.s a.graph.now a.property.now c.requires.0 a.k a.tail a.work.now c.requires.1.1.1.1.0 a.v a.r a.q c.requires.1.0 c.requires.1.1.1.0 c.requires.1.1.1.1.1.0 c.requires.1.1.1.1.1.1 _ c.row_at-x.ensures (search rules)) (λ j hj i d. x.ensures.1 j (omega (arith, hj, edges_is a.s a.graph.now a.property.now c.requires.0)) i (obliges_aims a.s a.graph.now a.property.now c.requires.0 a.k a.tail a.work.now c.requires.1.1.1.1.0 a.v a.r a.q c.requires.1.0 c.requires.1.1.1.0 c.requires.1.1.1.1.1.0 c.requires.1.1.1.1.1.1 _ c.row_at-x.ensures (search rules) _ d)))
 
 pub give-requires : goal.give-requires
 give-requires c =
