@@ -23,10 +23,9 @@ use Rattle.files.specs.Cells.{cell, put_cell}
 use Rattle.files.specs.Cells.Laws.{cells_on, cell_apart}
 use Rattle.files.specs.Decode.{decode_graph, decode_property, row_of, Filed}
 use Rattle.files.specs.Decode.Graphs.{decoded_filed}
-use Rattle.files.specs.Decode.Values.{row_written}
 use Rattle.files.specs.Graph.{Graph, size, no_edge}
 use Rattle.files.specs.Places.{max_edges}
-use Rattle.files.specs.Property.{Row, both, either, row, names, obliged, Boxed, is_box, aims, box_row}
+use Rattle.files.specs.Property.{Row, always, never, returns, not_returns, in_method, not_in_method, both, either, box, box_all, row, names, obliged, Boxed, is_box}
 use Rattle.files.specs.declared.graph.GraphEdge.{GraphEdge}
 use Rattle.files.specs.declared.property.PropertyRow.{PropertyRow}
 use Rattle.judging.specs.Places.{firsts_base, judge_room, max_pairs}
@@ -187,16 +186,20 @@ module _ (G : Graph) (P : List Row) where
   pub ahead_by : (x t b m n : ℕ) → m ≡ rank G P x b → n ≡ rank G P t b → ltb m n || (eqb m n && leb x t) ≡ ahead G P (x, b) (t, b)
   ahead_by x t b m n d e = ap₂ (λ (i j : ℕ). ltb i j || (eqb i j && leb x t)) d e ∙ sym (ahead_is G P (x, b) (t, b))
 
-  -- edge j, read as u, by the three tests on it
-  pub better_is : (u : GraphEdge) (l : ℕ → Bool) (b n best j : ℕ) (c d a : Bool) → u ≡ edge_held (get_or G.edges j no_edge) → l u.label ≡ c → ltb best n ≡ d → ahead G P (best, b) (u.to, b) ≡ a
-      → cond c (cond (d && a) best u.to) best ≡ better G P l b n best j
-  better_is u l b n best j c d a q x y z =
-      sym (ap (λ (i : Bool). cond i (cond (ltb best n && ahead G P (best, b) (u.to, b)) best u.to) best) x
-      ∙ ap (λ (i : Bool). cond c (cond (i && ahead G P (best, b) (u.to, b)) best u.to) best) y
-      ∙ ap (λ (i : Bool). cond c (cond (d && i) best u.to) best) z)
-      ∙ ap (λ (i : GraphEdge). cond (l i.label) (cond (ltb best n && ahead G P (best, b) (i.to, b)) best i.to) best) q
-
 -- ---- a row by its operator
+
+-- a row is told by its operator and its operands
+row_told : (x : Row) → x ≡ row_of (operator_of (row_held x)) (first_of (row_held x)) (second_of (row_held x))
+row_told always = refl
+row_told never = refl
+row_told returns = refl
+row_told not_returns = refl
+row_told (in_method a) = refl
+row_told (not_in_method a) = refl
+row_told (both a b) = refl
+row_told (either a b) = refl
+row_told (box l b) = refl
+row_told (box_all a) = refl
 
 -- row r, read as u
 module _ (s : Shape) (g p : List ℕ) (ready : Ready s g p) (v r : ℕ) (hr : r < s.rows) (u : PropertyRow) (is : u ≡ row_held (row (decode_property p) r)) where
@@ -204,7 +207,7 @@ module _ (s : Shape) (g p : List ℕ) (ready : Ready s g p) (v r : ℕ) (hr : r 
   operator_is = ap (λ (x : PropertyRow). operator_of x) is
 
   by_operator : (o : ℕ) → operator_of u ≡ o → row (decode_property p) r ≡ row_of o (first_of u) (second_of u)
-  by_operator o e = sym (row_written (row (decode_property p) r)).0 ∙ ap (λ (x : PropertyRow). row_of (operator_of x) (first_of x) (second_of x)) (sym is) ∙ ap (λ (n : ℕ). row_of n (first_of u) (second_of u)) e
+  by_operator o e = row_told (row (decode_property p) r) ∙ ap (λ (x : PropertyRow). row_of (operator_of x) (first_of x) (second_of x)) (sym is) ∙ ap (λ (n : ℕ). row_of n (first_of u) (second_of u)) e
 
   both_read : operator_of u ≡ 7 → row (decode_property p) r ≡ both (first_of u) (second_of u)
   both_read = by_operator 7

@@ -16,7 +16,7 @@ use Rattle.files.specs.Basics.Tests.{T_eq}
 use Rattle.files.specs.Cells.{cell}
 use Rattle.files.specs.Decode.{decode_graph, decode_property}
 use Rattle.files.specs.Graph.{Graph, size, no_edge}
-use Rattle.files.specs.Property.{Row, both, either, row, obliged, Boxed, is_box, aims}
+use Rattle.files.specs.Property.{Row, both, either, row, obliged, Boxed, is_box}
 use Rattle.files.specs.declared.property.PropertyRow.{PropertyRow}
 use Rattle.judging.specs.Places.{judge_room, max_pairs}
 use Rattle.judging.specs.declared.shape.Shape.{Shape}
@@ -112,10 +112,10 @@ module _ (s : Shape) (g p : List ℕ) (ready : Ready s g p) where
       b_is : second_of u ≡ two.b
       b_is = ap (λ (y : PropertyRow). second_of y) is ∙ two.is_b
 
-      pub a_fits : (pair v first_of u < max_pairs) × (judge_room ≤ length w)
+      pub a_fits : (pair v (first_of u) < max_pairs) × (judge_room ≤ length w)
       a_fits = (omega (arith, a_is, two.a_row, rows_fit s g p ready, ready.held.few_nodes), f.room)
 
-      pub b_fits : (pair v second_of u < max_pairs) × (judge_room ≤ length w)
+      pub b_fits : (pair v (second_of u) < max_pairs) × (judge_room ≤ length w)
       b_fits = (omega (arith, b_is, two.b_row, rows_fit s g p ready, ready.held.few_nodes), f.room)
 
       -- it has a rank where the pair is, and so is done

@@ -1,7 +1,6 @@
 use mathlib.Core.Path.{◌≡◌, sym, ap, ◌∙◌}
 use native.Mathlib.Omega.{arith}
 use Rattle.files.specs.Decode.{decode_graph, decode_property}
-use Rattle.files.specs.Property.{aims, box_row}
 use Rattle.judging.proofs.CauseLaws.{edges_start, edge_there, best_start, best_le, best_turn, best_end}
 use Prim.Native.Nat.{ℕ, ◌+◌}
 use Rattle.files.specs.Access.{first_edge, looked_at, aims_along}

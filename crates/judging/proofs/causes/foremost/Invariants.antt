@@ -1,6 +1,5 @@
 use mathlib.Core.Path.{◌≡◌}
 use Rattle.files.specs.Decode.{decode_graph, decode_property}
-use Rattle.files.specs.Property.{aims, box_row}
 use Prim.Native.Nat.{◌+◌, ◌≤◌}
 use Rattle.files.specs.Access.{first_edge, looked_at, aims_along}
 use Rattle.files.specs.Basics.First.{first_or}

@@ -6,7 +6,6 @@ use lib.ListN.{length, get_or}
 use Rattle.files.specs.Access.{aims_along}
 use Rattle.files.specs.Decode.{decode_graph, decode_property}
 use Rattle.files.specs.Graph.{no_edge}
-use Rattle.files.specs.Property.{aims}
 use Rattle.judging.specs.Chains.Laws.{walk_start, walk_item, walk_turn, walk_less}
 use Rattle.judging.specs.Ranking.{Given}
 use Rattle.judging.specs.Ranking.Stores.{grew_none, grew_on}

@@ -5,7 +5,6 @@ use lib.ListN.{length, get_or}
 use Rattle.files.specs.Access.{aims_along}
 use Rattle.files.specs.Decode.{decode_graph, decode_property}
 use Rattle.files.specs.Graph.{no_edge}
-use Rattle.files.specs.Property.{aims}
 use Rattle.judging.specs.Chains.Laws.{Walk}
 use Rattle.judging.specs.Ranking.{Given, Grew}
 use Rattle.judging.specs.Chains.{into}
