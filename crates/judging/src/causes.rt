@@ -11,7 +11,7 @@ ghost use Rattle.judging.specs.Ranking.{Ready, Ranked};
 ghost use Rattle.judging.specs.Sheets.{Settled, cause_held, AreCauses, as_causes, fails_at, best_target, better};
 
 use crate::shape::Shape;
-use files::cells::{get16, put16};
+use files::cells::{get, put};
 use files::graph::{edge_at, next_first, node_at};
 use files::property::{PropertyRow, row_at};
 
@@ -38,7 +38,7 @@ fn rank_of(graph: &[u8], property: &[u8], s: Shape, work: &[u8], g: usize, r: us
     requires { (Ready s graph.now property.now) × ((g < s.graph.nodes) × ((r < s.rows) × ((judge_room ≤ length work.now) × (Ranked (decode_graph graph.now) (decode_property property.now) work.now)))) }
     ensures { result ≡ rank (decode_graph graph.now) (decode_property property.now) g r }
 {
-    let x = get16(work, 0, Shape::STRIDE * g + r) as usize;
+    let x = get::<u16>(work, 0, Shape::STRIDE * g + r) as usize;
     if x == 0 {
         return s.graph.nodes * s.rows + 1;
     }
@@ -51,7 +51,7 @@ fn fails_at(graph: &[u8], property: &[u8], s: Shape, work: &[u8], g: usize) -> b
     ensures { result ≡ fails_at (decode_graph graph.now) (decode_property property.now) g }
 {
     let v = node_at(graph, g);
-    let x = get16(work, 0, Shape::STRIDE * g);
+    let x = get::<u16>(work, 0, Shape::STRIDE * g);
     v.entry & !(x == 0)
 }
 
@@ -71,10 +71,10 @@ pub(crate) fn first_edges(graph: &[u8], property: &[u8], s: Shape, work: &mut [u
     ensures { Settled (decode_graph graph.now) (decode_property property.now) work.new }
 {
     let mut first = 0;
-    put16(work, Shape::FIRSTS, 0, 0);
+    put(work, Shape::FIRSTS, 0, 0u16);
     for g in 0..s.graph.nodes {
         first = next_first(graph, s.graph.nodes, g, first);
-        put16(work, Shape::FIRSTS, g + 1, first as u16);
+        put(work, Shape::FIRSTS, g + 1, first as u16);
     }
 }
 
@@ -145,8 +145,8 @@ fn foremost(graph: &[u8], property: &[u8], s: Shape, work: &[u8], g: usize, x: P
     requires { (Ready s graph.now property.now) × ((g < s.graph.nodes) × ((looked_at x < s.rows) × (Settled (decode_graph graph.now) (decode_property property.now) work.now))) }
     ensures { result ≡ first_or (best_target (decode_graph graph.now) (decode_property property.now) g (aims_along x) (looked_at x) s.graph.edges) s.graph.nodes }
 {
-    let end = get16(work, Shape::FIRSTS, g + 1) as usize;
-    let start = get16(work, Shape::FIRSTS, g) as usize;
+    let end = get::<u16>(work, Shape::FIRSTS, g + 1) as usize;
+    let start = get::<u16>(work, Shape::FIRSTS, g) as usize;
     let mut best = s.graph.nodes;
     for j in start..end {
         best = better(graph, property, s, work, x, best, j);

@@ -12,7 +12,7 @@ ghost use Rattle.judging.specs.Places.{judge_room, row_heads_base, row_nexts_bas
 ghost use Rattle.judging.specs.Ranking.{Ready};
 
 use crate::shape::Shape;
-use files::cells::{clear, get16, put16};
+use files::cells::{clear, get, put};
 use files::graph::edge_at;
 use files::property::{PropertyRow, row_at};
 
@@ -21,9 +21,9 @@ pub fn link(work: &mut [u8], heads: usize, nexts: usize, key: usize, item: usize
     requires { (heads + 2 * key + 2 ≤ length work.old) × ((nexts + 2 * item + 2 ≤ length work.old) × (item < two_bytes_last)) }
     ensures { work.new ≡ linked work.old heads nexts key item }
 {
-    let before = get16(work, heads, key);
-    put16(work, nexts, item, before);
-    put16(work, heads, key, (item + 1) as u16);
+    let before = get::<u16>(work, heads, key);
+    put(work, nexts, item, before);
+    put(work, heads, key, (item + 1) as u16);
 }
 
 // The node that edge e leads to.

@@ -12,7 +12,7 @@ ghost use Rattle.judging.specs.Places.{judge_room, max_pairs};
 ghost use Rattle.judging.specs.Ranking.{Ready, pair, rank_at, Given, given, tail_after, Finding, Grew, RowDone, Done, Found, Ranked, Names, leaf_false, may_fall};
 
 use crate::shape::Shape;
-use files::cells::{get16, put16};
+use files::cells::{get, put};
 use files::graph::{edge_at, node_at};
 use files::property::{PropertyRow, row_at};
 
@@ -22,9 +22,9 @@ fn give(work: &mut [u8], tail: usize, g: usize, r: usize, k: u16) -> usize
     ensures { (result ≡ tail_after work.old tail g r) × (work.new ≡ given work.old tail g r k) }
 {
     let p = Shape::STRIDE * g + r;
-    if get16(work, 0, p) == 0 {
-        put16(work, 0, p, k + 1);
-        put16(work, Shape::QUEUE, tail, p as u16);
+    if get::<u16>(work, 0, p) == 0 {
+        put(work, 0, p, k + 1);
+        put(work, Shape::QUEUE, tail, p as u16);
         return tail + 1;
     }
     tail
@@ -35,7 +35,7 @@ fn is_false(work: &[u8], g: usize, r: usize, k: u16) -> bool
     requires { (pair g r < max_pairs) × (judge_room ≤ length work.now) }
     ensures { result ≡ (leb 1 (rank_at work.now g r) && leb (rank_at work.now g r) k) }
 {
-    let x = get16(work, 0, Shape::STRIDE * g + r);
+    let x = get::<u16>(work, 0, Shape::STRIDE * g + r);
     (1 <= x) & (x <= k)
 }
 
@@ -179,12 +179,12 @@ fn boxes(
     requires { (Ready s graph.now property.now) × ((v < s.graph.nodes) × ((q < s.rows) × ((Finding (decode_graph graph.now) (decode_property property.now) k tail work.old) × ((e : ℕ) → e < s.graph.edges → T (into (decode_graph graph.now) v e) → T (aims_along x (get_or (decode_graph graph.now).edges e no_edge).label) → T (not (level (decode_graph graph.now) (decode_property property.now) (suc k) (get_or (decode_graph graph.now).edges e no_edge).from q)))))) }
     ensures { (Grew (decode_graph graph.now) (decode_property property.now) k tail result work.old work.new) × ((e : ℕ) → e < s.graph.edges → T (into (decode_graph graph.now) v e) → T (aims_along x (get_or (decode_graph graph.now).edges e no_edge).label) → Given work.new (get_or (decode_graph graph.now).edges e no_edge).from q) }
 {
-    let mut at = get16(work, Shape::NODE_HEADS, v) as usize;
+    let mut at = get::<u16>(work, Shape::NODE_HEADS, v) as usize;
     let mut end = tail;
     while at > 0 {
         let e = at - 1;
         end = arrive(graph, property, s, work, end, e, x, q, k);
-        at = get16(work, Shape::NODE_NEXTS, e) as usize;
+        at = get::<u16>(work, Shape::NODE_NEXTS, e) as usize;
     }
     end
 }
@@ -239,12 +239,12 @@ fn pop(
     requires { (Ready s graph.now property.now) × ((v < s.graph.nodes) × ((r < s.rows) × ((Finding (decode_graph graph.now) (decode_property property.now) k tail work.old) × (T (not (level (decode_graph graph.now) (decode_property property.now) k v r)))))) }
     ensures { (Grew (decode_graph graph.now) (decode_property property.now) k tail result work.old work.new) × (Done (decode_graph graph.now) (decode_property property.now) k work.new v r) }
 {
-    let mut at = get16(work, Shape::ROW_HEADS, r) as usize;
+    let mut at = get::<u16>(work, Shape::ROW_HEADS, r) as usize;
     let mut end = tail;
     while at > 0 {
         let j = at - 1;
         end = row_on(graph, property, s, work, end, v, r, j / 2, k);
-        at = get16(work, Shape::ROW_NEXTS, j) as usize;
+        at = get::<u16>(work, Shape::ROW_NEXTS, j) as usize;
     }
     end
 }
@@ -264,7 +264,7 @@ pub(crate) fn level(
 {
     let mut end = tail;
     for i in head..tail {
-        let p = get16(work, Shape::QUEUE, i) as usize;
+        let p = get::<u16>(work, Shape::QUEUE, i) as usize;
         let v = p / Shape::STRIDE;
         let r = p % Shape::STRIDE;
         end = pop(graph, property, s, work, end, v, r, k);

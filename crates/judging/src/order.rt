@@ -7,7 +7,7 @@ ghost use Rattle.judging.specs.Refinement.{Both};
 
 use crate::matches::source_of;
 use crate::sizes::Sizes;
-use files::cells::{get8, get16, has_bit, put_bit, put8, put16};
+use files::cells::{get, has_bit, put, put_bit};
 use files::graph::edge_at;
 
 // The node at which the walk stands, how many nodes it has left, and whether it has left the root.
@@ -25,7 +25,7 @@ fn leave(first: &[u8], second: &[u8], s: Sizes, work: &mut [u8], w: Place) -> Pl
 {
     let at = w.node;
     let left = w.left;
-    let up = get8(work, Sizes::PARENTS, at) as usize;
+    let up = get::<u8>(work, Sizes::PARENTS, at) as usize;
     if (s.first.nodes <= left) | (s.first.nodes <= up) {
         return Place {
             node: at,
@@ -33,7 +33,7 @@ fn leave(first: &[u8], second: &[u8], s: Sizes, work: &mut [u8], w: Place) -> Pl
             ended: true,
         };
     }
-    put8(work, Sizes::ORDER, left, at as u8);
+    put(work, Sizes::ORDER, left, at as u8);
     Place {
         node: up,
         left: left + 1,
@@ -47,7 +47,7 @@ fn step(first: &[u8], second: &[u8], s: Sizes, work: &mut [u8], w: Place) -> Pla
     ensures { (result.node < s.first.nodes) × (Outside cursors_base neighbours_base work.old work.new) }
 {
     let at = w.node;
-    let e = get16(work, Sizes::CURSORS, at) as usize;
+    let e = get::<u16>(work, Sizes::CURSORS, at) as usize;
     if s.first.edges <= e {
         return leave(first, second, s, work, w);
     }
@@ -55,12 +55,12 @@ fn step(first: &[u8], second: &[u8], s: Sizes, work: &mut [u8], w: Place) -> Pla
     if x.from != at {
         return leave(first, second, s, work, w);
     }
-    put16(work, Sizes::CURSORS, at, (e + 1) as u16);
+    put(work, Sizes::CURSORS, at, (e + 1) as u16);
     if has_bit(work, Sizes::SEEN, x.to) {
         return w;
     }
     put_bit(work, Sizes::SEEN, x.to);
-    put8(work, Sizes::PARENTS, x.to, at as u8);
+    put(work, Sizes::PARENTS, x.to, at as u8);
     Place {
         node: x.to,
         left: w.left,
@@ -103,7 +103,7 @@ fn visit(first: &[u8], second: &[u8], s: Sizes, work: &mut [u8], root: usize, le
         return left;
     }
     put_bit(work, Sizes::SEEN, root);
-    put8(work, Sizes::PARENTS, root, root as u8);
+    put(work, Sizes::PARENTS, root, root as u8);
     walk_from(first, second, s, work, root, left)
 }
 
@@ -114,7 +114,7 @@ fn put_cursors(first: &[u8], second: &[u8], s: Sizes, work: &mut [u8])
 {
     for e in (0..s.first.edges).rev() {
         let u = source_of(first, s.first.nodes, e);
-        put16(work, Sizes::CURSORS, u, e as u16);
+        put(work, Sizes::CURSORS, u, e as u16);
     }
 }
 

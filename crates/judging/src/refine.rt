@@ -13,7 +13,7 @@ use crate::order::put_in_order;
 use crate::relation::prepare;
 use crate::rows::{any_at, exceeds, put_row, row_at};
 use crate::sizes::Sizes;
-use files::cells::{get8, put_bit};
+use files::cells::{get, put_bit};
 use files::encode::LINE;
 
 // Takes the row of node v: hands on what it has lost, and holds it.
@@ -108,7 +108,7 @@ fn sweep(first: &[u8], second: &[u8], s: Sizes, work: &mut [u8])
     ensures { (Matching (decode_graph first.now) (decode_graph second.now) s.first.nodes work.new) × (load s.first.nodes work.new ≤ load s.first.nodes work.old) }
 {
     for i in 0..s.first.nodes {
-        let v = get8(work, Sizes::ORDER, i) as usize;
+        let v = get::<u8>(work, Sizes::ORDER, i) as usize;
         if v < s.first.nodes {
             settle_node(first, second, s, work, v);
         }

@@ -7,7 +7,7 @@ ghost use Rattle.files.specs.Places.{line_bytes, max_nodes};
 ghost use Rattle.judging.specs.Chains.{Outside};
 ghost use Rattle.judging.specs.Words.{ones_in};
 
-use files::cells::{get32, wide};
+use files::cells::{get, wide};
 use files::encode::LINE;
 
 // The digits of one byte that another has not.
@@ -127,7 +127,7 @@ pub(crate) fn size_of_row(row: &[u8]) -> u32
 {
     let mut n = 0;
     for k in 0..8 {
-        n = n + u32::count_ones(get32(row, 0, k));
+        n = n + u32::count_ones(get::<u32>(row, 0, k));
     }
     n
 }

@@ -16,7 +16,7 @@ use crate::masks::{LABELS, asked, boxes_by_label};
 use crate::places::{Places, Scope};
 use crate::states::{admit, find_pair};
 use crate::supports::tabulate;
-use files::cells::{clear, get8, get32, put8, put32};
+use files::cells::{clear, get, put};
 use files::encode::LINE;
 use files::interface::{provided_methods, provides, requires_method};
 
@@ -61,8 +61,8 @@ fn copy_row(work: &mut [u8], p: usize, q: usize)
     ensures { ((t : ℕ) → t < max_states → target work.new q t ≡ target work.old p t) × (Outside (targets_base + line_bytes * q) (targets_base + line_bytes * q + line_bytes) work.old work.new) }
 {
     for k in 0..LINE {
-        let byte = get8(work, Places::TARGETS + LINE * p, k);
-        put8(work, Places::TARGETS + LINE * q, k, byte);
+        let byte = get::<u8>(work, Places::TARGETS + LINE * p, k);
+        put(work, Places::TARGETS + LINE * q, k, byte);
     }
 }
 
@@ -104,16 +104,16 @@ fn follow(
     let q = 9 * i + (label as usize);
     clear_row(work, q);
     if !is_label(interface, label) {
-        put8(work, Places::METHODS, q, 0);
+        put(work, Places::METHODS, q, 0u8);
         return c;
     }
-    let method = get8(work, Places::KINDS, i) / 2;
-    let among = get32(work, Places::SETS, i) & boxes[label as usize];
+    let method = get::<u8>(work, Places::KINDS, i) / 2;
+    let among = get::<u32>(work, Places::SETS, i) & boxes[label as usize];
     let set = asked(property, s.rows, among, label);
     // The first slot below q with this method that asks for this set, or q.
     let p = find_pair(work, Places::METHODS, Places::ASKED, q, method, set);
-    put8(work, Places::METHODS, q, method);
-    put32(work, Places::ASKED, q, set);
+    put(work, Places::METHODS, q, method);
+    put(work, Places::ASKED, q, set);
     if p < q {
         copy_row(work, p, q);
         return c;

@@ -11,14 +11,14 @@ ghost use Rattle.maximal.specs.Places.{candidates_base, entries_slot, max_candid
 
 use crate::places::{Places, Scope};
 use crate::supports::supports;
-use files::cells::{get8, get32, put_bit, put8, put32};
+use files::cells::{get, put, put_bit};
 
 // Place i has this byte among those from `bytes` on and this set among those from `sets` on.
 fn is_pair(work: &[u8], bytes: usize, sets: usize, i: usize, byte: u8, set: u32) -> bool
     requires { (bytes + i + 1 ≤ length work.now) × (sets + 4 * i + 4 ≤ length work.now) }
     ensures { result ≡ is_pair work.now bytes sets byte set i }
 {
-    (get8(work, bytes, i) == byte) & (get32(work, sets, i) == set)
+    (get::<u8>(work, bytes, i) == byte) & (get::<u32>(work, sets, i) == set)
 }
 
 // The first of n places that is such a pair, or n, where none of the first `from` is.
@@ -89,8 +89,8 @@ fn enter(
     if c == s.states {
         return c + 1;
     }
-    put8(work, Places::KINDS, c, kind);
-    put32(work, Places::SETS, c, set);
+    put(work, Places::KINDS, c, kind);
+    put(work, Places::SETS, c, set);
     put_bit(work, Places::TARGETS, 256 * q + c);
     c + 1
 }
@@ -111,7 +111,7 @@ fn enter_listed(
 {
     let mut total = c;
     for k in 0..n {
-        let set = get32(work, Places::CANDIDATES, k);
+        let set = get::<u32>(work, Places::CANDIDATES, k);
         total = enter(interface, property, s, work, q, total, kind, set);
         if s.states < total {
             return total;

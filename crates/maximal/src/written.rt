@@ -13,7 +13,7 @@ ghost use Rattle.maximal.specs.Places.{model_room, targets_base, max_states};
 
 use crate::bits::next_bit;
 use crate::places::Places;
-use files::cells::{get8, has_bit, put_bit};
+use files::cells::{get, has_bit, put_bit};
 use files::encode::{LINE, put_record};
 use files::record::Record;
 
@@ -22,7 +22,7 @@ fn row_of(work: &[u8], i: usize, label: usize) -> usize
     requires { (i < max_states) × ((label < 9) × (model_room ≤ length work.now)) }
     ensures { (result ≡ targets_base + line_bytes * (9 * order_at work.now i + label)) × (result + 32 ≤ model_room) }
 {
-    let from = get8(work, Places::ORDER, i) as usize;
+    let from = get::<u8>(work, Places::ORDER, i) as usize;
     Places::TARGETS + LINE * (9 * from + label)
 }
 
@@ -73,8 +73,8 @@ fn write_node(work: &[u8], out: &mut [u8], i: usize)
     requires { (i < max_states) × ((model_room ≤ length work.now) × (record_len * i + record_len ≤ length out.old)) }
     ensures { out.new ≡ put_at out.old (record_len * i) (node_bytes work.now i) }
 {
-    let state = get8(work, Places::ORDER, i) as usize;
-    let kind = get8(work, Places::KINDS, state);
+    let state = get::<u8>(work, Places::ORDER, i) as usize;
+    let kind = get::<u8>(work, Places::KINDS, state);
     let entry = has_bit(work, Places::TARGETS, 256 * Places::ENTRIES + state);
     put_record(out, i, Record::node(kind / 2, kind % 2 == 1, entry));
 }
@@ -96,7 +96,7 @@ fn order_row(work: &[u8], row: usize, c: usize, ordered: &mut [u8])
 {
     let mut t = next_bit(work, row, 0, c);
     while t < c {
-        let place = get8(work, Places::RANKS, t);
+        let place = get::<u8>(work, Places::RANKS, t);
         put_bit(ordered, 0, place as usize);
         t = next_bit(work, row, t + 1, c);
     }

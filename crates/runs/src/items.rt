@@ -5,7 +5,7 @@ ghost use Rattle.runs.specs.Regions.{points, watch_room};
 ghost use Rattle.runs.specs.Searching.{rec_of, seen, pushed, pushed_tail};
 
 use crate::regions::Regions;
-use files::cells::{has_bit, put_bit, put16};
+use files::cells::{has_bit, put, put_bit};
 use files::encode::put_record;
 use files::record::{Record, Step};
 
@@ -29,7 +29,7 @@ pub(crate) fn push(
         return tail;
     }
     put_record(work, tail, Record::step(g, q, step, label, to, next));
-    put16(work, Regions::PARENTS, tail, head as u16);
+    put(work, Regions::PARENTS, tail, head as u16);
     put_bit(work, Regions::SEEN, at);
     tail + 1
 }

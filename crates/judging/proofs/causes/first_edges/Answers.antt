@@ -10,7 +10,7 @@ use Rattle.judging.proofs.causes.first_edges.Goals as goal
 pub loop-g-init : goal.loop-g-init
 loop-g-init c =
     let a = c.args in
-    let n = c.put16 in
+    let n = c.put in
     let z = sym (first_edge_zero (decode_graph a.graph.now)) in
     (z, firsts_on a.s a.graph.now a.property.now c.requires.0 a.work.now _ 0 0 n.ensures c.requires.1.0 (omega arith) z (λ u h. absurd (omega arith)), ranked_kept a.s a.graph.now a.property.now c.requires.0 a.work.now _ 0 0 n.ensures c.requires.1.1)
 
@@ -23,7 +23,7 @@ pub loop-g-preserved : goal.loop-g-preserved
 loop-g-preserved c =
     let a = c.args in
     let l = c.loop-g in
-    let n = c.put16-in-loop-g in
+    let n = c.put-in-loop-g in
     let f = c.next_first-first in
     (f.ensures, firsts_on a.s a.graph.now a.property.now c.requires.0 l.work _ (l.g + 1) f.result n.ensures (omega (arith, c.requires.1.0)) (omega (arith, c.requires.0.held.few_nodes)) f.ensures l.invariant.1, ranked_kept a.s a.graph.now a.property.now c.requires.0 l.work _ (l.g + 1) f.result n.ensures l.invariant.2)
 

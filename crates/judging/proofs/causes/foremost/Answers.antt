@@ -13,8 +13,8 @@ pub loop-j-init : goal.loop-j-init
 loop-j-init c =
     let a = c.args in
     let n = size_is a.s a.graph.now a.property.now c.requires.0 in
-    let e : c.get16-end.result ≡ first_edge (decode_graph a.graph.now) (a.g + 1) = c.get16-end.ensures ∙ c.requires.1.1.1.firsts (a.g + 1) (omega (arith, c.requires.1.0, n)) in
-    let d : c.get16-start.result ≡ first_edge (decode_graph a.graph.now) a.g = c.get16-start.ensures ∙ c.requires.1.1.1.firsts a.g (omega (arith, c.requires.1.0, n)) in
+    let e : c.get-end.result ≡ first_edge (decode_graph a.graph.now) (a.g + 1) = c.get-end.ensures ∙ c.requires.1.1.1.firsts (a.g + 1) (omega (arith, c.requires.1.0, n)) in
+    let d : c.get-start.result ≡ first_edge (decode_graph a.graph.now) a.g = c.get-start.ensures ∙ c.requires.1.1.1.firsts a.g (omega (arith, c.requires.1.0, n)) in
     (omega (arith, d), e, best_start a.s a.graph.now a.property.now c.requires.0 a.g (aims_along a.x) (looked_at a.x) ∙ ap (λ (i : ℕ). first_or (best_target (decode_graph a.graph.now) (decode_property a.property.now) a.g (aims_along a.x) (looked_at a.x) i) a.s.graph.nodes) (sym d))
 
 pub better-best-requires : goal.better-best-requires

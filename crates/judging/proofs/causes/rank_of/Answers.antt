@@ -11,9 +11,9 @@ overflow_add-result c = let a = c.args in omega (arith, pairs_fit a.s a.graph.no
 pub returns-then-x-eq0 : goal.returns-then-x-eq0
 returns-then-x-eq0 c =
     let a = c.args in
-    rank_past a.s a.graph.now a.property.now c.requires.0 a.work.now c.requires.1.1.1.1 a.g a.r c.get16-x.result c.requires.1.0 c.requires.1.1.0 c.get16-x.ensures c.if-x-eq0.true
+    rank_past a.s a.graph.now a.property.now c.requires.0 a.work.now c.requires.1.1.1.1 a.g a.r c.get-x.result c.requires.1.0 c.requires.1.1.0 c.get-x.ensures c.if-x-eq0.true
 
 pub returns : goal.returns
 returns c =
     let a = c.args in
-    rank_read a.s a.graph.now a.property.now c.requires.0 a.work.now c.requires.1.1.1.1 a.g a.r c.get16-x.result c.requires.1.0 c.requires.1.1.0 c.get16-x.ensures c.if-x-eq0.false
+    rank_read a.s a.graph.now a.property.now c.requires.0 a.work.now c.requires.1.1.1.1 a.g a.r c.get-x.result c.requires.1.0 c.requires.1.1.0 c.get-x.ensures c.if-x-eq0.false

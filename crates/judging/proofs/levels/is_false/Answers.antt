@@ -5,4 +5,4 @@ use mathlib.Core.Bool.{◌&&◌}
 use Rattle.judging.proofs.levels.is_false.Goals as goal
 
 pub returns : goal.returns
-returns c = ap (λ (y : ℕ). leb 1 y && leb y c.args.k) c.get16-x.ensures
+returns c = ap (λ (y : ℕ). leb 1 y && leb y c.args.k) c.get-x.ensures

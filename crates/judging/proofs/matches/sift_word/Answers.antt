@@ -9,7 +9,7 @@ use Rattle.judging.proofs.MatchLaws.{Decided, sifting_turn, sifting_end}
 use Rattle.judging.proofs.matches.sift_word.Goals as goal
 
 pub loop-rest-init : goal.loop-rest-init
-loop-rest-init c = (refl, (left_all c.args.found.now c.args.k c.get32-rest.result (Decided c.args.work.now c.args.label c.args.row.now c.args.found.now c.args.k c.args.gone.now) (λ b. omega (arith, c.type_inv.found b)) c.get32-rest.ensures, λ y b t. t, λ y b t. inl t))
+loop-rest-init c = (refl, (left_all c.args.found.now c.args.k c.get-rest.result (Decided c.args.work.now c.args.label c.args.row.now c.args.found.now c.args.k c.args.gone.now) (λ b. omega (arith, c.type_inv.found b)) c.get-rest.ensures, λ y b t. t, λ y b t. inl t))
 
 pub overflow_mul-x : goal.overflow_mul-x
 overflow_mul-x c = omega (arith, c.requires.1.1.1)

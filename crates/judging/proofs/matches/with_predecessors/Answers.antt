@@ -9,7 +9,7 @@ use Rattle.judging.proofs.MatchLaws.{Before, before_turn, before_end}
 use Rattle.judging.proofs.matches.with_predecessors.Goals as goal
 
 pub loop-rest-init : goal.loop-rest-init
-loop-rest-init c = let y = c.row_at-met in (y.ensures.0, left_all c.args.nodes.now c.args.k c.get32-rest.result (Before c.args.work.now c.args.nodes.now c.args.k y.result) (λ j. omega (arith, c.type_inv.nodes j)) c.get32-rest.ensures, λ x j t. subst T (sym (y.ensures.1 x j)) t)
+loop-rest-init c = let y = c.row_at-met in (y.ensures.0, left_all c.args.nodes.now c.args.k c.get-rest.result (Before c.args.work.now c.args.nodes.now c.args.k y.result) (λ j. omega (arith, c.type_inv.nodes j)) c.get-rest.ensures, λ x j t. subst T (sym (y.ensures.1 x j)) t)
 
 pub overflow_mul-h : goal.overflow_mul-h
 overflow_mul-h c = omega (arith, c.requires.1.1)

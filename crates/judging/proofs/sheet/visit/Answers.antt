@@ -24,11 +24,11 @@ put_bit-requires c = omega (arith, (cause_fits c.args.s c.args.graph.now c.args.
 pub overflow_cast-p : goal.overflow_cast-p
 overflow_cast-p c = omega (arith, (cause_fits c.args.s c.args.graph.now c.args.property.now c.requires.0 c.args.c.node c.args.c.row c.requires.1.1 c.if-c-eq-NONE.false).0, (cause_fits c.args.s c.args.graph.now c.args.property.now c.requires.0 c.args.c.node c.args.c.row c.requires.1.1 c.if-c-eq-NONE.false).1)
 
-pub put16-requires : goal.put16-requires
-put16-requires c = omega (arith, visit_room c.args.s c.args.graph.now c.args.property.now c.requires.0 c.args.c.node c.args.c.row c.requires.1.1 c.if-c-eq-NONE.false c.args.work.now c.args.tail c.requires.1.0 (sym c.has_bit.ensures ∙ c.if-has_bit.false), c.requires.1.0.settled.room, c.put_bit.auto.work)
+pub put-requires : goal.put-requires
+put-requires c = omega (arith, visit_room c.args.s c.args.graph.now c.args.property.now c.requires.0 c.args.c.node c.args.c.row c.requires.1.1 c.if-c-eq-NONE.false c.args.work.now c.args.tail c.requires.1.0 (sym c.has_bit.ensures ∙ c.if-has_bit.false), c.requires.1.0.settled.room, c.put_bit.auto.work)
 
 pub overflow_add-result : goal.overflow_add-result
 overflow_add-result c = omega (arith, visit_room c.args.s c.args.graph.now c.args.property.now c.requires.0 c.args.c.node c.args.c.row c.requires.1.1 c.if-c-eq-NONE.false c.args.work.now c.args.tail c.requires.1.0 (sym c.has_bit.ensures ∙ c.if-has_bit.false))
 
 pub returns : goal.returns
-returns c = visit_added c.args.s c.args.graph.now c.args.property.now c.requires.0 c.args.c.node c.args.c.row c.requires.1.1 c.if-c-eq-NONE.false c.args.work.now c.args.tail c.requires.1.0 (sym c.has_bit.ensures ∙ c.if-has_bit.false) c.put_bit.new.work c.put16.new.work c.put_bit.ensures c.put16.ensures
+returns c = visit_added c.args.s c.args.graph.now c.args.property.now c.requires.0 c.args.c.node c.args.c.row c.requires.1.1 c.if-c-eq-NONE.false c.args.work.now c.args.tail c.requires.1.0 (sym c.has_bit.ensures ∙ c.if-has_bit.false) c.put_bit.new.work c.put.new.work c.put_bit.ensures c.put.ensures

@@ -10,7 +10,7 @@ pub returns-then-is_within : goal.returns-then-is_within
 returns-then-is_within c =
     let a = c.args in
     let l = c.loop-i in
-    let t = sym (c.is_within.ensures ∙ ap (λ (u : ℕ). within u a.s) c.get32.ensures) ∙ c.if-is_within.true in
+    let t = sym (c.is_within.ensures ∙ ap (λ (u : ℕ). within u a.s) c.get.ensures) ∙ c.if-is_within.true in
     sym (some_listed (λ u. within u a.s) a.work.now a.count l.i (omega arith) (subst T (sym t) tt))
 
 pub returns : goal.returns

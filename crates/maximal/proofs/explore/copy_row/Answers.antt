@@ -6,8 +6,8 @@ pub loop-k-preserved : goal.loop-k-preserved
 loop-k-preserved c =
     let a = c.args in
     let l = c.loop-k in
-    let x = c.get8-byte in
-    let y = c.put8 in
+    let x = c.get-byte in
+    let y = c.put in
     filled_on a.work.now l.work a.q l.k (row_bytes a.work.now a.p) l.invariant (omega (arith, c.requires.1.0)) (omega (arith, c.requires.1.1)) (omega arith) x.result y.new.work (omega arith) (copied_byte a.work.now l.work a.p a.q l.k x.result c.requires.0 (omega arith) l.invariant.1 x.ensures) y.ensures
 
 pub returns : goal.returns

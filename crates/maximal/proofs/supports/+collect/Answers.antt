@@ -55,8 +55,8 @@ returns-in_default t c =
     let split = c.if-o-n.false in
     absurd (c.in_default.not-Or _ _ (or_is a.property.now c.requires.0 a.n c.requires.1.0 c.requires.1.1.0 a.set a.worked a.bound c.requires.1.1.1.1.1.1 o.result o.ensures split _ c.row_at.ensures))
 
-pub get32-requires : goal.get32-requires
-get32-requires t c =
+pub get-requires : goal.get-requires
+get-requires t c =
     let a = c.args in
     let o = c.next_open-o in
     let split = c.if-o-n.false in
@@ -98,8 +98,8 @@ one_row-one_second-requires t c =
     let i = c.pick-second in
     omega (arith, second_row a.property.now c.requires.0 a.n c.requires.1.0 c.requires.1.1.0 a.set a.worked a.bound c.requires.1.1.1.1.1.1 o.result o.ensures split _ read f i.result i.ensures, c.requires.1.1.0)
 
-pub get32-requires-2 : goal.get32-requires-2
-get32-requires-2 t c =
+pub get-requires-2 : goal.get-requires-2
+get-requires-2 t c =
     let a = c.args in
     let o = c.next_open-o in
     let split = c.if-o-n.false in
@@ -108,8 +108,8 @@ get32-requires-2 t c =
     let i = c.pick-first in
     omega (arith, first_row a.property.now c.requires.0 a.n c.requires.1.0 c.requires.1.1.0 a.set a.worked a.bound c.requires.1.1.1.1.1.1 o.result o.ensures split _ read f i.result i.ensures, c.requires.1.1.0, c.requires.1.1.1.1.0)
 
-pub get32-requires-3 : goal.get32-requires-3
-get32-requires-3 t c =
+pub get-requires-3 : goal.get-requires-3
+get-requires-3 t c =
     let a = c.args in
     let o = c.next_open-o in
     let split = c.if-o-n.false in
@@ -130,7 +130,7 @@ collect-listed-requires t c =
     let d = twice_below a.left some in
     let one-r = c.one_row in
     let one-c = c.one_row-one_first in
-    let closed-c = c.get32-2 in
+    let closed-c = c.get-2 in
     let bounded = branch_bounded a.property.now c.requires.0 a.n c.requires.1.0 c.requires.1.1.0 a.set a.worked a.bound c.requires.1.1.1.1.1.1 o.result o.ensures split _ read a.work.now c.requires.1.1.1.1.1.0 i.result one-c.result one-r.result closed-c.result (first_row a.property.now c.requires.0 a.n c.requires.1.0 c.requires.1.1.0 a.set a.worked a.bound c.requires.1.1.1.1.1.1 o.result o.ensures split _ read f i.result i.ensures) one-c.ensures one-r.ensures closed-c.ensures in
     (omega (arith, some), (c.requires.0, (c.requires.1.0, (c.requires.1.1.0, (omega (arith, d, c.requires.1.1.1.0), (c.requires.1.1.1.1.0, (c.requires.1.1.1.1.1.0, bounded)))))))
 
@@ -150,7 +150,7 @@ collect-requires t c =
     let kept = tables_kept P a.work.now g.new.work few g.ensures.1.1 c.requires.1.1.1.1.1.0 in
     let one-r = c.one_row in
     let one-c = c.one_row-one_second in
-    let closed-c = c.get32-3 in
+    let closed-c = c.get-3 in
     let bounded = branch_bounded a.property.now c.requires.0 a.n c.requires.1.0 c.requires.1.1.0 a.set a.worked a.bound c.requires.1.1.1.1.1.1 o.result o.ensures split _ read a.work.now c.requires.1.1.1.1.1.0 i.result one-c.result one-r.result closed-c.result (second_row a.property.now c.requires.0 a.n c.requires.1.0 c.requires.1.1.0 a.set a.worked a.bound c.requires.1.1.1.1.1.1 o.result o.ensures split _ read f i.result i.ensures) one-c.ensures one-r.ensures closed-c.ensures in
     (omega (arith, some), (c.requires.0, (c.requires.1.0, (c.requires.1.1.0, (omega (arith, d, g.ensures.1.0, c.requires.1.1.1.0), (omega (arith, g.auto.work, c.requires.1.1.1.1.0), (kept, bounded)))))))
 
@@ -161,15 +161,15 @@ returns t c =
     let split = c.if-o-n.false in
     let read = c.in-Or.ensures in
     let some = c.if-left-eq0.false in
-    let of-a = c.get32 in
+    let of-a = c.get in
     let b-first = c.has_row-b_first in
     let first = c.pick-first in
     let second = c.pick-second in
     let one-r = c.one_row in
     let one-first = c.one_row-one_first in
     let one-second = c.one_row-one_second in
-    let closed-first = c.get32-2 in
-    let closed-second = c.get32-3 in
+    let closed-first = c.get-2 in
+    let closed-second = c.get-3 in
     let f = c.collect-listed in
     let g = c.collect in
     let A = (listed a.work.now a.found) in

@@ -17,8 +17,8 @@ pub loop-r-preserved : goal.loop-r-preserved
 loop-r-preserved c =
     let l = c.loop-r in
     let P = decode_property c.args.property.now in
-    let once = c.put32 in
-    let twice = c.put32-in-loop-r in
+    let once = c.put in
+    let twice = c.put-in-loop-r in
     let m = c.complete in
     let s = c.operands in
     let few : l.r < 32 = omega (arith, c.requires.1.1.0) in

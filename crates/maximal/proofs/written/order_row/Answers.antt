@@ -19,8 +19,8 @@ loop-t-init c =
           (marked_none a.c a.work.now p.0 p.1.0 a.row a.ordered.now p.1.1 c.requires.1.0) c.next_bit-t.ensures,
     )
 
-pub get8-place-requires : goal.get8-place-requires
-get8-place-requires c = let p = c.requires in omega (arith, p.1.0, p.1.1.0, c.loop-t-test.true)
+pub get-place-requires : goal.get-place-requires
+get-place-requires c = let p = c.requires in omega (arith, p.1.0, p.1.1.0, c.loop-t-test.true)
 
 pub overflow_cast-place : goal.overflow_cast-place
 overflow_cast-place c = omega arith
@@ -43,7 +43,7 @@ loop-t-preserved c =
     let p = c.requires.1.1.1 in
     let l = c.loop-t in
     let h = c.loop-t-test.true in
-    let x = c.get8-place in
+    let x = c.get-place in
     let y = c.put_bit in (
       y.auto.work ∙ l.invariant.0,
       visit a.work.now a.row a.c (λ (m : ℕ). Marked a.c a.work.now a.row m y.new.work) (marked_pass a.c a.work.now p.0 p.1.0 a.row y.new.work) (l.t + 1) c.next_bit-t-in-loop-t.result (omega (arith, h))

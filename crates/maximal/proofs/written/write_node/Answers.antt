@@ -11,8 +11,8 @@ pub returns : goal.returns
 returns c =
     let a = c.args in
     let bit = c.has_bit-entry in
-    let kind = c.get8-kind in
-    let state = c.get8-state in
+    let kind = c.get-kind in
+    let state = c.get-state in
     c.put_record.ensures
     ∙ ap (λ (r : Record). put_at a.out.now (record_len * a.i) (six r)) c.node.ensures
     ∙ ap (put_at a.out.now (record_len * a.i)) (node_of a.work.now a.i state.result kind.result bit.result state.ensures kind.ensures bit.ensures)

@@ -15,7 +15,7 @@ pub loop-j-init : goal.loop-j-init
 loop-j-init c =
     let a = c.args in
     let hn = node_in a.s a.graph.now a.rules.now c.requires.0 a.g c.requires.1.0 in
-    let f = first_is a.s a.graph.now a.rules.now c.requires.0 a.g a.work.now hn _ c.requires.1.1.1 c.get16-first.ensures in (
+    let f = first_is a.s a.graph.now a.rules.now c.requires.0 a.g a.work.now hn _ c.requires.1.1.1 c.get-first.ensures in (
       omega (arith, f),
       called_none (decode_graph a.graph.now) (watch (decode_rules a.rules.now))
           a.g _ f,
@@ -26,7 +26,7 @@ edge_at-e-requires c =
     let a = c.args in
     let l = c.loop-j in
     let hn = node_in a.s a.graph.now a.rules.now c.requires.0 a.g c.requires.1.0 in
-    let d = edge_owned a.s a.graph.now a.rules.now c.requires.0 a.g a.work.now hn _ l.j c.requires.1.1.1 c.get16-last.ensures l.invariant.0 c.loop-j-test.true in
+    let d = edge_owned a.s a.graph.now a.rules.now c.requires.0 a.g a.work.now hn _ l.j c.requires.1.1.1 c.get-last.ensures l.invariant.0 c.loop-j-test.true in
     (c.requires.0.held.views.graph_file, c.requires.0.held.views.nodes_are, omega (arith, d.0, c.requires.0.held.views.edges_are, c.requires.0.held.views.nodes_are))
 
 pub one_state-set-requires : goal.one_state-set-requires
@@ -34,7 +34,7 @@ one_state-set-requires c =
     let a = c.args in
     let l = c.loop-j in
     let hn = node_in a.s a.graph.now a.rules.now c.requires.0 a.g c.requires.1.0 in
-    let d = edge_owned a.s a.graph.now a.rules.now c.requires.0 a.g a.work.now hn _ l.j c.requires.1.1.1 c.get16-last.ensures l.invariant.0 c.loop-j-test.true in
+    let d = edge_owned a.s a.graph.now a.rules.now c.requires.0 a.g a.work.now hn _ l.j c.requires.1.1.1 c.get-last.ensures l.invariant.0 c.loop-j-test.true in
     let h = c.edge_at-e.ensures in
     let lab = label_is a.s a.graph.now a.rules.now c.requires.0 l.j d.0 _ h in
     omega (
@@ -49,7 +49,7 @@ loop-j-preserved c =
     let a = c.args in
     let l = c.loop-j in
     let hn = node_in a.s a.graph.now a.rules.now c.requires.0 a.g c.requires.1.0 in
-    let d = edge_owned a.s a.graph.now a.rules.now c.requires.0 a.g a.work.now hn _ l.j c.requires.1.1.1 c.get16-last.ensures l.invariant.0 c.loop-j-test.true in
+    let d = edge_owned a.s a.graph.now a.rules.now c.requires.0 a.g a.work.now hn _ l.j c.requires.1.1.1 c.get-last.ensures l.invariant.0 c.loop-j-test.true in
     let h = c.edge_at-e.ensures in
     let lab = label_is a.s a.graph.now a.rules.now c.requires.0 l.j d.0 _ h in (
       omega (arith, l.invariant.0),
@@ -66,6 +66,6 @@ returns c =
     let a = c.args in
     let l = c.loop-j in
     let hn = node_in a.s a.graph.now a.rules.now c.requires.0 a.g c.requires.1.0 in
-    let e = last_is a.s a.graph.now a.rules.now c.requires.0 a.g a.work.now hn _ c.requires.1.1.1 c.get16-last.ensures in
-    let f = first_is a.s a.graph.now a.rules.now c.requires.0 a.g a.work.now hn _ c.requires.1.1.1 c.get16-first.ensures in
+    let e = last_is a.s a.graph.now a.rules.now c.requires.0 a.g a.work.now hn _ c.requires.1.1.1 c.get-last.ensures in
+    let f = first_is a.s a.graph.now a.rules.now c.requires.0 a.g a.work.now hn _ c.requires.1.1.1 c.get-first.ensures in
     called_all (decode_graph a.graph.now) (watch (decode_rules a.rules.now)) a.g l.j l.set (omega (arith, e, c.loop-j.auto.j-end (omega (arith, f, e, first_last a.s a.graph.now a.rules.now c.requires.0 a.g)), c.loop-j-test.false)) l.invariant.1

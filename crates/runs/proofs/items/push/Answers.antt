@@ -26,8 +26,8 @@ overflow_cast-head c =
     (sym c.has_bit.ensures ∙ c.if-has_bit.false)) tt) in
     omega (arith, few, c.requires.1.1.0)
 
-pub put16-requires : goal.put16-requires
-put16-requires c =
+pub put-requires : goal.put-requires
+put-requires c =
     let few = c.requires.1.1.1 (subst (λ (b : Bool). T (not b)) (sym
     (sym c.has_bit.ensures ∙ c.if-has_bit.false)) tt) in
     omega (arith, few, c.requires.1.0, c.put_record.auto.out)
@@ -42,9 +42,9 @@ pub returns : goal.returns
 returns c =
     let a = c.args in
     push_new a.work.now c.put_record.new.out
-    c.put16.new.work c.put_bit.new.work a.tail a.head (rec_of a.g a.q (step_number a.step) a.label a.to a.next)
+    c.put.new.work c.put_bit.new.work a.tail a.head (rec_of a.g a.q (step_number a.step) a.label a.to a.next)
     c.has_bit.result
     c.has_bit.ensures
     c.if-has_bit.false
-    (c.put_record.ensures ∙ ap (put_at a.work.now (record_len * a.tail)) c.step.ensures) c.put16.ensures
+    (c.put_record.ensures ∙ ap (put_at a.work.now (record_len * a.tail)) c.step.ensures) c.put.ensures
     c.put_bit.ensures

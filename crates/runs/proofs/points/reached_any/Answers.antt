@@ -5,4 +5,4 @@ pub loop-p-preserved : goal.loop-p-preserved
 loop-p-preserved c =
     let a = c.args in
     let l = c.loop-p in
-    reached_more a.work.now a.g l.y l.p c.get8-y.result c.get8-y.ensures l.invariant
+    reached_more a.work.now a.g l.y l.p c.get-y.result c.get-y.ensures l.invariant

@@ -10,7 +10,7 @@ pub loop-i-preserved : goal.loop-i-preserved
 loop-i-preserved c =
     let l = c.loop-i in
     let t = c.loop-i-test.true in
-    let p = c.put8 in (
+    let p = c.put in (
       cells_on (λ n. n % 8) l.work _ monitor_base 1 l.i (l.i % 8) p.ensures (omega (arith, t, c.requires.1)) (omega arith) refl l.invariant.0,
       put_outside c.args.work.now l.work _ monitor_base 1 l.i (l.i % 8) monitor_base firsts_base p.ensures (omega arith) (omega (arith, t)) l.invariant.1,
     )

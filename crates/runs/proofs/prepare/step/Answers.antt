@@ -7,7 +7,7 @@ use Rattle.runs.proofs.prepare.step.Goals as goal
 pub returns : goal.returns
 returns c =
     let a = c.args in
-    c.get8.ensures
+    c.get.ensures
     ∙ ap (λ (n : ℕ). cell a.work.now monitor_base 1 (n + a.q)) c.slot.ensures.0
     ∙ c.requires.0 a.q a.event a.m1 a.m2 c.requires.1.1.0 c.requires.1.1.1.0 c.requires.1.1.1.1.0 c.requires.1.1.1.1.1.0 c.requires.1.1.1.1.1.1.0
     c.requires.1.1.1.1.1.1.1.0 c.requires.1.1.1.1.1.1.1.1

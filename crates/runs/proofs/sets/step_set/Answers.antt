@@ -15,8 +15,8 @@ one_state-y-requires c =
     let a = c.args in
     let l = c.loop-q in
     subst (λ (i : ℕ). i < 8)
-    (sym (step_held (watch (decode_rules a.rules.now)) a.work.now slot.result l.q a.event a.m1 a.m2 c.get8.result c.requires.1.0 loop-test.true c.requires.1.1.1
-    slot.ensures.0 c.get8.ensures))
+    (sym (step_held (watch (decode_rules a.rules.now)) a.work.now slot.result l.q a.event a.m1 a.m2 c.get.result c.requires.1.0 loop-test.true c.requires.1.1.1
+    slot.ensures.0 c.get.ensures))
     (monitor_small a.s a.graph.now a.rules.now c.requires.0 l.q (record { kind = a.event; m1 = a.m1; m2 = a.m2 }) loop-test.true)
 
 pub loop-q-preserved : goal.loop-q-preserved
@@ -31,7 +31,7 @@ loop-q-preserved c =
     elim c.if-has_state.branch [
       | then-has_state w ↦ w.y-is ∙ union_with f a.x l.q l.y w.one_state-y.result l.invariant
           (w.one_state-y.ensures ∙ ap (λ (i : ℕ). 2 ^ i)
-          (step_held mon a.work.now slot.result l.q a.event a.m1 a.m2 w.get8.result c.requires.1.0 loop-test.true c.requires.1.1.1 slot.ensures.0 w.get8.ensures))
+          (step_held mon a.work.now slot.result l.q a.event a.m1 a.m2 w.get.result c.requires.1.0 loop-test.true c.requires.1.1.1 slot.ensures.0 w.get.ensures))
           (omega arith) (sym has-state.ensures ∙ w.if-has_state.true)
       | else-has_state w ↦ w.y-is ∙ union_without f a.x l.q l.y l.invariant (sym has-state.ensures ∙ w.if-has_state.false)
     ]

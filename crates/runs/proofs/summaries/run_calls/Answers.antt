@@ -20,8 +20,8 @@ pub loop-at-init : goal.loop-at-init
 loop-at-init c =
     let a = c.args in (
       grew_none (decode_graph a.graph.now) (watch (decode_rules a.rules.now)) a.tail a.work.now c.requires.1.1.1.1.0,
-      walk_start (opens (decode_graph a.graph.now) a.m) (length (decode_graph a.graph.now).edges) c.get16-at.result
-          (GroupRan (decode_graph a.graph.now) (watch (decode_rules a.rules.now)) a.callers.now a.ends.now a.table.now a.work.now a.work.now) (c.get16-at.ensures ∙ c.requires.1.1.1.1.0.tables.by_label.heads_are a.m c.requires.1.1.0),
+      walk_start (opens (decode_graph a.graph.now) a.m) (length (decode_graph a.graph.now).edges) c.get-at.result
+          (GroupRan (decode_graph a.graph.now) (watch (decode_rules a.rules.now)) a.callers.now a.ends.now a.table.now a.work.now a.work.now) (c.get-at.ensures ∙ c.requires.1.1.1.1.0.tables.by_label.heads_are a.m c.requires.1.1.0),
     )
 
 pub run_source-end-requires : goal.run_source-end-requires
@@ -50,8 +50,8 @@ run_source-end-requires c =
       ),
     )
 
-pub get16-at-requires-in-loop-at : goal.get16-at-requires-in-loop-at
-get16-at-requires-in-loop-at c =
+pub get-at-requires-in-loop-at : goal.get-at-requires-in-loop-at
+get-at-requires-in-loop-at c =
     let loop-test = c.loop-at-test in
     let run-source = c.run_source-end in
     let a = c.args in
@@ -69,8 +69,8 @@ loop-at-smaller c =
     let t = loop-test.true in
     let i = walk_item (opens (decode_graph a.graph.now) a.m) (length (decode_graph a.graph.now).edges) l.at
     (GroupRan (decode_graph a.graph.now) (watch (decode_rules a.rules.now)) a.callers.now a.ends.now a.table.now a.work.now l.work) l.invariant.1 loop-test.true in
-    walk_less (opens (decode_graph a.graph.now) a.m) l.at c.get16-at-in-loop-at.result t
-    (c.get16-at-in-loop-at.ensures ∙ run-source.ensures.0.holding.tables.by_label.nexts_are a.m (l.at - 1) c.requires.1.1.0 i.1 i.0)
+    walk_less (opens (decode_graph a.graph.now) a.m) l.at c.get-at-in-loop-at.result t
+    (c.get-at-in-loop-at.ensures ∙ run-source.ensures.0.holding.tables.by_label.nexts_are a.m (l.at - 1) c.requires.1.1.0 i.1 i.0)
 
 pub loop-at-preserved : goal.loop-at-preserved
 loop-at-preserved c =
@@ -81,9 +81,9 @@ loop-at-preserved c =
     let t = loop-test.true in
     let i = walk_item (opens (decode_graph a.graph.now) a.m) (length (decode_graph a.graph.now).edges) l.at
     (GroupRan (decode_graph a.graph.now) (watch (decode_rules a.rules.now)) a.callers.now a.ends.now a.table.now a.work.now l.work) l.invariant.1 loop-test.true in
-    let n = c.get16-at-in-loop-at.ensures ∙ x.ensures.0.holding.tables.by_label.nexts_are a.m (l.at - 1) c.requires.1.1.0 i.1 i.0 in (
+    let n = c.get-at-in-loop-at.ensures ∙ x.ensures.0.holding.tables.by_label.nexts_are a.m (l.at - 1) c.requires.1.1.0 i.1 i.0 in (
       grew_on (decode_graph a.graph.now) (watch (decode_rules a.rules.now)) a.tail l.end x.result a.work.now l.work x.new.work l.invariant.0 x.ensures.0,
-      walk_turn (opens (decode_graph a.graph.now) a.m) (length (decode_graph a.graph.now).edges) l.at c.get16-at-in-loop-at.result
+      walk_turn (opens (decode_graph a.graph.now) a.m) (length (decode_graph a.graph.now).edges) l.at c.get-at-in-loop-at.result
           (GroupRan (decode_graph a.graph.now) (watch (decode_rules a.rules.now)) a.callers.now a.ends.now a.table.now a.work.now l.work) (GroupRan (decode_graph a.graph.now) (watch (decode_rules a.rules.now)) a.callers.now a.ends.now a.table.now a.work.now x.new.work)
           l.invariant.1 t n
           (λ j h. group_kept a.s a.graph.now a.rules.now c.requires.0 l.end x.result l.work x.new.work x.ensures.0 a.table.now a.callers.now a.ends.now j a.work.now)

@@ -8,4 +8,4 @@ pub loop-at-preserved : goal.loop-at-preserved
 loop-at-preserved c =
     let a = c.args in
     let l = c.loop-at in
-    counting_next (decode_graph a.graph.now) (watch (decode_rules a.rules.now)) a.start a.i a.work.now l.at l.n c.get16-at.result l.invariant (omega (arith, c.loop-at-test.true)) c.get16-at.ensures
+    counting_next (decode_graph a.graph.now) (watch (decode_rules a.rules.now)) a.start a.i a.work.now l.at l.n c.get-at.result l.invariant (omega (arith, c.loop-at-test.true)) c.get-at.ensures

@@ -19,8 +19,8 @@ loop-at-preserved c =
     let l = c.loop-at in
     let z = c.loop-at-test.true in
     let x = c.copy_at in
-    writing_next (decode_graph a.graph.now) (watch (decode_rules a.rules.now)) a.start a.i a.work.now a.out.now l.out x.new.dst l.at l.k c.get16-at.result (l.k - 1) l.invariant (omega (arith, z))
-    c.get16-at.ensures (omega (arith, writing_more (decode_graph a.graph.now) (watch (decode_rules a.rules.now)) a.start a.i a.work.now a.out.now l.out l.at l.k l.invariant (omega (arith, z))))
+    writing_next (decode_graph a.graph.now) (watch (decode_rules a.rules.now)) a.start a.i a.work.now a.out.now l.out x.new.dst l.at l.k c.get-at.result (l.k - 1) l.invariant (omega (arith, z))
+    c.get-at.ensures (omega (arith, writing_more (decode_graph a.graph.now) (watch (decode_rules a.rules.now)) a.start a.i a.work.now a.out.now l.out l.at l.k l.invariant (omega (arith, z))))
     (x.ensures ∙ ap (put_at l.out (record_len * (l.k - 1))) (item_part a.work.now l.at (omega (arith, l.invariant.below, l.invariant.traced.few, c.requires.1.0)))) x.auto.dst
 
 pub returns : goal.returns
