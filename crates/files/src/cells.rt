@@ -92,54 +92,6 @@ pub fn put<T: Cell>(work: &mut [u8], base: usize, i: usize, v: T)
     v.store(work, base + T::WIDTH * i);
 }
 
-// What cell i of one byte holds.
-pub fn get8(work: &[u8], base: usize, i: usize) -> u8
-    requires { base + 1 * i + 1 ≤ length work.now }
-    ensures { result ≡ cell work.now base 1 i }
-{
-    get(work, base, i)
-}
-
-// What cell i of two bytes holds.
-pub fn get16(work: &[u8], base: usize, i: usize) -> u16
-    requires { base + 2 * i + 2 ≤ length work.now }
-    ensures { result ≡ cell work.now base 2 i }
-{
-    get(work, base, i)
-}
-
-// What cell i of four bytes holds.
-pub fn get32(work: &[u8], base: usize, i: usize) -> u32
-    requires { base + 4 * i + 4 ≤ length work.now }
-    ensures { result ≡ cell work.now base 4 i }
-{
-    get(work, base, i)
-}
-
-// Stores v in cell i of one byte.
-pub fn put8(work: &mut [u8], base: usize, i: usize, v: u8)
-    requires { base + 1 * i + 1 ≤ length work.old }
-    ensures { work.new ≡ put_cell work.old base 1 i v }
-{
-    put(work, base, i, v);
-}
-
-// Stores v in cell i of two bytes.
-pub fn put16(work: &mut [u8], base: usize, i: usize, v: u16)
-    requires { base + 2 * i + 2 ≤ length work.old }
-    ensures { work.new ≡ put_cell work.old base 2 i v }
-{
-    put(work, base, i, v);
-}
-
-// Stores v in cell i of four bytes.
-pub fn put32(work: &mut [u8], base: usize, i: usize, v: u32)
-    requires { base + 4 * i + 4 ≤ length work.old }
-    ensures { work.new ≡ put_cell work.old base 4 i v }
-{
-    put(work, base, i, v);
-}
-
 // Whether bit h of the row of bits from base on is one.
 pub fn has_bit(work: &[u8], base: usize, h: usize) -> bool
     requires { base + h / 8 < length work.now }
