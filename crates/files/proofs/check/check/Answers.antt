@@ -1,9 +1,7 @@
 use Rattle.std.specs.Prelude.{Err}
-use mathlib.Core.Path.{sym, ap, ◌∙◌}
-use borrow.Author.Tests.{eqb-true, not-true, not-false}
-use Rattle.files.specs.Checking.{checked}
+use mathlib.Core.Path.{ap, ◌∙◌}
+use borrow.Author.Tests.{not-true, not-false}
 use Rattle.files.specs.FileKind.{kind_of}
-use Rattle.files.specs.declared.offence.FileKind.{FileKind}
 use Rattle.files.proofs.CheckLaws.{one_ragged, one_whole}
 use Rattle.files.proofs.check.check.Goals as goal
 
@@ -16,11 +14,3 @@ pub returns-in_default : goal.returns-in_default
 returns-in_default c =
     let a = c.args in
     c.from_two.ensures ∙ one_whole a.limits (kind_of a.kind) a.file.now 0 a.position (not-false _ c.if-not-file.false-raw)
-
-pub check_records-requires : goal.check_records-requires
-check_records-requires c = eqb-true _ _ (not-false _ c.if-not-file.false-raw)
-
-pub returns : goal.returns
-returns c =
-    let a = c.args in
-    c.check_records.ensures ∙ ap (λ (k : FileKind). checked a.limits (kind_of k) a.file.now a.position) (sym c.in-Graph.is)

@@ -4,13 +4,8 @@ use Rattle.files.specs.FileKind.{kind_of}
 use Rattle.files.specs.Record.{count}
 use Rattle.files.specs.Outcome.{Accepted}
 use Rattle.files.specs.Settling.Laws.{handed_on}
-use Rattle.files.proofs.CheckLaws.{bound_is, seven_scan}
+use Rattle.files.proofs.CheckLaws.{seven_scan}
 use Rattle.files.proofs.check.from_seven.Goals as goal
-
-pub name_through-requires : goal.name_through-requires
-name_through-requires c =
-    let a = c.args in
-    (c.requires.0, (c.bound-most.ensures ∙ bound_is (kind_of a.kind) a.records.now a.apart c.requires.1.0, c.requires.1.1))
 
 pub returns-in_err-name_through : goal.returns-in_err-name_through
 returns-in_err-name_through c =
