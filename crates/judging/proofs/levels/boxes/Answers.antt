@@ -14,10 +14,6 @@ use Rattle.judging.specs.Chains.{into}
 use Rattle.judging.specs.Ranking.Files.{edges_is}
 use Rattle.judging.proofs.levels.boxes.Goals as goal
 
-pub get-at-requires : goal.get-at-requires
-get-at-requires c =
-    omega (arith, c.requires.1.1.1.0.room, c.requires.0.held.few_nodes, c.requires.1.0)
-
 pub loop-at-init : goal.loop-at-init
 loop-at-init c =
     let a = c.args in

@@ -12,10 +12,6 @@ use Rattle.judging.specs.Ranking.Files.{rows_is}
 use Rattle.judging.specs.Ranking.Laws.{row_done_kept, done_places}
 use Rattle.judging.proofs.levels.pop.Goals as goal
 
-pub get-at-requires : goal.get-at-requires
-get-at-requires c =
-    omega (arith, c.requires.1.1.1.0.room, c.requires.0.few_rows, c.requires.1.1.0)
-
 pub loop-at-init : goal.loop-at-init
 loop-at-init c =
     let a = c.args in

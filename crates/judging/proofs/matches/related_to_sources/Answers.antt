@@ -3,14 +3,8 @@ use native.Mathlib.Omega.{arith}
 use Rattle.judging.proofs.MatchLaws.{none_within, slot_start, slot_item, slot_less, source_added, all_added}
 use Rattle.judging.proofs.matches.related_to_sources.Goals as goal
 
-pub get-at-requires : goal.get-at-requires
-get-at-requires c = omega (arith, c.requires.1.0, c.requires.0.first_held.few_nodes, c.requires.1.1.room)
-
 pub loop-at-init : goal.loop-at-init
 loop-at-init c = (refl, none_within c.args.s.second.nodes, slot_start c.args.s c.args.first.now c.args.second.now c.requires.0 c.args.slot c.requires.1.0 c.args.work.now c.get-at.result _ c.requires.1.1 c.get-at.ensures)
-
-pub overflow_sub-e : goal.overflow_sub-e
-overflow_sub-e c = omega (arith, c.loop-at-test.true)
 
 pub source_of-u-requires : goal.source_of-u-requires
 source_of-u-requires c = let i = slot_item c.args.s c.args.first.now c.args.second.now c.requires.0 c.args.slot c.requires.1.0 c.loop-at.at _ c.loop-at.invariant.2 c.loop-at-test.true in (c.requires.0.first_held.views.graph_file, (c.requires.0.first_held.views.nodes_are, omega (arith, i.0, c.requires.0.first_held.views.edges_are, c.requires.0.first_held.views.nodes_are)))

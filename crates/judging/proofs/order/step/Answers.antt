@@ -16,9 +16,6 @@ returns-then-has_bit c = (c.requires.1.0, pair_put c.args.work.now c.put.new.wor
 pub put_bit-requires : goal.put_bit-requires
 put_bit-requires c = omega (arith, (ap (λ (z : GraphEdge). z.to) c.edge_at-x.ensures), (first_edge_in c.args.s c.args.first.now c.args.second.now c.requires.0 c.get-e.result (omega (arith, c.if-s-e.false))).1, c.requires.0.first_held.few_nodes, c.put.auto.work, c.requires.1.1)
 
-pub overflow_cast-at : goal.overflow_cast-at
-overflow_cast-at c = omega (arith, c.requires.1.0, c.requires.0.first_held.few_nodes)
-
 pub put-requires-2 : goal.put-requires-2
 put-requires-2 c = omega (arith, (ap (λ (z : GraphEdge). z.to) c.edge_at-x.ensures), (first_edge_in c.args.s c.args.first.now c.args.second.now c.requires.0 c.get-e.result (omega (arith, c.if-s-e.false))).1, c.requires.0.first_held.few_nodes, c.put.auto.work, c.put_bit.auto.work, c.requires.1.1)
 

@@ -48,9 +48,6 @@ causes_of-c-requires c =
 pub overflow_cast-g : goal.overflow_cast-g
 overflow_cast-g c = omega (arith, in_range (goal.at.overflow_cast-g c).After-get-p)
 
-pub overflow_cast-r : goal.overflow_cast-r
-overflow_cast-r c = omega arith
-
 pub overflow_cast-c : goal.overflow_cast-c
 overflow_cast-c c = omega (arith, (first-bytes (goal.at.overflow_cast-c c).After-causes_of-c).0)
 
@@ -62,9 +59,6 @@ overflow_cast-c-3 c = omega (arith, (second-bytes (goal.at.overflow_cast-c-3 c).
 
 pub overflow_cast-c-4 : goal.overflow_cast-c-4
 overflow_cast-c-4 c = omega (arith, (second-bytes (goal.at.overflow_cast-c-4 c).After-causes_of-c).1)
-
-pub put_record-requires : goal.put_record-requires
-put_record-requires c = c.requires.1.1.1
 
 pub returns : goal.returns
 returns c =
