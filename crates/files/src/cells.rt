@@ -1,4 +1,5 @@
 // Numbers of 1, 2 and 4 bytes, bits and runs of bytes in a lent buffer. A cell is numbered from `base` on in steps of its width, and its low byte stands first.
+// Fixed places in lent bytes, and no Vec, map or Box: the callers' boxes have no heap, C lends the memory, and its lengths are published (docs/BUFFERS.md).
 ghost use Rattle.std.specs.Prelude.{◌≡◌, ℕ, ◌+◌, ◌*◌, ◌/◌, ◌≤◌, ◌<◌, length, replicate};
 ghost use Rattle.files.specs.Cells.{little, put_little, cell, put_cell, has_bit, put_bit, put_at};
 

@@ -18,6 +18,7 @@ impl Record {
     // The length of every record, in bytes.
     pub const LEN: usize = 6;
 
+    // The kinds are bytes and no enum: a record's first byte may be any, and refusals 2 and 3 compare it as it stands. What is read is a `Parsed`.
     pub const NODE: u8 = 1;
 
     pub const EDGE: u8 = 2;
@@ -86,7 +87,7 @@ impl Record {
     }
 }
 
-// The operators of a property's rows.
+// The operators of a property's rows. Bytes and no enum: a row's may be any until the row is checked (row_wrong, names_past). A checked row is a `PropertyRow`.
 #[derive(Drop)]
 pub struct Operator {}
 
@@ -182,7 +183,7 @@ impl Limits {
     }
 }
 
-// What the six bytes of a record read as. `Wrong`: a field is out of range or an unused byte is not 0. `Other`: the kind is none of the five.
+// What the six bytes of a record read as: five kinds, so no Option or Result. `Wrong`: a field is out of range or an unused byte is not 0. `Other`: the kind is none of the five.
 #[derive(Clone, Copy)]
 pub enum Parsed {
     Node {

@@ -181,6 +181,7 @@ fn boxes(
 {
     let mut at = get::<u16>(work, Shape::NODE_HEADS, v) as usize;
     let mut end = tail;
+    // The body writes to `work`, which an iterator over the chain would hold, so the next link is read by hand.
     while at > 0 {
         let e = at - 1;
         end = arrive(graph, property, s, work, end, e, x, q, k);
@@ -241,6 +242,7 @@ fn pop(
 {
     let mut at = get::<u16>(work, Shape::ROW_HEADS, r) as usize;
     let mut end = tail;
+    // The body writes to `work`, which an iterator over the chain would hold, so the next link is read by hand.
     while at > 0 {
         let j = at - 1;
         end = row_on(graph, property, s, work, end, v, r, j / 2, k);

@@ -34,6 +34,7 @@ fn related_to_sources(first: &[u8], second: &[u8], s: Sizes, work: &[u8], slot: 
 {
     let mut found = [0u8; LINE];
     let mut at = get::<u16>(work, Sizes::HEADS, slot) as usize;
+    // A chain's links are read as they are walked; an iterator of our own with its laws would be no plainer than this line.
     while at > 0 {
         let e = at - 1;
         let u = source_of(first, s.first.nodes, e);
@@ -50,6 +51,7 @@ fn with_predecessors(work: &[u8], nodes: &[u8], row: &[u8], k: usize) -> [u8; LI
 {
     let mut met = row_at(row, 0);
     let mut rest = get::<u32>(nodes, 0, k);
+    // Bits are taken until none is left: their number is known only when they are, and an iterator of our own would be no plainer.
     while rest != 0 {
         let h = 32 * k + (u32::trailing_zeros(rest) as usize);
         let at = Sizes::NEIGHBOURS + LINE * (Sizes::ROWS * h + Sizes::BEFORE);
@@ -109,6 +111,7 @@ fn sift_word(work: &[u8], label: usize, row: &[u8], found: &[u8], gone: &mut [u8
     ensures { Sifted work.now label row.now found.now gone.old gone.new (32 * k) (32 * k + 32) }
 {
     let mut rest = get::<u32>(found, 0, k);
+    // Bits are taken until none is left: their number is known only when they are, and an iterator of our own would be no plainer.
     while rest != 0 {
         let x = 32 * k + (u32::trailing_zeros(rest) as usize);
         sift_at(work, label, row, gone, x);
@@ -139,6 +142,7 @@ pub(crate) fn drop_from(
     ensures { (Shrank (decode_graph first.now) (decode_graph second.now) work.old work.new) × ((e h : ℕ) → e < s.first.edges → T (labelled_into (decode_graph first.now) slot e) → h < max_nodes → T (rel work.new (edge (decode_graph first.now) e).from h) → T (has_bit gone.now 0 h) → ⊥) }
 {
     let mut at = get::<u16>(work, Sizes::HEADS, slot) as usize;
+    // The body writes to `work`, which an iterator over the chain would hold, so the next link is read by hand.
     while at > 0 {
         let e = at - 1;
         let u = source_of(first, s.first.nodes, e);

@@ -97,6 +97,7 @@ fn settle_node(first: &[u8], second: &[u8], s: Sizes, work: &mut [u8], v: usize)
     requires { (Both s first.now second.now) × ((v < s.first.nodes) × (Matching (decode_graph first.now) (decode_graph second.now) s.first.nodes work.old)) }
     ensures { (Matching (decode_graph first.now) (decode_graph second.now) s.first.nodes work.new) × (load s.first.nodes work.new ≤ load s.first.nodes work.old) }
 {
+    // Until nothing is lost: how often is known only by the measure.
     while has_lost(first, second, s, work, v) {
         take(first, second, s, work, v);
     }
@@ -135,6 +136,7 @@ fn settle(first: &[u8], second: &[u8], s: Sizes, work: &mut [u8])
 {
     sweep(first, second, s, work);
     let mut v = lowest_unsettled(first, second, s, work);
+    // Until nothing is lost: how often is known only by the measure.
     while v < s.first.nodes {
         take(first, second, s, work, v);
         sweep(first, second, s, work);

@@ -11,6 +11,7 @@ pub(crate) fn next_bit(bits: &[u8], base: usize, t: usize, n: usize) -> usize
     ensures { NextBit bits.now base t n result }
 {
     let mut u = t;
+    // 32 bits are passed over at once, so the step is no count.
     while u < n {
         let rest = get::<u32>(bits, base, u / 32) >> (u % 32);
         if rest != 0 {

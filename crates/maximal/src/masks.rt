@@ -85,6 +85,7 @@ pub(crate) fn complete(property: &[u8], n: usize, set: u32) -> u32
 {
     let mut all = set;
     let mut done = 0;
+    // A row taken adds rows to the set, so no range is fixed beforehand.
     while !(all == done) {
         let r = next_row(all, done);
         done = done | one_row(r);
@@ -144,6 +145,7 @@ pub(crate) fn asked(property: &[u8], n: usize, set: u32, label: u8) -> u32
 {
     let mut done = 0;
     let mut rows = 0;
+    // Bits are taken from the highest down; an iterator of our own with its laws would be no plainer.
     while !(set == done) {
         let r = next_row(set, done);
         done = done | one_row(r);

@@ -34,6 +34,7 @@ fn count_under(work: &[u8], c: usize, i: usize, label: usize) -> usize
     let row = row_of(work, i, label);
     let mut t = next_bit(work, row, 0, c);
     let mut n = 0;
+    // The next bit is looked for from here on, not the next index; an iterator of our own with its laws would be no plainer.
     while t < c {
         n += 1;
         t = next_bit(work, row, t + 1, c);
@@ -95,6 +96,7 @@ fn order_row(work: &[u8], row: usize, c: usize, ordered: &mut [u8])
     ensures { (j : ℕ) → j < c → has_bit ordered.new 0 j ≡ has_bit work.now row (order_at work.now j) }
 {
     let mut t = next_bit(work, row, 0, c);
+    // The next bit is looked for from here on, not the next index; an iterator of our own with its laws would be no plainer.
     while t < c {
         let place = get::<u8>(work, Places::RANKS, t);
         put_bit(ordered, 0, place as usize);
@@ -111,6 +113,7 @@ fn write_under(work: &[u8], out: &mut [u8], c: usize, i: usize, label: usize, at
     order_row(work, row_of(work, i, label), c, &mut ordered);
     let mut j = next_bit(&ordered, 0, 0, c);
     let mut end = at;
+    // The next bit is looked for from here on, not the next index; an iterator of our own with its laws would be no plainer.
     while j < c {
         put_record(out, end, Record::edge(i as u8, label as u8, j as u8));
         end += 1;

@@ -52,6 +52,7 @@ pub fn read_full<'a, R: Read>(input: &mut R, room: &'a mut [u8]) -> &'a mut [u8]
     ensures { length result.now ≤ length room.old }
 {
     let mut done = 0;
+    // A read says how much it brought, so the step is no count.
     while done < room.len() {
         let n = input.read(&mut room[done..]).unwrap_or(0);
         if n == 0 {

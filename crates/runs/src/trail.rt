@@ -18,6 +18,7 @@ pub(crate) fn count_records(graph: &[u8], rules: &[u8], work: &[u8], start: u8, 
 {
     let mut at = i;
     let mut n = 0;
+    // A chain's links are read as they are walked; an iterator of our own with its laws would be no plainer than this line.
     while at > 0 {
         at = get::<u16>(work, Regions::PARENTS, at) as usize;
         n += 1;
@@ -40,6 +41,7 @@ pub(crate) fn write_trail(
 {
     let mut at = i;
     let mut k = n;
+    // A chain's links are read as they are walked; an iterator of our own with its laws would be no plainer than this line.
     while at > 0 {
         k -= 1;
         let from = Record::LEN * at;
