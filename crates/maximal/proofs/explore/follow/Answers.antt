@@ -6,7 +6,7 @@ use native.Mathlib.Omega.{arith}
 use lib.ListN.{length}
 use Rattle.files.specs.Decode.{decode_interface, decode_property}
 use Rattle.maximal.specs.Masks.{asked_of}
-use Rattle.maximal.proofs.ExploreLaws.{Cleared, in_rows, worked_none, among_fits, Stored, may_follow, worked_again}
+use Rattle.maximal.proofs.ExploreLaws.{Cleared, worked_none, among_fits, Stored, may_follow, worked_again}
 use Rattle.maximal.proofs.MaskLaws.{asked_among}
 use Rattle.maximal.specs.Places.{model_room}
 use Rattle.maximal.proofs.explore.follow.Goals as goal
@@ -57,21 +57,6 @@ pub asked-set-requires : goal.asked-set-requires
 asked-set-requires c =
     let x = c.requires.1.1.0 in
     (x.file, (x.rows_are, (x.few_rows, among_fits _ _ _ _ (cleared (goal.at.asked-set-requires c).After-is_label) c.get.result _ c.get.ensures)))
-
-pub put-requires-2 : goal.put-requires-2
-put-requires-2 c =
-    let y = cleared (goal.at.put-requires-2 c).After-is_label in
-    omega (arith, in_rows _ _ _ _ y, y.room)
-
-pub put-requires-3 : goal.put-requires-3
-put-requires-3 c =
-    let y = cleared (goal.at.put-requires-3 c).After-is_label in
-    omega (arith, in_rows _ _ _ _ y, y.room, c.put-2.auto.work)
-
-pub copy_row-requires : goal.copy_row-requires
-copy_row-requires c =
-    let y = cleared (goal.at.copy_row-requires c).After-is_label in
-    (c.if-p-q.true, (in_rows _ _ _ _ y, still_room (goal.at.copy_row-requires c).After-put-3 y.room))
 
 pub returns-then-p-q : goal.returns-then-p-q
 returns-then-p-q c =

@@ -13,7 +13,7 @@ use Rattle.maximal.specs.declared.supports.Opened.{Opened}
 use Rattle.maximal.specs.Collected.{listed, inserted, collected}
 use Rattle.maximal.specs.Collected.Search.{collected_cut, collected_leaf, collected_last}
 use Rattle.maximal.proofs.RowLaws.{rows_are}
-use Rattle.maximal.proofs.SupportLaws.{tables_kept, at_leaf, at_split, open_below, or_is, a_row, b_row, first_row, second_row, branch_bounded, both_collected, twice_below}
+use Rattle.maximal.proofs.SupportLaws.{tables_kept, at_leaf, at_split, open_below, or_is, b_row, first_row, second_row, branch_bounded, both_collected, twice_below}
 use Rattle.maximal.proofs.supports.+collect.Goals as goal
 
 pub returns-then-not-bound-forbidden : goal.returns-then-not-bound-forbidden
@@ -55,14 +55,6 @@ returns-in_default t c =
     let split = c.if-o-n.false in
     absurd (c.in_default.not-Or _ _ (or_is a.property.now c.requires.0 a.n c.requires.1.0 c.requires.1.1.0 a.set a.worked a.bound c.requires.1.1.1.1.1.1 o.result o.ensures split _ c.row_at.ensures))
 
-pub get-requires : goal.get-requires
-get-requires t c =
-    let a = c.args in
-    let o = c.next_open-o in
-    let split = c.if-o-n.false in
-    let read = c.in-Or.ensures in
-    omega (arith, a_row a.property.now c.requires.0 a.n c.requires.1.0 c.requires.1.1.0 a.set a.worked a.bound c.requires.1.1.1.1.1.1 o.result o.ensures split _ read, c.requires.1.1.0, c.requires.1.1.1.1.0)
-
 pub has_row-b_first-requires : goal.has_row-b_first-requires
 has_row-b_first-requires t c =
     let a = c.args in
@@ -97,26 +89,6 @@ one_row-one_second-requires t c =
     let f = c.has_row-b_first.result in
     let i = c.pick-second in
     omega (arith, second_row a.property.now c.requires.0 a.n c.requires.1.0 c.requires.1.1.0 a.set a.worked a.bound c.requires.1.1.1.1.1.1 o.result o.ensures split _ read f i.result i.ensures, c.requires.1.1.0)
-
-pub get-requires-2 : goal.get-requires-2
-get-requires-2 t c =
-    let a = c.args in
-    let o = c.next_open-o in
-    let split = c.if-o-n.false in
-    let read = c.in-Or.ensures in
-    let f = c.has_row-b_first.result in
-    let i = c.pick-first in
-    omega (arith, first_row a.property.now c.requires.0 a.n c.requires.1.0 c.requires.1.1.0 a.set a.worked a.bound c.requires.1.1.1.1.1.1 o.result o.ensures split _ read f i.result i.ensures, c.requires.1.1.0, c.requires.1.1.1.1.0)
-
-pub get-requires-3 : goal.get-requires-3
-get-requires-3 t c =
-    let a = c.args in
-    let o = c.next_open-o in
-    let split = c.if-o-n.false in
-    let read = c.in-Or.ensures in
-    let f = c.has_row-b_first.result in
-    let i = c.pick-second in
-    omega (arith, second_row a.property.now c.requires.0 a.n c.requires.1.0 c.requires.1.1.0 a.set a.worked a.bound c.requires.1.1.1.1.1.1 o.result o.ensures split _ read f i.result i.ensures, c.requires.1.1.0, c.requires.1.1.1.1.0)
 
 pub collect-listed-requires : goal.collect-listed-requires
 collect-listed-requires t c =

@@ -5,7 +5,7 @@ use Rattle.maximal.specs.Masks.{completion}
 use Rattle.maximal.specs.Masks.Laws.{member_lt}
 use Rattle.maximal.specs.Masks.Order.{taken_row}
 use Rattle.maximal.proofs.CompleteLaws.{completion_none, completion_union}
-use Rattle.maximal.proofs.MaskLaws.{partly_none, all_worked, row_left, partly_with, less_left}
+use Rattle.maximal.proofs.MaskLaws.{partly_none, row_left, partly_with, less_left}
 use Rattle.maximal.proofs.supports.closed_rows.Goals as goal
 
 pub loop-done-init : goal.loop-done-init
@@ -47,8 +47,3 @@ loop-done-preserved c =
       λ P t f. completion_union P l.done o.result l.all g.result (λ q i. member_lt (length P) a.set q f (more.inside q i)) (l.invariant.1 P t f)
           (g.ensures ∙ t.closed_are h.result (member_lt (length P) a.set h.result f h.ensures.in_set) ∙ ap (completion P) (sym o.ensures)),
     )
-
-pub returns : goal.returns
-returns c = λ P t f.
-    let l = c.loop-done in
-    l.invariant.1 P t f ∙ ap (completion P) (sym (all_worked c.args.set l.done c.loop-done-test.false-raw))

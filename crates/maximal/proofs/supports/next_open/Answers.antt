@@ -1,4 +1,4 @@
-use mathlib.Core.Path.{refl, sym}
+use mathlib.Core.Path.{sym}
 use Prim.Native.Nat.{◌<◌}
 use native.Mathlib.Omega.{arith}
 use lib.ListN.{length}
@@ -19,9 +19,6 @@ row-taken p =
     let P = decode_property a.property.now in
     let e = rows_are a.property.now p.requires.0 a.n p.requires.1.0 in
     omega (arith, taken_row (length P) l.all l.done l.invariant.bounded.partly p.next_row-r.result p.next_row-r.ensures, e, p.requires.1.1.0)
-
-pub loop-all-init : goal.loop-all-init
-loop-all-init c = record { bounded = c.requires.1.1.1.1.1; leads = refl }
 
 pub next_row-r-requires : goal.next_row-r-requires
 next_row-r-requires c =
