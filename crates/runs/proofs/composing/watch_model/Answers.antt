@@ -12,9 +12,6 @@ use Rattle.runs.specs.Composing.Work.{model_large, model_refused, model_within, 
 use Rattle.runs.proofs.Theorems.Composing.Work.{model_small}
 use Rattle.runs.proofs.composing.watch_model.Goals as goal
 
-pub model_within-requires : goal.model_within-requires
-model_within-requires c = c.requires.1.1.1.1.bounded
-
 pub bars-barred-requires : goal.bars-barred-requires
 bars-barred-requires c =
     let a = c.args in

@@ -1,7 +1,4 @@
-use mathlib.Core.Path.{sym, ap, ◌∙◌}
-use Prim.Native.Nat.{ℕ}
-use native.Mathlib.Omega.{arith}
-use lib.Bits.{bit_or}
+use mathlib.Core.Path.{sym, ◌∙◌}
 use Rattle.runs.specs.Worklist.Growth.{add_same, add_waiting, add_new}
 use Rattle.runs.proofs.points.add.Goals as goal
 
@@ -17,22 +14,6 @@ returns-then-get-eq1 c =
     let a = c.args in
     add_waiting a.work.now put.new.work a.tail a.g a.p a.y get.result c.requires.0 c.requires.1.0 get.ensures if1.false put.ensures
     (sym get82.ensures ∙ c.if-get-eq1.true)
-
-pub put-requires-3 : goal.put-requires-3
-put-requires-3 c =
-    let if1 = c.if-new-old in
-    let get = c.get-old in
-    let put82 = c.put-2 in
-    let put = c.put in
-    let f = c.requires.1.1.1 (λ e. if1.false (ap (λ (x : ℕ). bit_or x c.args.y) get.ensures ∙ e ∙ sym get.ensures)) in
-    omega (arith, f, c.requires.1.1.0, put82.auto.work, put.auto.work)
-
-pub overflow_add-result : goal.overflow_add-result
-overflow_add-result c =
-    let if1 = c.if-new-old in
-    let get = c.get-old in
-    let f = c.requires.1.1.1 (λ e. if1.false (ap (λ (x : ℕ). bit_or x c.args.y) get.ensures ∙ e ∙ sym get.ensures)) in
-    omega (arith, f)
 
 pub returns : goal.returns
 returns c =

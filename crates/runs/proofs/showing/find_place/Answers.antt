@@ -1,14 +1,7 @@
 -- A file is refused, or both are accepted, and the counts of their views give the place.
 use mathlib.Core.Path.{◌∙◌}
-use Rattle.files.specs.Settling.Laws.{handed_on}
-use Rattle.runs.specs.Showing.Work.{refused_place, passed_place}
+use Rattle.runs.specs.Showing.Work.{passed_place}
 use Rattle.runs.proofs.showing.find_place.Goals as goal
-
-pub returns-in_err-s : goal.returns-in_err-s
-returns-in_err-s c =
-    let a = c.args in
-    handed_on c.from_residual.result c.from_residual.ensures.1
-    ∙ refused_place a.limits a.graph1.now a.graph2.now a.number c.check_show.ensures.settles c.in_err-s.was
 
 pub returns : goal.returns
 returns c =

@@ -10,9 +10,6 @@ use Rattle.runs.specs.Unwritten.Work.{first_large}
 use Rattle.runs.proofs.Theorems.Unwritten.Work.{first_small}
 use Rattle.runs.proofs.unwritten.watch_models.Goals as goal
 
-pub model_within-requires : goal.model_within-requires
-model_within-requires c = c.requires.1.1.1.bounded
-
 pub bars-barred-requires : goal.bars-barred-requires
 bars-barred-requires c =
     let a = c.args in

@@ -17,10 +17,6 @@ use Rattle.runs.specs.Composing.Work.{model_large, model_refused, model_within, 
 use Rattle.runs.proofs.Theorems.Composing.Work.{model_small}
 use Rattle.runs.proofs.unwritten.watch_second.Goals as goal
 
-pub model_behind-requires : goal.model_behind-requires
-model_behind-requires c =
-    (c.requires.1.1.1.bounded, omega (arith, c.requires.0.few_nodes, c.requires.0.few_edges, c.requires.1.1.1.store_long))
-
 pub bars-lacking-requires : goal.bars-lacking-requires
 bars-lacking-requires c =
     let a = c.args in
