@@ -108,7 +108,8 @@ fn is_untrue(property: &[u8], n: usize, r: usize, method: u8, flag: bool) -> boo
     never | elsewhere | shunned | goes_on | returns
 }
 
-// All rows that are.
+// All rows that are. (Inlined it would keep `admit` from being so, and modelling would take a tenth longer or more.)
+#[inline(never)]
 pub(crate) fn untrue(property: &[u8], n: usize, method: u8, flag: bool) -> u32
     requires { (PropertyFile property.now) × ((n ≡ count property.now) × (n ≤ 32)) }
     ensures { result ≡ untrue (decode_property property.now) method flag }
