@@ -94,18 +94,23 @@ pub(crate) fn complete(property: &[u8], n: usize, set: u32) -> u32
     all
 }
 
-// Row r is false, or a literal that is untrue at the method and flag. (The tests stand side by side: a `match` over all of them is a jump for each row of each state, and slower.)
+// Row r is false, or a literal that is untrue at the method and flag.
 fn is_untrue(property: &[u8], n: usize, r: usize, method: u8, flag: bool) -> bool
     requires { (PropertyFile property.now) × ((n ≡ count property.now) × ((n ≤ 32) × (r < n))) }
     ensures { result ≡ untrue_at (row (decode_property property.now) r) method flag }
 {
-    let x = row_at(property, r);
-    let never = matches!(x, PropertyRow::False);
-    let elsewhere = matches!(x, PropertyRow::InMethod(a) if method != a);
-    let shunned = matches!(x, PropertyRow::NotInMethod(a) if method == a);
-    let goes_on = matches!(x, PropertyRow::Returns) & !flag;
-    let returns = matches!(x, PropertyRow::NotReturns) & flag;
-    never | elsewhere | shunned | goes_on | returns
+    match row_at(property, r) {
+        PropertyRow::False => true,
+        PropertyRow::InMethod(a) => method != a,
+        PropertyRow::NotInMethod(a) => method == a,
+        PropertyRow::Returns => !flag,
+        PropertyRow::NotReturns => flag,
+        PropertyRow::True
+        | PropertyRow::And(..)
+        | PropertyRow::Or(..)
+        | PropertyRow::Box { .. }
+        | PropertyRow::BoxAll(_) => false,
+    }
 }
 
 // All rows that are. (Inlined it would keep `admit` from being so, and modelling would take a tenth longer or more.)
