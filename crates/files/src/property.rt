@@ -1,7 +1,7 @@
 // The rows of an accepted property file.
-ghost use Rattle.std.specs.Prelude.{◌≡◌, ◌<◌, T};
+ghost use Rattle.std.specs.Prelude.{◌≡◌, ◌<◌, T, cond, Some, None};
 ghost use Rattle.files.specs.Record.{count};
-ghost use Rattle.files.specs.Property.{row, is_box};
+ghost use Rattle.files.specs.Property.{row, is_box, aims, box_row};
 ghost use Rattle.files.specs.Decode.{decode_property};
 ghost use Rattle.files.specs.Access.{PropertyFile, row_held, row_by, operator_of, looks, looked_at};
 
@@ -75,6 +75,24 @@ impl PropertyRow {
             | PropertyRow::And(..)
             | PropertyRow::Or(..) => 0,
         }
+    }
+}
+
+// The same of bytes, which may be any: whether an operator is a box's, and the row that a row with these bytes obliges to. For callers that hold bytes; here a row is a
+// `PropertyRow`.
+pub fn is_box(operator: u8) -> bool
+    ensures { result ≡ is_box operator }
+{
+    Operator::BOX <= operator
+}
+
+pub fn obliged(operator: u8, a: u8, b: u8, label: u8) -> Option<u8>
+    ensures { result ≡ cond (aims operator a label) (Some (box_row operator a b)) None }
+{
+    match operator {
+        Operator::BOX_ALL => Some(a),
+        Operator::BOX => (a == label).then_some(b),
+        _ => None,
     }
 }
 

@@ -73,13 +73,13 @@ impl Record {
     }
 
     // A record of a trail, which has no kind either: node, state, step, label, and the node and state reached.
-    pub fn step(node: u8, state: u8, step: Step, label: u8, reached: u8, next: u8) -> Self
-        ensures { six result ≡ node ∷ state ∷ step_number step ∷ label ∷ reached ∷ next ∷ [] }
+    pub fn step(node: u8, state: u8, step: u8, label: u8, reached: u8, next: u8) -> Self
+        ensures { six result ≡ node ∷ state ∷ step ∷ label ∷ reached ∷ next ∷ [] }
     {
         Record {
             kind: node,
             first: state,
-            second: step.number(),
+            second: step,
             third: label,
             fourth: reached,
             fifth: next,
