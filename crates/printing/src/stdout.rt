@@ -1,6 +1,6 @@
 // Standard output by the bufferful: 65,536 bytes of text, how many of them are used, and the runtime that they go to. The first failed write is kept until the end, so that what
 // prints has no failure to pass on; nothing is written behind it.
-ghost use Rattle.std.specs.Prelude.{◌≡◌, ◌≤◌, length};
+ghost use Rattle.std.specs.Prelude.{◌≡◌, ◌≤◌, length, Err, IfErr};
 ghost use Rattle.printing.specs.Places.{text_room};
 
 use crate::zeros;
@@ -34,7 +34,8 @@ impl Buffered {
 
     // Writes what the buffer holds and empties it.
     pub fn flush(&mut self)
-        ensures { self.new.used ≡ 0 }
+        ensures empty { self.new.used ≡ 0 }
+        ensures kept { IfErr self.old.outcome (λ e. self.new.outcome ≡ Err e) }
     {
         if self.outcome.is_ok() {
             self.outcome = self.rt.write_all(&self.text[..self.used]);
@@ -43,7 +44,9 @@ impl Buffered {
     }
 
     // One byte more, behind a full buffer's writing.
-    fn put(&mut self, byte: u8) {
+    fn put(&mut self, byte: u8)
+        ensures kept { IfErr self.old.outcome (λ e. self.new.outcome ≡ Err e) }
+    {
         if self.used == ROOM {
             self.flush();
         }
@@ -52,7 +55,9 @@ impl Buffered {
     }
 
     // Bytes as they are.
-    pub fn put_all(&mut self, bytes: &[u8]) {
+    pub fn put_all(&mut self, bytes: &[u8])
+        ensures kept { IfErr self.old.outcome (λ e. self.new.outcome ≡ Err e) }
+    {
         for byte in bytes {
             self.put(*byte);
         }
