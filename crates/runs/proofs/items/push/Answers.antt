@@ -1,4 +1,5 @@
 use mathlib.Core.Path.{ap, ◌∙◌}
+use mathlib.Core.List.{[], ◌∷◌}
 use Prim.Native.Nat.{◌*◌}
 use Rattle.files.specs.Cells.{put_at}
 use Rattle.files.specs.Record.{step_number}
@@ -20,5 +21,5 @@ returns c =
     c.has_bit.result
     c.has_bit.ensures
     c.if-has_bit.false
-    (c.put_record.ensures ∙ ap (put_at a.work.now (record_len * a.tail)) c.step.ensures) c.put.ensures
+    (c.put_record.ensures ∙ ap (put_at a.work.now (record_len * a.tail)) (c.step.ensures ∙ ap (λ n. a.g ∷ a.q ∷ n ∷ a.label ∷ a.to ∷ a.next ∷ []) c.number.ensures)) c.put.ensures
     c.put_bit.ensures
