@@ -28,7 +28,11 @@ pub(crate) fn push(
     if has_bit(work, Regions::SEEN, at) {
         return tail;
     }
-    put_record(work, tail, Record::step(g, q, step.number(), label, to, next));
+    put_record(
+        work,
+        tail,
+        Record::step(g, q, step.number(), label, to, next),
+    );
     put(work, Regions::PARENTS, tail, head as u16);
     put_bit(work, Regions::SEEN, at);
     tail + 1
