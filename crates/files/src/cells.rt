@@ -110,7 +110,7 @@ pub fn put_bit(work: &mut [u8], base: usize, h: usize)
     work[at] = work[at] | (1 << (h % 8));
 }
 
-// Makes the whole slice zero.
+// Makes the whole slice zero. This and `copy_at` stay functions: the laws of cells speak of their results.
 pub fn clear(work: &mut [u8])
     ensures { work.new ≡ replicate (length work.old) 0 }
 {

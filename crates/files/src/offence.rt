@@ -114,6 +114,7 @@ pub(crate) fn look_graph(
     look_edge(records, i, first, position)
 }
 
+// A record of a property. This, an edge and a rule are looked at alike but for the pattern, which is what is tested: one function would match twice.
 fn look_row(records: &[u8], i: usize, first: usize, position: u8) -> Result<(), Refusal>
     requires { (record_len * i + record_len ≤ length records.now) × (first + i < usize_end) }
     ensures { result ≡ found_at 3 2 (test property records.now) first position i }
