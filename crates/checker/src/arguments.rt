@@ -1,74 +1,49 @@
 // The program's arguments: words, names of files and decimals.
-ghost use Rattle.std.specs.Prelude.{◌≤◌};
+ghost use Rattle.std.specs.Prelude.{◌≤◌, IfSome};
 ghost use Rattle.checker.specs.Places.{number_most};
 
 use crate::lengths::Lengths;
-use files::cells::wide;
 use printing::input::{arg, buffer};
+use printing::say;
 use printing::stdout::Buffered;
-use printing::{at_most, say};
-
-// A decimal, or none.
-#[derive(Clone, Copy)]
-pub struct Decimal {
-    pub ok: bool,
-    pub value: usize,
-}
-
-fn same(a: &[u8], b: &[u8]) -> bool {
-    a == b
-}
 
 pub fn is_word(stdout: &Buffered, i: usize, word: &[u8]) -> bool {
-    let mut name = buffer();
-    let n = arg(stdout.rt, i, &mut name);
-    same(&name[..n], word)
+    let mut room = buffer();
+    arg(stdout.rt, i, &mut room) == word
 }
 
 pub fn say_argument(stdout: &mut Buffered, i: usize) {
-    let mut name = buffer();
-    let n = arg(stdout.rt, i, &mut name);
-    say(stdout, &name[..n]);
+    let mut room = buffer();
+    let argument = arg(stdout.rt, i, &mut room);
+    stdout.put_all(argument);
 }
 
-pub fn is_digit(b: u8) -> bool {
-    (b'0' <= b) & (b <= b'9')
-}
-
-// The value with one more digit.
-pub fn longer(value: usize, digit: u8) -> usize
-    requires { value ≤ number_most }
-    ensures { result ≤ number_most }
+// The value with one more digit, if the byte is one.
+pub fn longer(value: usize, byte: u8) -> Option<usize>
+    ensures { IfSome result (λ v. v ≤ number_most) }
 {
-    at_most(10 * value + wide(digit) % 16, Lengths::NUMBER)
+    let digit = (byte as char).to_digit(10)?;
+    let value = value.saturating_mul(10).saturating_add(digit as usize);
+    Some(value.min(Lengths::NUMBER))
 }
 
-fn decimal_of(text: &[u8]) -> Decimal {
-    let mut value: usize = 0;
-    for b in text {
-        if !is_digit(*b) {
-            return Decimal {
-                ok: false,
-                value: 0,
-            };
-        }
-        value = longer(value, *b);
+fn decimal(text: &[u8]) -> Option<usize> {
+    let mut value = 0;
+    for byte in text {
+        value = longer(value, *byte)?;
     }
-    Decimal {
-        ok: text.len() > 0,
-        value: value,
-    }
+    if text.is_empty() { None } else { Some(value) }
 }
 
 // Argument i as a number; where it is none, a line says so.
-pub fn number(stdout: &mut Buffered, i: usize) -> Decimal {
-    let mut name = buffer();
-    let n = arg(stdout.rt, i, &mut name);
-    let d = decimal_of(&name[..n]);
-    if !d.ok {
-        say(stdout, b"error not a number: ");
-        say(stdout, &name[..n]);
-        say(stdout, b"\n");
+pub fn number(stdout: &mut Buffered, i: usize) -> Option<usize> {
+    let mut room = buffer();
+    let text = arg(stdout.rt, i, &mut room);
+    let value = decimal(text);
+    if value.is_none() {
+        say!(stdout, "error not a number: ");
+        stdout.put_all(text);
+        say!(stdout, "\n");
     }
-    d
+    value
 }

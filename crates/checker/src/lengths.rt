@@ -10,13 +10,4 @@ impl Lengths {
 
     // A number past every one that a call takes: larger ones count as this.
     pub const NUMBER: usize = 1000000;
-
-    // A field's value before its next digit: past what any field holds.
-    pub const FIELD: usize = 1000;
-
-    // Lines are counted up to this: more than the longest listing that is read has.
-    pub const LINES: usize = 10000000;
-
-    // No result has more records than this: a fault sheet has at most 8,192.
-    pub const RECORDS: usize = 10000;
 }

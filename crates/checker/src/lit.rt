@@ -1,153 +1,141 @@
 // What lights a picture of `checker dot` in red: the steps of a trail, numbered, or the rows of a fault sheet that are false and their causes. The graph's own arrows stay as
 // they are.
-ghost use Rattle.std.specs.Prelude.{◌+◌, ◌*◌, ◌≤◌, ◌<◌, length};
-ghost use Rattle.files.specs.Places.{record_len};
+ghost use Rattle.std.specs.Prelude.{◌<◌};
 
 use crate::arrows::say_ends;
-use crate::ranges::say_ranges;
+use crate::ranges::Ranges;
 use files::cells::{put_bit, wide};
 use files::encode::LINE;
-use files::record::{Record, Step};
+use files::record::Step;
 use printing::stdout::Buffered;
-use printing::{say, say_decimal};
+use printing::{Fields, records, say};
 
-pub fn say_if(stdout: &mut Buffered, test: bool, words: &[u8]) {
-    if test {
-        say(stdout, words);
-    }
+// What lights a picture. No byte of a file tells a trail from a fault sheet.
+#[derive(Clone, Copy)]
+pub enum Lit<'a> {
+    Nothing,
+    Trail(&'a [Fields]),
+    Sheet(&'a [Fields]),
 }
 
-// Field k of record i is the value.
-fn is_at(records: &[u8], i: usize, k: usize, value: u8) -> bool
-    requires { (record_len * i + record_len ≤ length records.now) × (k < 6) }
-{
-    records[Record::LEN * i + k] == value
+impl<'a> Lit<'a> {
+    // The trail of a file, which lights nothing if it is empty.
+    pub fn trail(file: &'a [u8]) -> Self {
+        if file.is_empty() {
+            return Lit::Nothing;
+        }
+        Lit::Trail(records(file))
+    }
+
+    // The fault sheet of a file, likewise.
+    pub fn sheet(file: &'a [u8]) -> Self {
+        if file.is_empty() {
+            return Lit::Nothing;
+        }
+        Lit::Sheet(records(file))
+    }
 }
 
 // Field k of some record is the value.
-pub fn is_in(records: &[u8], k: usize, value: u8) -> bool
+pub fn is_in(records: &[Fields], k: usize, value: u8) -> bool
     requires { k < 6 }
 {
-    let end = records.len() / Record::LEN;
-    for i in 0..end {
-        if is_at(records, i, k, value) {
-            return true;
-        }
-    }
-    false
+    records.iter().any(|record| record[k] == value)
 }
 
 // The trail reaches the node, or a row is false there: a cause has a record of its own, so the first field tells.
-pub fn is_lit(trail: &[u8], sheet: &[u8], node: u8) -> bool {
-    is_in(trail, 4, node) | is_in(sheet, 0, node)
+pub fn is_lit(lit: Lit, node: u8) -> bool {
+    match lit {
+        Lit::Nothing => false,
+        Lit::Trail(trail) => is_in(trail, 4, node),
+        Lit::Sheet(sheet) => is_in(sheet, 0, node),
+    }
 }
 
 // A node's line for the trail's start.
-pub fn say_start(stdout: &mut Buffered, trail: &[u8], node: u8) {
-    if trail.len() >= Record::LEN {
-        say_if(
-            stdout,
-            (trail[2] == Step::START) & (trail[4] == node),
-            b"\\n1: start",
-        );
+fn say_start(stdout: &mut Buffered, trail: &[Fields], node: u8) {
+    if let Some([_, _, kind, _, reached, _]) = trail.first() {
+        if Step::of(*kind) == Some(Step::Start) && *reached == node {
+            say!(stdout, "\\n1: start");
+        }
     }
 }
 
-// The rows with that of record i, if it is about the node.
-fn add_row(rows: &mut [u8; LINE], sheet: &[u8], i: usize, node: u8)
-    requires { record_len * i + record_len ≤ length sheet.now }
-{
-    let p = Record::LEN * i;
-    if sheet[p] == node {
-        put_bit(rows, 0, wide(sheet[p + 1]));
-    }
-}
-
-fn rows_at(sheet: &[u8], node: u8) -> [u8; LINE] {
-    let mut rows = [0u8; LINE];
-    let end = sheet.len() / Record::LEN;
-    for i in 0..end {
-        add_row(&mut rows, sheet, i, node);
+fn rows_at(sheet: &[Fields], node: u8) -> [u8; LINE] {
+    let mut rows = [0; LINE];
+    for fault in sheet {
+        if fault[0] == node {
+            put_bit(&mut rows, 0, wide(fault[1]));
+        }
     }
     rows
 }
 
-// A node's line for the rows that are false there.
-pub fn say_rows(stdout: &mut Buffered, sheet: &[u8], node: u8) {
-    let rows = rows_at(sheet, node);
-    say_ranges(stdout, &rows, 0, b"\\nrow ", b", ");
+// A node's line for the trail's start, or for the rows that are false there.
+pub fn say_at_node(stdout: &mut Buffered, lit: Lit, node: u8) {
+    match lit {
+        Lit::Nothing => {}
+        Lit::Trail(trail) => say_start(stdout, trail, node),
+        Lit::Sheet(sheet) => {
+            let rows = Ranges {
+                set: &rows_at(sheet, node),
+                first: "\\nrow ",
+                comma: ", ",
+            };
+            say!(stdout, "{rows}");
+        }
+    }
 }
 
-// What a step does: an internal one, a call entered, or a call passed over.
-fn say_kind(stdout: &mut Buffered, kind: u8, label: u8) {
-    if kind == Step::INTERNAL {
-        say(stdout, b": step");
+// The arrow of step i of a trail, from 1, where it is no start. A call entered leads where no edge of the graph does, so it is dashed.
+fn say_step(stdout: &mut Buffered, i: usize, step: &Fields) {
+    let [node, _, kind, label, reached, _] = *step;
+    let step = Step::of(kind);
+    if step == Some(Step::Start) {
         return;
     }
-    if kind == Step::ENTERED {
-        say(stdout, b": enters ");
-    } else {
-        say(stdout, b": call ");
-    }
-    say_decimal(stdout, label as u64);
-}
-
-// The arrow of record i of the trail, where it is no start. A call entered leads where no edge of the graph does, so it is dashed.
-fn say_step(stdout: &mut Buffered, trail: &[u8], i: usize)
-    requires { record_len * i + record_len ≤ length trail.now }
-{
-    let p = Record::LEN * i;
-    let kind = trail[p + 2];
-    if kind != Step::START {
-        say_ends(stdout, trail[p], trail[p + 4]);
-        say_decimal(stdout, (i + 1) as u64);
-        say_kind(stdout, kind, trail[p + 3]);
-        say(stdout, b" \"");
-        say_if(stdout, kind == Step::ENTERED, b", style=dashed");
-        say(stdout, b"];\n");
-    }
-}
-
-fn say_steps(stdout: &mut Buffered, trail: &[u8]) {
-    let end = trail.len() / Record::LEN;
-    for i in 0..end {
-        say_step(stdout, trail, i);
+    say_ends(stdout, node, reached);
+    match step {
+        Some(Step::Internal) => say!(stdout, "{i}: step \"];\n"),
+        Some(Step::Entered) => say!(stdout, "{i}: enters {label} \", style=dashed];\n"),
+        _ => say!(stdout, "{i}: call {label} \"];\n"),
     }
 }
 
 // The arrow to a cause at another node; one at the same node is told by that node's rows, since loops beside each other cannot be read.
 fn say_cause(stdout: &mut Buffered, node: u8, row: u8, cause: u8, cause_row: u8) {
-    if (cause_row != 255) & (cause != node) {
+    if cause_row != 255 && cause != node {
         say_ends(stdout, node, cause);
-        say(stdout, b"row ");
-        say_decimal(stdout, row as u64);
-        say(stdout, b": row ");
-        say_decimal(stdout, cause_row as u64);
-        say(stdout, b" \"];\n");
+        say!(stdout, "row {row}: row {cause_row} \"];\n");
     }
 }
 
-// Both causes of record i of the sheet.
-fn say_both(stdout: &mut Buffered, sheet: &[u8], i: usize)
-    requires { record_len * i + record_len ≤ length sheet.now }
-{
-    let p = Record::LEN * i;
-    say_cause(stdout, sheet[p], sheet[p + 1], sheet[p + 2], sheet[p + 3]);
-    say_cause(stdout, sheet[p], sheet[p + 1], sheet[p + 4], sheet[p + 5]);
+fn say_steps(stdout: &mut Buffered, trail: &[Fields]) {
+    for (i, step) in trail.iter().enumerate() {
+        say_step(stdout, i + 1, step);
+    }
 }
 
-fn say_causes(stdout: &mut Buffered, sheet: &[u8]) {
-    let end = sheet.len() / Record::LEN;
-    for i in 0..end {
-        say_both(stdout, sheet, i);
+fn say_causes(stdout: &mut Buffered, sheet: &[Fields]) {
+    for fault in sheet {
+        let [node, row, node1, row1, node2, row2] = *fault;
+        say_cause(stdout, node, row, node1, row1);
+        say_cause(stdout, node, row, node2, row2);
     }
 }
 
 // The red arrows, behind one line that makes them red.
-pub fn say_red(stdout: &mut Buffered, trail: &[u8], sheet: &[u8]) {
-    if (trail.len() > 0) | (sheet.len() > 0) {
-        say(stdout, b"  edge [color=red, fontcolor=red];\n");
-        say_steps(stdout, trail);
-        say_causes(stdout, sheet);
+pub fn say_red(stdout: &mut Buffered, lit: Lit) {
+    let red = "  edge [color=red, fontcolor=red];\n";
+    match lit {
+        Lit::Nothing => {}
+        Lit::Trail(trail) => {
+            say!(stdout, "{red}");
+            say_steps(stdout, trail);
+        }
+        Lit::Sheet(sheet) => {
+            say!(stdout, "{red}");
+            say_causes(stdout, sheet);
+        }
     }
 }

@@ -1,6 +1,5 @@
 // Files by name: read whole or not at all, and written.
-ghost use Rattle.std.specs.Prelude.{◌<◌};
-ghost use Rattle.printing.specs.Places.{IsPrefixLen};
+ghost use Rattle.std.specs.Prelude.{◌<◌, ◌≤◌, IfSome, length};
 
 use crate::arguments::say_argument;
 use printing::input::{arg, buffer, open_read, path, read_full};
@@ -9,73 +8,43 @@ use printing::stdout::Buffered;
 use std::io::Read;
 use std::{fs, io};
 
-// So many bytes were read, or a line said why not.
-#[derive(Clone, Copy)]
-pub struct Loaded {
-    pub ok: bool,
-    pub length: usize,
-}
-
-// The same of two files.
-#[derive(Clone, Copy)]
-pub struct LoadedTwo {
-    pub ok: bool,
-    pub first: usize,
-    pub second: usize,
-}
-
-fn complain(stdout: &mut Buffered, words: &[u8], i: usize) {
-    say(stdout, b"error ");
-    say(stdout, words);
-    say(stdout, b": ");
+fn complain(stdout: &mut Buffered, words: &str, i: usize) {
+    say!(stdout, "error {words}: ");
     say_argument(stdout, i);
-    say(stdout, b"\n");
+    say!(stdout, "\n");
 }
 
-// Reads the file that argument i names to the start of buf. One more read tells whether that was all of it, so no file is taken in part.
-pub fn load(stdout: &mut Buffered, i: usize, buf: &mut [u8]) -> Loaded
-    ensures { IsPrefixLen result.length buf.new }
+// The file that argument i names, read to the start of `room`, or a line that says why not. One more read tells whether that was all of it, so no file is taken in part.
+pub fn load<'a>(stdout: &mut Buffered, i: usize, room: &'a mut [u8]) -> Option<&'a mut [u8]>
+    ensures { IfSome result (λ file. length file.now ≤ length room.old) }
 {
     let mut name = buffer();
-    let n = arg(stdout.rt, i, &mut name);
-    let Ok(mut file) = open_read(stdout.rt, &name[..n]) else {
-        complain(stdout, b"this file cannot be read", i);
-        return Loaded {
-            ok: false,
-            length: 0,
-        };
+    let Ok(mut opened) = open_read(stdout.rt, arg(stdout.rt, i, &mut name)) else {
+        complain(stdout, "this file cannot be read", i);
+        return None;
     };
-    let length = read_full(&mut file, buf);
-    let mut further = buffer();
-    let more = file.read(&mut further);
-    match more {
-        Err(_) => complain(stdout, b"this file cannot be read", i),
-        Ok(0) => {
-            return Loaded {
-                ok: true,
-                length: length,
-            };
-        }
-        Ok(_) => complain(stdout, b"this file is too long to read", i),
+    let file = read_full(&mut opened, room);
+    match opened.read(&mut [0]) {
+        Ok(0) => return Some(file),
+        Ok(_) => complain(stdout, "this file is too long to read", i),
+        Err(_) => complain(stdout, "this file cannot be read", i),
     }
-    Loaded {
-        ok: false,
-        length: length,
-    }
+    None
 }
 
-// Reads the files that argument i and the next one name.
-pub fn load_two(stdout: &mut Buffered, i: usize, first: &mut [u8], second: &mut [u8]) -> LoadedTwo
+// The files that argument i and the next one name. Where both cannot be had, both have their line.
+pub fn load_two<'a>(
+    stdout: &mut Buffered,
+    i: usize,
+    first: &'a mut [u8],
+    second: &'a mut [u8],
+) -> Option<(&'a mut [u8], &'a mut [u8])>
     requires { i < 100 }
-    ensures { (IsPrefixLen result.first first.new) × (IsPrefixLen result.second second.new) }
+    ensures { IfSome result (λ files. (length files.0.now ≤ length first.old) × (length files.1.now ≤ length second.old)) }
 {
-    let f = load(stdout, i, first);
-    let s = load(stdout, i + 1, second);
-    LoadedTwo {
-        ok: f.ok & s.ok,
-        first: f.length,
-        second: s.length,
-    }
+    let first = load(stdout, i, first);
+    let second = load(stdout, i + 1, second);
+    first.zip(second)
 }
 
 // Writes bytes to the file of this name.
@@ -84,10 +53,24 @@ fn overwrite(rt: HostRuntime, name: &[u8], bytes: &[u8]) -> io::Result<()> {
 }
 
 // Writes bytes to the file that argument i names.
-pub fn save(stdout: &mut Buffered, i: usize, bytes: &[u8]) {
+fn save(stdout: &mut Buffered, i: usize, bytes: &[u8]) {
     let mut name = buffer();
-    let n = arg(stdout.rt, i, &mut name);
-    if overwrite(stdout.rt, &name[..n], bytes).is_err() {
-        complain(stdout, b"this file cannot be written", i);
+    if overwrite(stdout.rt, arg(stdout.rt, i, &mut name), bytes).is_err() {
+        complain(stdout, "this file cannot be written", i);
+    }
+}
+
+// Gives a result: shown, or to the file that argument `at` names, where there is one.
+pub fn give<F: FnOnce(&mut Buffered, &[u8])>(
+    stdout: &mut Buffered,
+    bytes: &[u8],
+    at: Option<usize>,
+    show: F,
+)
+    requires { F.IsAlwaysCallable show }
+{
+    match at {
+        None => show(stdout, bytes),
+        Some(i) => save(stdout, i, bytes),
     }
 }

@@ -1,154 +1,111 @@
 // What the records of a result say, behind a # on their lines: a trail, a fault sheet, a relation. The decimals stand in front as they do without notes, so that `checker pack`
 // reads a printed result back.
-ghost use Rattle.std.specs.Prelude.{◌+◌, ◌*◌, ◌≤◌, length};
-ghost use Rattle.files.specs.Places.{record_len};
-
-use crate::ranges::{members, say_ranges};
-use crate::text::{say_about, say_decimals, say_formula, say_record};
+use crate::ranges::{Ranges, members};
+use crate::text::{Formula, say_decimals, say_record};
 use files::cells::wide;
 use files::encode::LINE;
-use files::record::{Record, Step};
+use files::record::Step;
 use printing::stdout::Buffered;
-use printing::{say, say_number};
-
-// The node and the state that a step ends in.
-fn say_reached(stdout: &mut Buffered, node: u8, state: u8) {
-    say_about(stdout, b" node", node);
-    say_about(stdout, b" in state", state);
-    if state == 7 {
-        say(stdout, b", bad");
-    }
-}
+use printing::{Fields, records, say};
 
 // What a step does, by its kind: an internal step, a call entered, or a call passed over.
 fn say_act(stdout: &mut Buffered, kind: u8, label: u8) {
-    if kind == Step::INTERNAL {
-        say(stdout, b", steps to");
-        return;
-    }
-    say_about(stdout, b", calls method", label);
-    if kind == Step::ENTERED {
-        say(stdout, b" and enters");
-    } else {
-        say(stdout, b", which returns:");
+    match Step::of(kind) {
+        Some(Step::Internal) => say!(stdout, ", steps to"),
+        Some(Step::Entered) => say!(stdout, ", calls method {label} and enters"),
+        _ => say!(stdout, ", calls method {label}, which returns:"),
     }
 }
 
-// The step that a record of six bytes is, made in the method.
-fn say_step(stdout: &mut Buffered, r: &[u8], method: u8)
-    requires { 6 ≤ length r.now }
-{
-    if r[2] == 0 {
-        say(stdout, b"starts at ");
+// The step that a record is, made in the method.
+fn say_step(stdout: &mut Buffered, step: &Fields, method: u8) {
+    let [node, state, kind, label, reached, next] = *step;
+    let starts = Step::of(kind) == Some(Step::Start);
+    if starts {
+        say!(stdout, "starts at ");
     }
-    say_about(stdout, b"node", r[0]);
-    say_about(stdout, b" of method", method);
-    say_about(stdout, b", in state", r[1]);
-    if r[2] != Step::START {
-        say_act(stdout, r[2], r[3]);
-        say_reached(stdout, r[4], r[5]);
+    say!(stdout, "node {node} of method {method}, in state {state}");
+    if !starts {
+        say_act(stdout, kind, label);
+        say!(stdout, " node {reached} in state {next}");
+        if next == 7 {
+            say!(stdout, ", bad");
+        }
     }
 }
 
-// The line of record i of a trail, which is in the method. Answers the method after it: only a call entered leaves one.
-fn say_trail_line(stdout: &mut Buffered, trail: &[u8], i: usize, method: u8) -> u8
-    requires { record_len * i + record_len ≤ length trail.now }
-{
-    let p = Record::LEN * i;
-    say_record(stdout, trail, i);
-    say(stdout, b"step");
-    say_number(stdout, (i + 1) as u64);
-    say(stdout, b": ");
-    say_step(stdout, &trail[p..p + Record::LEN], method);
-    say(stdout, b"\n");
-    if trail[p + 2] == Step::ENTERED {
-        return trail[p + 3];
-    }
-    method
-}
-
-// A trail from the start method on.
+// A trail from the start method on. Only a call entered leaves a method.
 pub fn say_trail(stdout: &mut Buffered, trail: &[u8], start: u8) {
-    let end = trail.len() / Record::LEN;
     let mut method = start;
-    for i in 0..end {
-        method = say_trail_line(stdout, trail, i, method);
+    for (i, step) in records(trail).iter().enumerate() {
+        let number = i + 1;
+        say_record(stdout, step);
+        say!(stdout, "step {number}: ");
+        say_step(stdout, step, method);
+        say!(stdout, "\n");
+        if Step::of(step[2]) == Some(Step::Entered) {
+            method = step[3];
+        }
     }
 }
 
 // What the row asks for, in brackets.
 fn say_asked(stdout: &mut Buffered, property: &[u8], row: u8) {
-    let p = Record::LEN * wide(row);
-    if p + Record::LEN <= property.len() {
-        say(stdout, b" (");
-        say_formula(stdout, property[p + 1], property[p + 2], property[p + 3]);
-        say(stdout, b")");
+    if let Some([_, op, a, b, ..]) = records(property).get(wide(row)) {
+        let formula = Formula {
+            op: *op,
+            a: *a,
+            b: *b,
+        };
+        say!(stdout, " ({formula})");
     }
 }
 
 // A cause behind its first word, where there is one: row 255 is none.
-fn say_cause(stdout: &mut Buffered, word: &[u8], node: u8, row: u8) {
+fn say_cause(stdout: &mut Buffered, word: &str, node: u8, row: u8) {
     if row != 255 {
-        say_about(stdout, word, row);
-        say_about(stdout, b" is false at node", node);
+        say!(stdout, "{word} row {row} is false at node {node}");
     }
 }
 
-// The line of record i of a fault sheet.
-fn say_sheet_line(stdout: &mut Buffered, sheet: &[u8], property: &[u8], i: usize)
-    requires { record_len * i + record_len ≤ length sheet.now }
-{
-    let p = Record::LEN * i;
-    say_record(stdout, sheet, i);
-    say_about(stdout, b"node", sheet[p]);
-    say_about(stdout, b", row", sheet[p + 1]);
-    say_asked(stdout, property, sheet[p + 1]);
-    say(stdout, b": false");
-    say_cause(stdout, b", since row", sheet[p + 2], sheet[p + 3]);
-    say_cause(stdout, b" and row", sheet[p + 4], sheet[p + 5]);
-    say(stdout, b"\n");
+fn say_fault(stdout: &mut Buffered, fault: &Fields, property: &[u8]) {
+    let [node, row, node1, row1, node2, row2] = *fault;
+    say_record(stdout, fault);
+    say!(stdout, "node {node}, row {row}");
+    say_asked(stdout, property, row);
+    say!(stdout, ": false");
+    say_cause(stdout, ", since", node1, row1);
+    say_cause(stdout, " and", node2, row2);
+    say!(stdout, "\n");
 }
 
 pub fn say_sheet(stdout: &mut Buffered, sheet: &[u8], property: &[u8]) {
-    let end = sheet.len() / Record::LEN;
-    for i in 0..end {
-        say_sheet_line(stdout, sheet, property, i);
+    for fault in records(sheet) {
+        say_fault(stdout, fault, property);
     }
 }
 
-// The nodes of the line from `base` on.
-fn say_related(stdout: &mut Buffered, lines: &[u8], base: usize)
-    requires { base + 32 ≤ length lines.now }
-{
-    let n = members(lines, base);
-    if n == 0 {
-        say(stdout, b"none");
-        return;
-    }
-    if n == 1 {
-        say(stdout, b"node ");
-    } else {
-        say(stdout, b"nodes ");
-    }
-    say_ranges(stdout, lines, base, b"", b", ");
+// The nodes of a line.
+fn say_related(stdout: &mut Buffered, line: &[u8; LINE]) {
+    let noun = match members(line) {
+        0 => "none",
+        1 => "node ",
+        _ => "nodes ",
+    };
+    let nodes = Ranges {
+        set: line,
+        first: "",
+        comma: ", ",
+    };
+    say!(stdout, "{noun}{nodes}");
 }
 
-// The line of node g in a relation.
-fn say_relation_line(stdout: &mut Buffered, lines: &[u8], g: usize)
-    requires { 32 * g + 32 ≤ length lines.now }
-{
-    let p = LINE * g;
-    say_decimals(stdout, &lines[p..p + LINE]);
-    say(stdout, b" # node");
-    say_number(stdout, g as u64);
-    say(stdout, b": related to ");
-    say_related(stdout, lines, p);
-    say(stdout, b"\n");
-}
-
-pub fn say_relation(stdout: &mut Buffered, lines: &[u8]) {
-    let end = lines.len() / LINE;
-    for g in 0..end {
-        say_relation_line(stdout, lines, g);
+pub fn say_relation(stdout: &mut Buffered, relation: &[u8]) {
+    let (lines, _) = relation.as_chunks::<LINE>();
+    for (g, line) in lines.iter().enumerate() {
+        say_decimals(stdout, line);
+        say!(stdout, " # node {g}: related to ");
+        say_related(stdout, line);
+        say!(stdout, "\n");
     }
 }

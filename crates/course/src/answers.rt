@@ -1,132 +1,91 @@
 // The line of each call's answer, and what it wrote as decimals.
-use files::answers::Assembled;
-use files::check::Checked;
+use files::check::{FileCounts, check};
+use files::offence::FileKind;
+use files::record::Limits;
 use files::refusal::Refusal;
+use files::view::GraphView;
 use judging::answers::{Compared, Judged};
-use maximal::answers::Modelled;
 use printing::stdout::Buffered;
-use printing::{say, say_graph, say_lines, say_number, say_records};
+use printing::{say, say_graph, say_lines, say_records};
 use runs::answers::{Joined, Verdict};
 
 pub(crate) fn say_refused(stdout: &mut Buffered, r: Refusal) {
-    say(stdout, b": refused");
-    say_number(stdout, r.number as u64);
-    say_number(stdout, r.file as u64);
-    say_number(stdout, r.record as u64);
+    let Refusal {
+        number,
+        file,
+        record,
+    } = r;
+    say!(stdout, ": refused {number} {file} {record}\n");
 }
 
-pub(crate) fn say_checked(stdout: &mut Buffered, c: Checked) {
-    match c {
-        Checked::Accepted { nodes, records } => {
-            say(stdout, b": accepted");
-            say_number(stdout, nodes as u64);
-            say_number(stdout, records as u64);
-        }
-        Checked::Refused(r) => say_refused(stdout, r),
+pub(crate) fn say_checked(stdout: &mut Buffered, kind: FileKind, file: &[u8]) {
+    match check(kind, file, 1, Limits::desk()) {
+        Ok(FileCounts { nodes, records }) => say!(stdout, ": accepted {nodes} {records}\n"),
+        Err(r) => say_refused(stdout, r),
     }
-    say(stdout, b"\n");
 }
 
-pub(crate) fn say_judged(stdout: &mut Buffered, answer: Judged, out: &[u8]) {
+pub(crate) fn say_judged(stdout: &mut Buffered, answer: Result<Judged, Refusal>, out: &[u8]) {
     match answer {
-        Judged::Holds => say(stdout, b": holds\n"),
-        Judged::Fails(n) => {
-            say(stdout, b": fails");
-            say_number(stdout, n as u64);
-            say(stdout, b"\n");
+        Ok(Judged::Holds) => say!(stdout, ": holds\n"),
+        Ok(Judged::Fails(n)) => {
+            say!(stdout, ": fails {n}\n");
             say_records(stdout, out, n);
         }
-        Judged::Refused(r) => {
-            say_refused(stdout, r);
-            say(stdout, b"\n");
-        }
+        Err(r) => say_refused(stdout, r),
     }
 }
 
-pub(crate) fn say_compared(stdout: &mut Buffered, answer: Compared, out: &[u8]) {
+pub(crate) fn say_compared(stdout: &mut Buffered, answer: Result<Compared, Refusal>, out: &[u8]) {
     match answer {
-        Compared::Yes => {
-            say(stdout, b": yes\n");
+        Ok(Compared::Yes) => {
+            say!(stdout, ": yes\n");
             say_lines(stdout, out);
         }
-        Compared::No(g) => {
-            say(stdout, b": no");
-            say_number(stdout, g as u64);
-            say(stdout, b"\n");
+        Ok(Compared::No(g)) => {
+            say!(stdout, ": no {g}\n");
             say_lines(stdout, out);
         }
-        Compared::Refused(r) => {
-            say_refused(stdout, r);
-            say(stdout, b"\n");
-        }
+        Err(r) => say_refused(stdout, r),
     }
 }
 
-// A graph of so many nodes and edges that stands in the output.
-fn say_written(stdout: &mut Buffered, nodes: usize, edges: usize, out: &[u8]) {
-    say(stdout, b": written");
-    say_number(stdout, nodes as u64);
-    say_number(stdout, edges as u64);
-    say(stdout, b"\n");
-    say_graph(stdout, out, nodes, edges);
-}
-
-pub(crate) fn say_modelled(stdout: &mut Buffered, answer: Modelled, out: &[u8]) {
+// A graph that was written: a model, or the standing graph.
+pub(crate) fn say_written(stdout: &mut Buffered, answer: Result<GraphView, Refusal>, out: &[u8]) {
     match answer {
-        Modelled::Written(nodes, edges) => say_written(stdout, nodes, edges, out),
-        Modelled::Refused(r) => {
-            say_refused(stdout, r);
-            say(stdout, b"\n");
-        }
-    }
-}
-
-pub(crate) fn say_assembled(stdout: &mut Buffered, answer: Assembled, out: &[u8]) {
-    match answer {
-        Assembled::Written { nodes, edges } => say_written(stdout, nodes, edges, out),
-        Assembled::Refused(r) => {
-            say_refused(stdout, r);
-            say(stdout, b"\n");
-        }
-    }
-}
-
-pub(crate) fn say_joined(stdout: &mut Buffered, answer: Joined, out: &[u8]) {
-    match answer {
-        Joined::Written {
-            nodes,
-            edges,
-            provided,
-            required,
-        } => {
-            say(stdout, b": written");
-            say_number(stdout, nodes as u64);
-            say_number(stdout, edges as u64);
-            say_number(stdout, provided as u64);
-            say_number(stdout, required as u64);
-            say(stdout, b"\n");
+        Ok(GraphView { nodes, edges }) => {
+            say!(stdout, ": written {nodes} {edges}\n");
             say_graph(stdout, out, nodes, edges);
         }
-        Joined::Refused(r) => {
-            say_refused(stdout, r);
-            say(stdout, b"\n");
-        }
+        Err(r) => say_refused(stdout, r),
     }
 }
 
-pub(crate) fn say_watched(stdout: &mut Buffered, answer: Verdict, out: &[u8]) {
+pub(crate) fn say_joined(stdout: &mut Buffered, answer: Result<Joined, Refusal>, out: &[u8]) {
     match answer {
-        Verdict::Clean => say(stdout, b": clean\n"),
-        Verdict::Bad(n) => {
-            say(stdout, b": bad");
-            say_number(stdout, n as u64);
-            say(stdout, b"\n");
+        Ok(
+            Joined {
+                nodes,
+                edges,
+                provided,
+                required,
+            },
+        ) => {
+            say!(stdout, ": written {nodes} {edges} {provided} {required}\n");
+            say_graph(stdout, out, nodes, edges);
+        }
+        Err(r) => say_refused(stdout, r),
+    }
+}
+
+pub(crate) fn say_watched(stdout: &mut Buffered, answer: Result<Verdict, Refusal>, out: &[u8]) {
+    match answer {
+        Ok(Verdict::Clean) => say!(stdout, ": clean\n"),
+        Ok(Verdict::Bad(n)) => {
+            say!(stdout, ": bad {n}\n");
             say_records(stdout, out, n);
         }
-        Verdict::Refused(r) => {
-            say_refused(stdout, r);
-            say(stdout, b"\n");
-        }
-        Verdict::Impossible => say(stdout, b": impossible\n"),
+        Ok(Verdict::Impossible) => say!(stdout, ": impossible\n"),
+        Err(r) => say_refused(stdout, r),
     }
 }

@@ -1,76 +1,36 @@
 // Examples of deliveries: assembling what stands of them, and judging it.
-ghost use Rattle.std.specs.Prelude.{◌≤◌, length};
-
-use crate::answers::{say_assembled, say_judged};
-use crate::lengths::{OUTPUT, two_bytes, work_buffer, work_length};
-use files::record::Record;
+use crate::answers::{say_judged, say_written};
+use crate::lengths::{OUTPUT, lent, two_bytes};
+use judging::shape::Shape;
 use printing::stdout::Buffered;
-
-fn assemble_on(stdout: &mut Buffered, deliveries: &[u8], out: &mut [u8], room: usize)
-    requires { room ≤ length out.old }
-{
-    let answer = files::assemble(deliveries, &mut out[..room]);
-    say_assembled(stdout, answer, &out[..room]);
-}
+use printing::zeros;
 
 // Assembling. The example starts with the output's length, two bytes, low byte first; the deliveries follow.
 pub(crate) fn assemble_standing(stdout: &mut Buffered, example: &[u8]) {
-    if example.len() < 2 {
+    let Some((head, deliveries)) = example.split_first_chunk::<2>() else {
         return;
-    }
-    let room = two_bytes(example, 0);
-    let mut out = [0u8; OUTPUT];
-    assemble_on(stdout, &example[2..], &mut out, room);
-}
-
-fn judge_on(
-    stdout: &mut Buffered,
-    deliveries: &[u8],
-    property: &[u8],
-    out: &mut [u8],
-    store: &mut [u8],
-    work: &mut [u8],
-    room: usize,
-    held: usize,
-    lent: usize,
-)
-    requires { (room ≤ length out.old) × ((held ≤ length store.old) × (lent ≤ length work.old)) }
-{
-    let answer = judging::judge_deliveries(
-        deliveries,
-        property,
-        &mut out[..room],
-        &mut store[..held],
-        &mut work[..lent],
-    );
-    say_judged(stdout, answer, &out[..room]);
+    };
+    let mut out = zeros::<OUTPUT>();
+    let out = &mut out[..two_bytes(head, 0) as usize];
+    let answer = files::assemble(deliveries, out);
+    say_written(stdout, answer, out);
 }
 
 // Judging. The example starts with the lengths of the deliveries and of the output, two bytes each, low byte first, then 1 for a store of the published length or 0
 // for none, and the same for a work buffer; the deliveries and the property follow.
 pub(crate) fn judge_standing(stdout: &mut Buffered, example: &[u8]) {
-    if example.len() < Record::LEN {
+    let Some((head, files)) = example.split_first_chunk::<6>() else {
         return;
-    }
-    let split = Record::LEN + two_bytes(example, 0);
-    let room = two_bytes(example, 2);
-    let held = work_length(b'd', example[4]);
-    let lent = work_length(b'j', example[5]);
-    if example.len() < split {
+    };
+    let Some((deliveries, property)) = files.split_at_checked(two_bytes(head, 0) as usize) else {
         return;
-    }
-    let mut out = [0u8; OUTPUT];
-    let mut store = work_buffer();
-    let mut work = work_buffer();
-    judge_on(
-        stdout,
-        &example[Record::LEN..split],
-        &example[split..],
-        &mut out,
-        &mut store,
-        &mut work,
-        room,
-        held,
-        lent,
-    );
+    };
+    let mut out = zeros::<OUTPUT>();
+    let mut store = zeros::<{ Shape::STORE }>();
+    let mut work = zeros::<{ Shape::ROOM }>();
+    let out = &mut out[..two_bytes(head, 2) as usize];
+    let store = lent(&mut store, head[4]);
+    let work = lent(&mut work, head[5]);
+    let answer = judging::judge_deliveries(deliveries, property, out, store, work);
+    say_judged(stdout, answer, out);
 }

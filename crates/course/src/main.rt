@@ -8,12 +8,13 @@
 use crate::answers::say_checked;
 use crate::deliveries::{assemble_standing, judge_standing};
 use crate::lengths::EXAMPLE;
-use crate::pairs::{call, check};
+use crate::pairs::{compare, judge, model};
 use crate::sides::{join_sides, show_node};
-use crate::watched::{compose_sides, watch_runs};
+use crate::watched::{compose_both, compose_one, watch_runs};
+use files::offence::FileKind;
 use printing::input::{arg, arg_count, buffer, open_read, read_full};
-use printing::stdout::{Buffered, finish, stdout};
-use printing::{end_of, say};
+use printing::stdout::Buffered;
+use printing::{first, zeros};
 use std::io;
 use std::io::{Cursor, Write};
 
@@ -24,45 +25,32 @@ mod pairs;
 mod sides;
 mod watched;
 
-// Runs an example by the first, second and fifth letter of its name.
-fn run(stdout: &mut Buffered, first: u8, second: u8, fifth: u8, file: &[u8]) {
-    if (first == b'j') & (second == b'o') {
-        join_sides(stdout, file);
-        return;
+// Runs an example by the letters of its name.
+fn run(stdout: &mut Buffered, name: &[u8], file: &[u8]) {
+    match name {
+        [b'j', b'o', ..] => join_sides(stdout, file),
+        [b'j', ..] => judge(stdout, file),
+        [b'c', _, _, _, b'o', ..] => compose_one(stdout, file),
+        [b'c', ..] => compare(stdout, file),
+        [b'm', ..] => model(stdout, file),
+        [b's', ..] => show_node(stdout, file),
+        [b'w', ..] => watch_runs(stdout, file),
+        [b'b', ..] => compose_both(stdout, file),
+        [b'a', ..] => assemble_standing(stdout, file),
+        [b'd', ..] => judge_standing(stdout, file),
+        [b'g', ..] => say_checked(stdout, FileKind::Graph, file),
+        [b'p', ..] => say_checked(stdout, FileKind::Property, file),
+        [b'r', ..] => say_checked(stdout, FileKind::Rules, file),
+        _ => say_checked(stdout, FileKind::Interface, file),
     }
-    if first == b's' {
-        show_node(stdout, file);
-        return;
-    }
-    if first == b'w' {
-        watch_runs(stdout, file);
-        return;
-    }
-    if ((first == b'c') & (fifth == b'o')) | (first == b'b') {
-        compose_sides(stdout, first == b'b', file);
-        return;
-    }
-    if first == b'a' {
-        assemble_standing(stdout, file);
-        return;
-    }
-    if first == b'd' {
-        judge_standing(stdout, file);
-        return;
-    }
-    if (first == b'j') | (first == b'c') | (first == b'm') {
-        call(stdout, first, file);
-        return;
-    }
-    say_checked(stdout, check(first, file));
 }
 
 // A line on standard error: the name and what is wrong with it, in C's words, behind which std puts the error's number.
 fn fail(rt: HostRuntime, name: &[u8], why: io::Error) {
     let mut text = Cursor::new([0u8; 256]);
     let _ = write!(text, "{why}");
-    let end = end_of(text.get_ref(), text.position() as usize);
-    let words = std::str::from_utf8(&text.get_ref()[..end]).unwrap_or("");
+    let written = first(text.get_ref(), text.position() as usize);
+    let words = std::str::from_utf8(written).unwrap_or("");
     let words = words
         .split_once(" (os error ")
         .map_or(words, |(words, _)| words);
@@ -75,24 +63,24 @@ fn fail(rt: HostRuntime, name: &[u8], why: io::Error) {
 
 // The example that argument i names.
 fn one(stdout: &mut Buffered, i: usize) {
-    let mut name = buffer();
-    let length = arg(stdout.rt, i, &mut name);
-    match open_read(stdout.rt, &name[..length]) {
-        Err(why) => fail(stdout.rt, &name[..length], why),
+    let mut room = buffer();
+    let name = arg(stdout.rt, i, &mut room);
+    match open_read(stdout.rt, name) {
+        Err(why) => fail(stdout.rt, name, why),
         Ok(mut opened) => {
-            let mut file = [0u8; EXAMPLE];
-            let n = read_full(&mut opened, &mut file);
-            say(stdout, &name[..length]);
-            run(stdout, name[0], name[1], name[4], &file[..n]);
+            let mut file = zeros::<EXAMPLE>();
+            let file = read_full(&mut opened, &mut file);
+            stdout.put_all(name);
+            run(stdout, name, file);
         }
     }
 }
 
 fn main(rt: HostRuntime) -> io::Result<()> {
     let n = arg_count(rt);
-    let mut stdout = stdout(rt);
+    let mut stdout = Buffered::new(rt);
     for i in 1..n {
         one(&mut stdout, i);
     }
-    finish(stdout)
+    stdout.finish()
 }

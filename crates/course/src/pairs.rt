@@ -1,73 +1,64 @@
-// Examples of one file, which is checked, and of two: judging, comparing and modelling.
-ghost use Rattle.std.specs.Prelude.{◌≤◌, length};
-
-use crate::answers::{say_compared, say_judged, say_modelled};
-use crate::lengths::{OUTPUT, two_bytes, work_buffer, work_length};
-use files::check::Checked;
-use files::record::{Limits, Record};
+// Examples of two files: judging, comparing and modelling.
+use crate::answers::{say_compared, say_judged, say_written};
+use crate::lengths::{OUTPUT, lent, two_bytes};
+use judging::shape::Shape;
+use judging::sizes::Sizes;
+use maximal::places::Places;
 use printing::stdout::Buffered;
+use printing::zeros;
 
-pub(crate) fn check(letter: u8, file: &[u8]) -> Checked {
-    if letter == b'g' {
-        return files::check::check_graph(file, 1, Limits::desk());
-    }
-    if letter == b'p' {
-        return files::check::check_property(file, 1, Limits::desk());
-    }
-    if letter == b'r' {
-        return files::check::check_rules(file, 1, Limits::desk());
-    }
-    files::check::check_interface(file, 1, Limits::desk())
+// Two files, the output's length, and 1 for a work buffer of the published length or 0 for none.
+#[derive(Clone, Copy)]
+struct Pair<'a> {
+    first: &'a [u8],
+    second: &'a [u8],
+    room: u16,
+    flag: u8,
 }
 
-fn call_on(
-    stdout: &mut Buffered,
-    letter: u8,
-    first: &[u8],
-    second: &[u8],
-    out: &mut [u8],
-    work: &mut [u8],
-    room: usize,
-    lent: usize,
-)
-    requires { (room ≤ length out.old) × (lent ≤ length work.old) }
-{
-    if letter == b'j' {
-        let answer = judging::judge(first, second, &mut out[..room], &mut work[..lent]);
-        say_judged(stdout, answer, &out[..room]);
-        return;
+impl<'a> Pair<'a> {
+    // The example starts with the first file's length and the output's length, two bytes each, low byte first, then the flag, then 0; the first file and the second follow.
+    fn of(example: &'a [u8]) -> Option<Self> {
+        let (head, files) = example.split_first_chunk::<6>()?;
+        let (first, second) = files.split_at_checked(two_bytes(head, 0) as usize)?;
+        Some(Pair {
+            first,
+            second,
+            room: two_bytes(head, 2),
+            flag: head[4],
+        })
     }
-    if letter == b'm' {
-        let answer = maximal::model(first, second, &mut out[..room], &mut work[..lent]);
-        say_modelled(stdout, answer, &out[..room]);
-        return;
-    }
-    let answer = judging::compare(first, second, &mut out[..room], &mut work[..lent]);
-    say_compared(stdout, answer, &out[..room]);
 }
 
-// A call on two files. The example starts with the first file's length and the output's length, two bytes each, low byte first, then 1 for a work buffer of the
-// published length or 0 for none, then 0; the first file and the second follow.
-pub(crate) fn call(stdout: &mut Buffered, letter: u8, example: &[u8]) {
-    if example.len() < Record::LEN {
+pub(crate) fn judge(stdout: &mut Buffered, example: &[u8]) {
+    let Some(pair) = Pair::of(example) else {
         return;
-    }
-    let split = Record::LEN + two_bytes(example, 0);
-    let room = two_bytes(example, 2);
-    let lent = work_length(letter, example[4]);
-    if example.len() < split {
+    };
+    let mut out = zeros::<OUTPUT>();
+    let mut work = zeros::<{ Shape::ROOM }>();
+    let out = &mut out[..pair.room as usize];
+    let answer = judging::judge(pair.first, pair.second, out, lent(&mut work, pair.flag));
+    say_judged(stdout, answer, out);
+}
+
+pub(crate) fn compare(stdout: &mut Buffered, example: &[u8]) {
+    let Some(pair) = Pair::of(example) else {
         return;
-    }
-    let mut out = [0u8; OUTPUT];
-    let mut work = work_buffer();
-    call_on(
-        stdout,
-        letter,
-        &example[Record::LEN..split],
-        &example[split..],
-        &mut out,
-        &mut work,
-        room,
-        lent,
-    );
+    };
+    let mut out = zeros::<OUTPUT>();
+    let mut work = zeros::<{ Sizes::ROOM }>();
+    let out = &mut out[..pair.room as usize];
+    let answer = judging::compare(pair.first, pair.second, out, lent(&mut work, pair.flag));
+    say_compared(stdout, answer, out);
+}
+
+pub(crate) fn model(stdout: &mut Buffered, example: &[u8]) {
+    let Some(pair) = Pair::of(example) else {
+        return;
+    };
+    let mut out = zeros::<OUTPUT>();
+    let mut work = zeros::<{ Places::ROOM }>();
+    let out = &mut out[..pair.room as usize];
+    let answer = maximal::model(pair.first, pair.second, out, lent(&mut work, pair.flag));
+    say_written(stdout, answer, out);
 }

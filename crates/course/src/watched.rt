@@ -1,158 +1,114 @@
 // Examples that are watched: a graph with its rules, a known side with the property of the other one, or two sides of which only properties are known.
-ghost use Rattle.std.specs.Prelude.{◌≤◌, length};
-
 use crate::answers::say_watched;
-use crate::lengths::{OUTPUT, two_bytes, work_buffer, work_length};
+use crate::lengths::{OUTPUT, lent, two_bytes};
+use maximal::places::Places;
 use printing::stdout::Buffered;
-use runs::answers::Verdict;
-
-fn watch_on(
-    stdout: &mut Buffered,
-    interface: &[u8],
-    graph: &[u8],
-    rules: &[u8],
-    start: u8,
-    out: &mut [u8],
-    work: &mut [u8],
-    room: usize,
-    lent: usize,
-)
-    requires { (room ≤ length out.old) × (lent ≤ length work.old) }
-{
-    let answer = runs::watch(
-        interface,
-        graph,
-        rules,
-        start,
-        &mut out[..room],
-        &mut work[..lent],
-    );
-    say_watched(stdout, answer, &out[..room]);
-}
+use printing::zeros;
+use runs::regions::Regions;
 
 // Watching. The example starts with the lengths of the first two files and of the output, two bytes each, low byte first, then 1 for a work buffer of the published
 // length or 0 for none, and the start method; the three files follow.
 pub(crate) fn watch_runs(stdout: &mut Buffered, example: &[u8]) {
-    if example.len() < 8 {
+    let Some((head, files)) = example.split_first_chunk::<8>() else {
         return;
-    }
-    let first = 8 + two_bytes(example, 0);
-    let second = first + two_bytes(example, 2);
-    let room = two_bytes(example, 4);
-    let lent = work_length(b'w', example[6]);
-    if example.len() < second {
+    };
+    let Some((interface, files)) = files.split_at_checked(two_bytes(head, 0) as usize) else {
         return;
-    }
-    let mut out = [0u8; OUTPUT];
-    let mut work = work_buffer();
-    watch_on(
-        stdout,
-        &example[8..first],
-        &example[first..second],
-        &example[second..],
-        example[7],
-        &mut out,
-        &mut work,
-        room,
-        lent,
-    );
+    };
+    let Some((graph, rules)) = files.split_at_checked(two_bytes(head, 2) as usize) else {
+        return;
+    };
+    let mut out = zeros::<OUTPUT>();
+    let mut work = zeros::<{ Regions::ROOM }>();
+    let out = &mut out[..two_bytes(head, 4) as usize];
+    let work = lent(&mut work, head[6]);
+    let answer = runs::watch(interface, graph, rules, head[7], out, work);
+    say_watched(stdout, answer, out);
 }
 
-// The call on five files. Of the first side the second file is the graph, or the property where both sides are unwritten.
-fn composed(
-    both: bool,
-    interface1: &[u8],
-    first: &[u8],
-    interface2: &[u8],
-    property2: &[u8],
-    rules: &[u8],
+// An example of a composed verdict: both sides' files and the rules, the output's length, 1 for a store of the published length or 0 for none, the same for a work buffer, and
+// the start method. Of the first side the second file is the graph, or the property where both sides are unwritten.
+#[derive(Clone, Copy)]
+struct Composition<'a> {
+    interface1: &'a [u8],
+    first: &'a [u8],
+    interface2: &'a [u8],
+    property2: &'a [u8],
+    rules: &'a [u8],
+    room: u16,
+    store: u8,
+    work: u8,
     start: u8,
-    out: &mut [u8],
-    store: &mut [u8],
-    work: &mut [u8],
-) -> Verdict {
-    if both {
-        runs::compose_both(
-            interface1, first, interface2, property2, rules, start, out, store, work,
-        )
-    } else {
-        runs::compose(
-            interface1, first, interface2, property2, rules, start, out, store, work,
-        )
+}
+
+impl<'a> Composition<'a> {
+    // The example starts with the lengths of the first four files and of the output, two bytes each, low byte first, then both flags and the start method; the five files follow.
+    fn of(example: &'a [u8]) -> Option<Self> {
+        let (head, files) = example.split_first_chunk::<13>()?;
+        let (interface1, files) = files.split_at_checked(two_bytes(head, 0) as usize)?;
+        let (first, files) = files.split_at_checked(two_bytes(head, 2) as usize)?;
+        let (interface2, files) = files.split_at_checked(two_bytes(head, 4) as usize)?;
+        let (property2, rules) = files.split_at_checked(two_bytes(head, 6) as usize)?;
+        Some(Composition {
+            interface1,
+            first,
+            interface2,
+            property2,
+            rules,
+            room: two_bytes(head, 8),
+            store: head[10],
+            work: head[11],
+            start: head[12],
+        })
     }
 }
 
-fn compose_on(
-    stdout: &mut Buffered,
-    both: bool,
-    interface1: &[u8],
-    first: &[u8],
-    interface2: &[u8],
-    property2: &[u8],
-    rules: &[u8],
-    start: u8,
-    out: &mut [u8],
-    store: &mut [u8],
-    work: &mut [u8],
-    room: usize,
-    held: usize,
-    lent: usize,
-)
-    requires { (room ≤ length out.old) × ((held ≤ length store.old) × (lent ≤ length work.old)) }
-{
-    let answer = composed(
-        both,
-        interface1,
-        first,
-        interface2,
-        property2,
-        rules,
-        start,
-        &mut out[..room],
-        &mut store[..held],
-        &mut work[..lent],
-    );
-    say_watched(stdout, answer, &out[..room]);
-}
-
-// The letter of the store's published length.
-fn store_letter(both: bool) -> u8 {
-    if both { b'b' } else { b'w' }
-}
-
-// The composed verdict. The example starts with the lengths of the first four files and of the output, two bytes each, low byte first, then 1 for a store of the
-// published length or 0 for none, the same for a work buffer, and the start method; the five files follow.
-pub(crate) fn compose_sides(stdout: &mut Buffered, both: bool, example: &[u8]) {
-    if example.len() < 13 {
+// The composed verdict of one unwritten side.
+pub(crate) fn compose_one(stdout: &mut Buffered, example: &[u8]) {
+    let Some(c) = Composition::of(example) else {
         return;
-    }
-    let first = 13 + two_bytes(example, 0);
-    let second = first + two_bytes(example, 2);
-    let third = second + two_bytes(example, 4);
-    let fourth = third + two_bytes(example, 6);
-    let room = two_bytes(example, 8);
-    let held = work_length(store_letter(both), example[10]);
-    let lent = work_length(b'm', example[11]);
-    if example.len() < fourth {
-        return;
-    }
-    let mut out = [0u8; OUTPUT];
-    let mut store = work_buffer();
-    let mut work = work_buffer();
-    compose_on(
-        stdout,
-        both,
-        &example[13..first],
-        &example[first..second],
-        &example[second..third],
-        &example[third..fourth],
-        &example[fourth..],
-        example[12],
-        &mut out,
-        &mut store,
-        &mut work,
-        room,
-        held,
-        lent,
+    };
+    let mut out = zeros::<OUTPUT>();
+    let mut store = zeros::<{ Regions::ROOM }>();
+    let mut work = zeros::<{ Places::ROOM }>();
+    let out = &mut out[..c.room as usize];
+    let store = lent(&mut store, c.store);
+    let work = lent(&mut work, c.work);
+    let answer = runs::compose(
+        c.interface1,
+        c.first,
+        c.interface2,
+        c.property2,
+        c.rules,
+        c.start,
+        out,
+        store,
+        work,
     );
+    say_watched(stdout, answer, out);
+}
+
+// The composed verdict of two unwritten sides.
+pub(crate) fn compose_both(stdout: &mut Buffered, example: &[u8]) {
+    let Some(c) = Composition::of(example) else {
+        return;
+    };
+    let mut out = zeros::<OUTPUT>();
+    let mut store = zeros::<{ Regions::TWO_GRAPHS }>();
+    let mut work = zeros::<{ Places::ROOM }>();
+    let out = &mut out[..c.room as usize];
+    let store = lent(&mut store, c.store);
+    let work = lent(&mut work, c.work);
+    let answer = runs::compose_both(
+        c.interface1,
+        c.first,
+        c.interface2,
+        c.property2,
+        c.rules,
+        c.start,
+        out,
+        store,
+        work,
+    );
+    say_watched(stdout, answer, out);
 }

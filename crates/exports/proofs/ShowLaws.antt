@@ -1,4 +1,5 @@
 -- What the boundary gives back where a call's result goes to an output of its own: its refusal, 12 where the result does not fit, or the result written; and what is shown at a place that was found.
+use Rattle.std.specs.Prelude.{Result, Err}
 use mathlib.Core.Path.{◌≡◌, sym, ap, subst, ◌∙◌}
 use mathlib.Core.Bool.{Bool, true, false, cond}
 use mathlib.Core.List.{List}
@@ -16,7 +17,6 @@ use Rattle.files.specs.declared.refusal.Refusal.{Refusal}
 use Rattle.runs.specs.Showing.{part_said, shown, outcome_at, InFile, Stands, found_place}
 use Rattle.runs.specs.Showing.Work.{stands_found}
 use Rattle.runs.specs.declared.showing.Place.{Place}
-use Rattle.runs.specs.declared.showing.Place.TheVariants.{Refused}
 use Rattle.exports.specs.Boundary.{refused_numbers, answer_numbers, GivesOut, fitting}
 use Rattle.exports.specs.declared.Answer.{Answer}
 
@@ -49,22 +49,22 @@ module _ (out : List ℕ) (s : Said) where
 
 -- ---- what is shown, at the place that was found within the limits of the desk
 
-module _ (L : Limits) (limits : L ≡ desk) (g1 g2 : List ℕ) (number : ℕ) (p : Place) (found : p ≡ found_place L g1 g2 number) where
+module _ (L : Limits) (limits : L ≡ desk) (g1 g2 : List ℕ) (number : ℕ) (p : Result Place Refusal) (found : p ≡ found_place L g1 g2 number) where
   abbrev o : Outcome
   o = shown desk g1 g2 number
 
-  at : (q : Place) → p ≡ q → Stands o g1 g2 q
+  at : (q : Result Place Refusal) → p ≡ q → Stands o g1 g2 q
   at q e =
       let there : found_place desk g1 g2 number ≡ q = sym (ap (λ (M : Limits). found_place M g1 g2 number) limits) ∙ sym found ∙ e in
       subst (Stands o g1 g2) there (stands_found desk g1 g2 number)
 
-  pub in_file : (q : Place) → p ≡ q → InFile g1 g2 q
+  pub in_file : (q : Result Place Refusal) → p ≡ q → InFile g1 g2 q
   in_file q e = (at q e).1
 
-  pub nowhere_given : (out : List ℕ) (r : Refusal) (a : Answer) → p ≡ Refused r → a ≡ refused_numbers r → GivesOut (fitting (length out) o) out out a
-  nowhere_given out r a e = refusal_given (fitting (length out) o) out r a (ap (fitting (length out)) (at (Refused r) e).0)
+  pub nowhere_given : (out : List ℕ) (r : Refusal) (a : Answer) → p ≡ Err r → a ≡ refused_numbers r → GivesOut (fitting (length out) o) out out a
+  nowhere_given out r a e = refusal_given (fitting (length out) o) out r a (ap (fitting (length out)) (at (Err r) e).0)
 
   -- what is given of the bytes that stand there is given of the outcome
-  pub shown_given : (q : Place) (bytes out out' : List ℕ) (a : Answer) → p ≡ q → outcome_at g1 g2 q ≡ says (part_said bytes)
+  pub shown_given : (q : Result Place Refusal) (bytes out out' : List ℕ) (a : Answer) → p ≡ q → outcome_at g1 g2 q ≡ says (part_said bytes)
       → GivesOut (fitting (length out) (says (part_said bytes))) out out' a → GivesOut (fitting (length out) o) out out' a
   shown_given q bytes out out' a e d = subst (λ (x : Outcome). GivesOut (fitting (length out) x) out out' a) (sym ((at q e).0 ∙ d))

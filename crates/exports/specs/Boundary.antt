@@ -1,9 +1,7 @@
 -- What the C boundary gives back: each answer as six numbers, through one definition for each type of answer.
-use Rattle.std.specs.Prelude.{◌≡◌, cond, List, ℕ, eqb, ltb, length, get_or}
-use Rattle.files.specs.declared.check.Checked.{Checked}
-use Rattle.files.specs.declared.check.Checked.TheVariants.{Accepted, Refused}
+use Rattle.std.specs.Prelude.{◌≡◌, cond, List, ℕ, eqb, ltb, length, get_or, Ok, Err}
 use Rattle.files.specs.declared.refusal.Refusal.{Refusal}
-use Rattle.files.specs.Outcome.{Outcome, refuses, says, refusal_at, answer, out_after, work_after}
+use Rattle.files.specs.Outcome.{Checked, Outcome, refuses, says, refusal_at, answer, out_after, work_after}
 use Rattle.files.specs.Outcome as outcome
 use Rattle.judging.specs.Delivered.{deliveries_store}
 use Rattle.judging.specs.Places.{judge_room, compare_room}
@@ -23,8 +21,8 @@ verdict_numbers v a b c d = record { verdict = v; number = 0; first = a; second 
 
 -- a file accepted is verdict 1 with its nodes and its records
 abbrev pub checked_numbers : Checked → Answer
-checked_numbers (Accepted nodes records) = verdict_numbers 1 nodes records 0 0
-checked_numbers (Refused r) = refused_numbers r
+checked_numbers (Ok c) = verdict_numbers 1 c.nodes c.records 0 0
+checked_numbers (Err r) = refused_numbers r
 
 -- an answer of any call as six numbers: its values from first on, 0 where it has no more
 abbrev pub answer_numbers : outcome.Answer → Answer

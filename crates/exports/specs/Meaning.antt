@@ -1,14 +1,13 @@
 -- What the six numbers of each call at the C boundary mean: what the returned value of the call behind it means, told in numbers. The only hypothesis is what the
 -- contract of the export states, of the answer and of the exit bytes.
-use Rattle.std.specs.Prelude.{◌≡◌, refl, List, [], ◌∷◌, ℕ, length}
+use Rattle.files.specs.declared.refusal.Refusal.{Refusal}
+use Rattle.std.specs.Prelude.{◌≡◌, refl, List, [], ◌∷◌, ℕ, length, Result, Ok, Err}
 use Rattle.std.proofs.Common.{sym, ap, subst, ◌∙◌}
-use Rattle.files.specs.Assemble.{assembled_outcome, assembled_answer}
+use Rattle.files.specs.Assemble.{Assembled, assembled_outcome, assembled_answer}
 use Rattle.files.specs.Assemble.Meaning.{AssembleMeans, assembled_of, assemble_case, assemble_tells}
 use Rattle.files.specs.Limits.{desk}
 use Rattle.files.specs.Outcome as outcome
 use Rattle.files.specs.Outcome.Meaning.{Heard}
-use Rattle.files.specs.declared.answers.Assembled.{Assembled}
-use Rattle.files.specs.declared.answers.Assembled.TheVariants as assembled_variants
 use Rattle.judging.specs.Compare.{compared, compared_answer}
 use Rattle.judging.specs.Compare.Meaning.{CompareMeans, compared_of, compare_case, compare_tells}
 use Rattle.judging.specs.Delivered.{delivered}
@@ -21,11 +20,9 @@ use Rattle.judging.specs.declared.answers.Compared.{Compared}
 use Rattle.judging.specs.declared.answers.Compared.TheVariants as compared_variants
 use Rattle.judging.specs.declared.answers.Judged.{Judged}
 use Rattle.judging.specs.declared.answers.Judged.TheVariants as judged_variants
-use Rattle.maximal.specs.Modelling.{modelled, modelled_answer}
+use Rattle.maximal.specs.Modelling.{Modelled, modelled, modelled_answer}
 use Rattle.maximal.specs.Modelling.Meaning.{ModelMeans, modelled_of, model_case}
 use Rattle.maximal.proofs.Theorems.Modelling.Meaning.{model_tells}
-use Rattle.maximal.specs.declared.answers.Modelled.{Modelled}
-use Rattle.maximal.specs.declared.answers.Modelled.TheVariants as modelled_variants
 use Rattle.runs.specs.Answer.{watched_answer, verdict_of}
 use Rattle.runs.specs.Composing.{composed}
 use Rattle.runs.specs.Composing.Meaning.{ComposeMeans, compose_case}
@@ -39,7 +36,6 @@ use Rattle.runs.specs.Watching.{watched}
 use Rattle.runs.specs.Watching.Meaning.{WatchMeans, watch_case}
 use Rattle.runs.proofs.Theorems.Watching.Meaning.{watch_tells}
 use Rattle.runs.specs.declared.answers.Joined.{Joined}
-use Rattle.runs.specs.declared.answers.Joined.TheVariants as joined_variants
 use Rattle.runs.specs.declared.answers.Verdict.{Verdict}
 use Rattle.runs.specs.declared.answers.Verdict.TheVariants as verdict_variants
 use Rattle.exports.specs.Boundary.{answer_numbers, Gives, GivesBoth, GivesOut}
@@ -53,28 +49,28 @@ abbrev pub as_answer : Answer → outcome.Answer
 as_answer a = record { verdict = a.verdict; number = a.number; values = a.first ∷ a.second ∷ a.third ∷ a.fourth ∷ [] }
 
 -- judging: verdict 1 holds; 2 fails, with the records of the sheet
-abbrev pub judged_numbers : Judged → Answer
+abbrev pub judged_numbers : Result Judged Refusal → Answer
 judged_numbers c = answer_numbers (judged_answer c)
 
 judged_heard : Heard judged_numbers
 judged_heard = record { hear = λ a. judged_of (as_answer a); hears = back }
   where
-    back : (c : Judged) → judged_of (as_answer (judged_numbers c)) ≡ c
-    back judged_variants.Holds = refl
-    back (judged_variants.Fails n) = refl
-    back (judged_variants.Refused x) = refl
+    back : (c : Result Judged Refusal) → judged_of (as_answer (judged_numbers c)) ≡ c
+    back (Ok judged_variants.Holds) = refl
+    back (Ok (judged_variants.Fails n)) = refl
+    back (Err x) = refl
 
 -- comparing: verdict 1 yes; 2 no, with the lowest uncovered entry
-abbrev pub compared_numbers : Compared → Answer
+abbrev pub compared_numbers : Result Compared Refusal → Answer
 compared_numbers c = answer_numbers (compared_answer c)
 
 compared_heard : Heard compared_numbers
 compared_heard = record { hear = λ a. compared_of (as_answer a); hears = back }
   where
-    back : (c : Compared) → compared_of (as_answer (compared_numbers c)) ≡ c
-    back compared_variants.Yes = refl
-    back (compared_variants.No n) = refl
-    back (compared_variants.Refused x) = refl
+    back : (c : Result Compared Refusal) → compared_of (as_answer (compared_numbers c)) ≡ c
+    back (Ok compared_variants.Yes) = refl
+    back (Ok (compared_variants.No n)) = refl
+    back (Err x) = refl
 
 -- modelling: verdict 1 written, with nodes and edges
 abbrev pub modelled_numbers : Modelled → Answer
@@ -84,8 +80,8 @@ modelled_heard : Heard modelled_numbers
 modelled_heard = record { hear = λ a. modelled_of (as_answer a); hears = back }
   where
     back : (c : Modelled) → modelled_of (as_answer (modelled_numbers c)) ≡ c
-    back (modelled_variants.Written n e) = refl
-    back (modelled_variants.Refused x) = refl
+    back (Ok v) = refl
+    back (Err x) = refl
 
 -- assembling: verdict 1 written, with nodes and edges
 abbrev pub assembled_numbers : Assembled → Answer
@@ -95,32 +91,32 @@ assembled_heard : Heard assembled_numbers
 assembled_heard = record { hear = λ a. assembled_of (as_answer a); hears = back }
   where
     back : (c : Assembled) → assembled_of (as_answer (assembled_numbers c)) ≡ c
-    back (assembled_variants.Written n e) = refl
-    back (assembled_variants.Refused x) = refl
+    back (Ok v) = refl
+    back (Err x) = refl
 
 -- joining: verdict 1 written, with nodes, edges, provided and required methods
-abbrev pub joined_numbers : Joined → Answer
+abbrev pub joined_numbers : Result Joined Refusal → Answer
 joined_numbers c = answer_numbers (joined_answer c)
 
 joined_heard : Heard joined_numbers
 joined_heard = record { hear = λ a. joined_of (as_answer a); hears = back }
   where
-    back : (c : Joined) → joined_of (as_answer (joined_numbers c)) ≡ c
-    back (joined_variants.Written n e p q) = refl
-    back (joined_variants.Refused x) = refl
+    back : (c : Result Joined Refusal) → joined_of (as_answer (joined_numbers c)) ≡ c
+    back (Ok v) = refl
+    back (Err x) = refl
 
 -- watching and the composed verdict: verdict 1 clean; 2 bad, with the records of the trail; 3 impossible, of composed verdicts only
-abbrev pub verdict_told : Verdict → Answer
+abbrev pub verdict_told : Result Verdict Refusal → Answer
 verdict_told c = answer_numbers (watched_answer c)
 
 verdict_heard : Heard verdict_told
 verdict_heard = record { hear = λ a. verdict_of (as_answer a); hears = back }
   where
-    back : (c : Verdict) → verdict_of (as_answer (verdict_told c)) ≡ c
-    back verdict_variants.Clean = refl
-    back (verdict_variants.Bad n) = refl
-    back (verdict_variants.Refused x) = refl
-    back verdict_variants.Impossible = refl
+    back : (c : Result Verdict Refusal) → verdict_of (as_answer (verdict_told c)) ≡ c
+    back (Ok verdict_variants.Clean) = refl
+    back (Ok (verdict_variants.Bad n)) = refl
+    back (Err x) = refl
+    back (Ok verdict_variants.Impossible) = refl
 
 -- ---- the calls (what is shown: Shown)
 

@@ -4,7 +4,7 @@
 ghost use Rattle.std.specs.Prelude.{◌≡◌, length};
 ghost use Rattle.files.specs.Limits.{desk};
 ghost use Rattle.files.specs.Refusal.{graph, property, rules, interface};
-ghost use Rattle.files.specs.Assemble.{assembled_outcome, assembled_answer};
+ghost use Rattle.files.specs.Assemble.{assembled_outcome};
 ghost use Rattle.files.specs.Checking.{checked};
 ghost use Rattle.files.specs.Outcome.{says};
 ghost use Rattle.judging.specs.Judge.{judged, judged_answer};
@@ -17,17 +17,17 @@ ghost use Rattle.runs.specs.Showing.{shown, part_said};
 ghost use Rattle.runs.specs.Answer.{watched_answer};
 ghost use Rattle.runs.specs.Unwritten.{composed_both};
 ghost use Rattle.runs.specs.Watching.{watched};
-ghost use Rattle.exports.specs.Boundary.{refused_numbers, checked_numbers, answer_numbers, Gives, GivesBoth, GivesOut, fitting, work_lengths};
+ghost use Rattle.exports.specs.Boundary.{refused_numbers, verdict_numbers, checked_numbers, answer_numbers, Gives, GivesBoth, GivesOut, fitting, work_lengths};
 
-use files::answers::Assembled;
 use files::cells::copy_at;
-use files::check::Checked;
+use files::check::{FileCounts, check};
+use files::offence::FileKind;
 use files::record::Limits;
 use files::refusal::Refusal;
+use files::view::GraphView;
 use judging::answers::{Compared, Judged};
 use judging::shape::Shape;
 use judging::sizes::Sizes;
-use maximal::answers::Modelled;
 use maximal::places::Places;
 use runs::answers::{Joined, Verdict};
 use runs::regions::Regions;
@@ -58,19 +58,25 @@ fn refused(r: Refusal) -> Answer
     }
 }
 
-fn checked_answer(c: Checked) -> Answer
+fn verdict(number: u32, first: u64, second: u64) -> Answer
+    ensures { result ≡ verdict_numbers number first second 0 0 }
+{
+    Answer {
+        verdict: number,
+        number: 0,
+        first,
+        second,
+        third: 0,
+        fourth: 0,
+    }
+}
+
+fn checked_answer(c: Result<FileCounts, Refusal>) -> Answer
     ensures { result ≡ checked_numbers c }
 {
     match c {
-        Checked::Accepted { nodes, records } => Answer {
-            verdict: 1,
-            number: 0,
-            first: nodes as u64,
-            second: records as u64,
-            third: 0,
-            fourth: 0,
-        },
-        Checked::Refused(r) => refused(r),
+        Ok(counts) => verdict(1, counts.nodes as u64, counts.records as u64),
+        Err(r) => refused(r),
     }
 }
 
@@ -79,7 +85,7 @@ fn checked_answer(c: Checked) -> Answer
 pub extern "C" fn tintboulder_check_graph(file: &[u8]) -> Answer
     ensures { result ≡ checked_numbers (checked desk graph file.now 1) }
 {
-    checked_answer(files::check::check_graph(file, 1, Limits::desk()))
+    checked_answer(check(FileKind::Graph, file, 1, Limits::desk()))
 }
 
 // Checks a property file.
@@ -87,7 +93,7 @@ pub extern "C" fn tintboulder_check_graph(file: &[u8]) -> Answer
 pub extern "C" fn tintboulder_check_property(file: &[u8]) -> Answer
     ensures { result ≡ checked_numbers (checked desk property file.now 1) }
 {
-    checked_answer(files::check::check_property(file, 1, Limits::desk()))
+    checked_answer(check(FileKind::Property, file, 1, Limits::desk()))
 }
 
 // Checks a rule file.
@@ -95,7 +101,7 @@ pub extern "C" fn tintboulder_check_property(file: &[u8]) -> Answer
 pub extern "C" fn tintboulder_check_rules(file: &[u8]) -> Answer
     ensures { result ≡ checked_numbers (checked desk rules file.now 1) }
 {
-    checked_answer(files::check::check_rules(file, 1, Limits::desk()))
+    checked_answer(check(FileKind::Rules, file, 1, Limits::desk()))
 }
 
 // Checks an interface file.
@@ -103,30 +109,16 @@ pub extern "C" fn tintboulder_check_rules(file: &[u8]) -> Answer
 pub extern "C" fn tintboulder_check_interface(file: &[u8]) -> Answer
     ensures { result ≡ checked_numbers (checked desk interface file.now 1) }
 {
-    checked_answer(files::check::check_interface(file, 1, Limits::desk()))
+    checked_answer(check(FileKind::Interface, file, 1, Limits::desk()))
 }
 
-fn judged_answer(j: Judged) -> Answer
+fn judged_answer(j: Result<Judged, Refusal>) -> Answer
     ensures { result ≡ answer_numbers (judged_answer j) }
 {
     match j {
-        Judged::Holds => Answer {
-            verdict: 1,
-            number: 0,
-            first: 0,
-            second: 0,
-            third: 0,
-            fourth: 0,
-        },
-        Judged::Fails(records) => Answer {
-            verdict: 2,
-            number: 0,
-            first: records as u64,
-            second: 0,
-            third: 0,
-            fourth: 0,
-        },
-        Judged::Refused(r) => refused(r),
+        Ok(Judged::Holds) => verdict(1, 0, 0),
+        Ok(Judged::Fails(records)) => verdict(2, records as u64, 0),
+        Err(r) => refused(r),
     }
 }
 
@@ -143,27 +135,13 @@ pub extern "C" fn tintboulder_judge(
     judged_answer(judging::judge(graph, property, out, work))
 }
 
-fn compared_answer(c: Compared) -> Answer
+fn compared_answer(c: Result<Compared, Refusal>) -> Answer
     ensures { result ≡ answer_numbers (compared_answer c) }
 {
     match c {
-        Compared::Yes => Answer {
-            verdict: 1,
-            number: 0,
-            first: 0,
-            second: 0,
-            third: 0,
-            fourth: 0,
-        },
-        Compared::No(entry) => Answer {
-            verdict: 2,
-            number: 0,
-            first: entry as u64,
-            second: 0,
-            third: 0,
-            fourth: 0,
-        },
-        Compared::Refused(r) => refused(r),
+        Ok(Compared::Yes) => verdict(1, 0, 0),
+        Ok(Compared::No(entry)) => verdict(2, entry as u64, 0),
+        Err(r) => refused(r),
     }
 }
 
@@ -180,19 +158,13 @@ pub extern "C" fn tintboulder_compare(
     compared_answer(judging::compare(first, second, out, work))
 }
 
-fn modelled_answer(m: Modelled) -> Answer
-    ensures { result ≡ answer_numbers (modelled_answer m) }
+// A graph that was written, as a model or the standing graph: verdict 1, its nodes and its edges.
+fn graph_answer(g: Result<GraphView, Refusal>) -> Answer
+    ensures { result ≡ answer_numbers (modelled_answer g) }
 {
-    match m {
-        Modelled::Written(nodes, edges) => Answer {
-            verdict: 1,
-            number: 0,
-            first: nodes as u64,
-            second: edges as u64,
-            third: 0,
-            fourth: 0,
-        },
-        Modelled::Refused(r) => refused(r),
+    match g {
+        Ok(view) => verdict(1, view.nodes as u64, view.edges as u64),
+        Err(r) => refused(r),
     }
 }
 
@@ -206,23 +178,7 @@ pub extern "C" fn tintboulder_model(
 ) -> Answer
     ensures { Gives (modelled desk interface.now property.now (length out.old) (length work.old)) out.old work.old out.new work.new result }
 {
-    modelled_answer(maximal::model(interface, property, out, work))
-}
-
-fn assembled_answer(a: Assembled) -> Answer
-    ensures { result ≡ answer_numbers (assembled_answer a) }
-{
-    match a {
-        Assembled::Written { nodes, edges } => Answer {
-            verdict: 1,
-            number: 0,
-            first: nodes as u64,
-            second: edges as u64,
-            third: 0,
-            fourth: 0,
-        },
-        Assembled::Refused(r) => refused(r),
-    }
+    graph_answer(maximal::model(interface, property, out, work))
 }
 
 // Assembles a file of deliveries: verdict 1 written, with nodes and edges of the standing graph; its graph file is written to `out`.
@@ -230,7 +186,7 @@ fn assembled_answer(a: Assembled) -> Answer
 pub extern "C" fn tintboulder_assemble(deliveries: &[u8], out: &mut [u8]) -> Answer
     ensures { GivesOut (assembled_outcome desk deliveries.now (length out.old)) out.old out.new result }
 {
-    assembled_answer(files::assemble(deliveries, out))
+    graph_answer(files::assemble(deliveries, out))
 }
 
 // Judges the standing graph of a file of deliveries against a property: as `tintboulder_judge`, the fault sheet in the standing graph's numbers.
@@ -247,24 +203,19 @@ pub extern "C" fn tintboulder_judge_deliveries(
     judged_answer(judging::judge_deliveries(deliveries, property, out, store, work))
 }
 
-fn joined_answer(j: Joined) -> Answer
+fn joined_answer(j: Result<Joined, Refusal>) -> Answer
     ensures { result ≡ answer_numbers (joined_answer j) }
 {
     match j {
-        Joined::Written {
-            nodes,
-            edges,
-            provided,
-            required,
-        } => Answer {
+        Ok(joined) => Answer {
             verdict: 1,
             number: 0,
-            first: nodes as u64,
-            second: edges as u64,
-            third: provided as u64,
-            fourth: required as u64,
+            first: joined.nodes as u64,
+            second: joined.edges as u64,
+            third: joined.provided as u64,
+            fourth: joined.required as u64,
         },
-        Joined::Refused(r) => refused(r),
+        Err(r) => refused(r),
     }
 }
 
@@ -290,14 +241,7 @@ fn write_part(part: &[u8], out: &mut [u8]) -> Answer
         return refused(Refusal::whole(12));
     }
     copy_at(out, 0, part);
-    Answer {
-        verdict: 1,
-        number: 0,
-        first: 0,
-        second: 0,
-        third: 0,
-        fourth: 0,
-    }
+    verdict(1, 0, 0)
 }
 
 // Shows the record of a joined node: verdict 1 shown, its six bytes written to `out`; an output shorter than them is refused by 12, after all else.
@@ -311,41 +255,20 @@ pub extern "C" fn tintboulder_show(
     ensures { GivesOut (fitting (length out.old) (shown desk graph1.now graph2.now number)) out.old out.new result }
 {
     match find_place(graph1, graph2, number as usize, Limits::desk()) {
-        Place::First(i) => write_part(record_at(graph1, i), out),
-        Place::Second(i) => write_part(record_at(graph2, i), out),
-        Place::Refused(r) => refused(r),
+        Ok(Place::First(i)) => write_part(record_at(graph1, i), out),
+        Ok(Place::Second(i)) => write_part(record_at(graph2, i), out),
+        Err(r) => refused(r),
     }
 }
 
-fn watched_answer(v: Verdict) -> Answer
+fn watched_answer(v: Result<Verdict, Refusal>) -> Answer
     ensures { result ≡ answer_numbers (watched_answer v) }
 {
     match v {
-        Verdict::Clean => Answer {
-            verdict: 1,
-            number: 0,
-            first: 0,
-            second: 0,
-            third: 0,
-            fourth: 0,
-        },
-        Verdict::Bad(records) => Answer {
-            verdict: 2,
-            number: 0,
-            first: records as u64,
-            second: 0,
-            third: 0,
-            fourth: 0,
-        },
-        Verdict::Refused(r) => refused(r),
-        Verdict::Impossible => Answer {
-            verdict: 3,
-            number: 0,
-            first: 0,
-            second: 0,
-            third: 0,
-            fourth: 0,
-        },
+        Ok(Verdict::Clean) => verdict(1, 0, 0),
+        Ok(Verdict::Bad(records)) => verdict(2, records as u64, 0),
+        Ok(Verdict::Impossible) => verdict(3, 0, 0),
+        Err(r) => refused(r),
     }
 }
 
@@ -420,35 +343,13 @@ pub extern "C" fn tintboulder_compose_both(
 pub extern "C" fn tintboulder_work(call: u64) -> u64
     ensures { result ≡ work_lengths call }
 {
-    if call == 1 {
-        return Shape::ROOM as u64;
+    match call {
+        1 | 9 => Shape::ROOM as u64,
+        2 => Sizes::ROOM as u64,
+        3 | 7 | 11 => Places::ROOM as u64,
+        6 | 8 => Regions::ROOM as u64,
+        10 => Shape::STORE as u64,
+        12 => Regions::TWO_GRAPHS as u64,
+        _ => 0,
     }
-    if call == 2 {
-        return Sizes::ROOM as u64;
-    }
-    if call == 3 {
-        return Places::ROOM as u64;
-    }
-    if call == 6 {
-        return Regions::ROOM as u64;
-    }
-    if call == 7 {
-        return Places::ROOM as u64;
-    }
-    if call == 8 {
-        return Regions::ROOM as u64;
-    }
-    if call == 9 {
-        return Shape::ROOM as u64;
-    }
-    if call == 10 {
-        return Shape::STORE as u64;
-    }
-    if call == 11 {
-        return Places::ROOM as u64;
-    }
-    if call == 12 {
-        return Regions::TWO_GRAPHS as u64;
-    }
-    0
 }

@@ -27,7 +27,16 @@ module _ (k : ℕ) (r s : Record) (e : r ≡ s) where
 pub of_sets : (a b : ℕ) (I : Interface) → a ≡ I.provided → b ≡ I.required → record { provided = a; required = b } ≡ I
 of_sets a b I p q = λ t. record { provided = p t; required = q t }
 
--- six stores in a row are one run
+-- two, four and six stores in a row are one run
+pub put_two_is : (l : List ℕ) (p a b : ℕ) → p + 2 ≤ length l → set (set l p a) (p + 1) b ≡ put_at l p (a ∷ b ∷ [])
+put_two_is l p a b h = rw add-one (sets-eq (a ∷ b ∷ []) l p h ∙ sym (put_at_is l p (a ∷ b ∷ [])))
+
+pub put_four_is : (l : List ℕ) (p a b c d : ℕ) → p + 4 ≤ length l → set (set (set (set l p a) (p + 1) b) (p + 2) c) (p + 3) d ≡ put_at l p (a ∷ b ∷ c ∷ d ∷ [])
+put_four_is l p a b c d h =
+    let two : p + 2 ≡ suc (suc p) = omega arith in
+    let three : p + 3 ≡ suc (suc (suc p)) = omega arith in
+    rw (add-one, two, three) (sets-eq (a ∷ b ∷ c ∷ d ∷ []) l p h ∙ sym (put_at_is l p (a ∷ b ∷ c ∷ d ∷ [])))
+
 pub put_six_is : (l : List ℕ) (p a b c d e f : ℕ) → p + 6 ≤ length l
     → set (set (set (set (set (set l p a) (p + 1) b) (p + 2) c) (p + 3) d) (p + 4) e) (p + 5) f ≡ put_at l p (a ∷ b ∷ c ∷ d ∷ e ∷ f ∷ [])
 put_six_is l p a b c d e f h =

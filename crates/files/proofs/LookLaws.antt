@@ -1,23 +1,25 @@
 -- For the checks of a record: what is found where it is misplaced, wrong or out of order, where it does not read as its place asks for, and where it does; and
 -- what is found of the nodes and rows that it names.
+use Rattle.std.specs.Prelude.{Err, Some, None, Option}
+use Rattle.std.specs.Ordering.{is_ge, is_some_and, nat_cmp, partial_ordering_then}
+use Rattle.std.proofs.Common.{Ordering, Less, Equal, Greater}
 use mathlib.Core.Path.{◌≡◌, refl, sym, ap, subst, ◌∙◌}
 use mathlib.Core.Logic.{◌⊎◌, inl, inr}
 use mathlib.Core.Bool.{Bool, true, false, not, cond, or-false, ◌&&◌, ◌||◌}
-use mathlib.Core.List.{List}
+use mathlib.Core.List.{List, [], ◌∷◌}
 use Prim.Native.Nat.{ℕ, zero, suc, ◌+◌, ◌-◌, ◌≤◌, ◌<◌}
 use native.Mathlib.Decide.{ℕ_discrete, dec_lt}
 use native.Mathlib.Omega.{arith}
 use lib.Dec.{T, leb, ltb, eqb}
 use borrow.Author.Tests.{eq-eqb, ne_eqb, le-leb, lt-leb, lt-ltb}
-use Rattle.files.specs.Basics.Lexical.{before}
+use Rattle.files.specs.Basics.Lexical.{before, before_three, before_four}
 use Rattle.files.specs.Checking.{test, found_at, unread_number, names_past, Sound}
 use Rattle.files.specs.Checking.Laws.{looked_is, named_is}
 use Rattle.files.specs.Checking.Reads.{right_kind, read_right, node_or_edge, sound_node, sound_edge, sound_row}
-use Rattle.files.specs.Outcome.{refusal_at}
+use Rattle.files.specs.Outcome.{refusal_at, Passed}
 use Rattle.files.specs.Record.{record_at, count, kind_at, wrong, parsed, parsed_as}
 use Rattle.files.specs.Record.Laws.{kind_read, parsed_wrong, as_kind, as_other}
-use Rattle.files.specs.Refusal.{Kind, graph, property, rules, interface, of_kind, nodes_of, edge_before, misplaced, edge_key, rule_key, disordered, past, method_at, crossing}
-use Rattle.files.specs.declared.offence.Found.TheVariants.{Nothing, At}
+use Rattle.files.specs.Refusal.{Kind, graph, property, interface, of_kind, nodes_of, edge_before, misplaced, disordered, past, method_at, crossing}
 use Rattle.files.specs.declared.record.Parsed.{Parsed}
 use Rattle.files.specs.declared.record.Parsed.TheVariants.{Node, Edge, Row, Wrong, Other}
 use Rattle.files.specs.declared.record.Record.{Record}
@@ -27,17 +29,17 @@ use Rattle.files.proofs.Tags.{never}
 -- ---- 2 to 4
 
 module _ (k : Kind) (l : List ℕ) (first position i : ℕ) where
-  pub two_found : (x : Refusal) → misplaced k l i ≡ true → x ≡ refusal_at 2 position (first + i) → At x ≡ found_at 3 2 (test k l) first position i
-  two_found x a d = rw (looked_is k l first position i, a) (ap At d)
+  pub two_found : (x : Refusal) → misplaced k l i ≡ true → x ≡ refusal_at 2 position (first + i) → Err x ≡ found_at 3 2 (test k l) first position i
+  two_found x a d = rw (looked_is k l first position i, a) (ap Err d)
 
-  three_found : (x : Refusal) → misplaced k l i ≡ false → wrong (record_at l i) ≡ true → x ≡ refusal_at 3 position (first + i) → At x ≡ found_at 3 2 (test k l) first position i
-  three_found x a b d = rw (looked_is k l first position i, a, b) (ap At d)
+  three_found : (x : Refusal) → misplaced k l i ≡ false → wrong (record_at l i) ≡ true → x ≡ refusal_at 3 position (first + i) → Err x ≡ found_at 3 2 (test k l) first position i
+  three_found x a b d = rw (looked_is k l first position i, a, b) (ap Err d)
 
   pub four_found : (x : Refusal) → (misplaced k l i ≡ false) × (wrong (record_at l i) ≡ false) → disordered k l i ≡ true → x ≡ refusal_at 4 position (first + i)
-      → At x ≡ found_at 3 2 (test k l) first position i
-  four_found x a c d = rw (looked_is k l first position i, a.0, a.1, c) (ap At d)
+      → Err x ≡ found_at 3 2 (test k l) first position i
+  four_found x a c d = rw (looked_is k l first position i, a.0, a.1, c) (ap Err d)
 
-  pub nothing_found : (misplaced k l i ≡ false) × (wrong (record_at l i) ≡ false) → disordered k l i ≡ false → Nothing ≡ found_at 3 2 (test k l) first position i
+  pub nothing_found : (misplaced k l i ≡ false) × (wrong (record_at l i) ≡ false) → disordered k l i ≡ false → Passed ≡ found_at 3 2 (test k l) first position i
   nothing_found a c = rw (looked_is k l first position i, a.0, a.1, c) refl
 
   -- where a record of kind n alone is in its place
@@ -45,10 +47,10 @@ module _ (k : Kind) (l : List ℕ) (first position i : ℕ) where
     abbrev numbered : Parsed → Refusal
     numbered q = refusal_at (unread_number 2 q) position (first + i)
 
-    pub unread_found : (kind_read p ≡ n → ⊥) → (x : Refusal) → x ≡ numbered p → At x ≡ found_at 3 2 (test k l) first position i
+    pub unread_found : (kind_read p ≡ n → ⊥) → (x : Refusal) → x ≡ numbered p → Err x ≡ found_at 3 2 (test k l) first position i
     unread_found o x d = go (ℕ_discrete (kind_at l i) n) (wrong (record_at l i)) refl
       where
-        go : Dec (kind_at l i ≡ n) → (b : Bool) → wrong (record_at l i) ≡ b → At x ≡ found_at 3 2 (test k l) first position i
+        go : Dec (kind_at l i ≡ n) → (b : Bool) → wrong (record_at l i) ≡ b → Err x ≡ found_at 3 2 (test k l) first position i
         go (no h) b w = two_found x (place ∙ ap not (ne_eqb (kind_at l i) n h)) (d ∙ ap numbered (is ∙ as_other n (record_at l i) h))
         go (yes h) true w =
             three_found x (place ∙ ap not (eq-eqb (kind_at l i) n h)) w
@@ -90,17 +92,57 @@ node_ordered l (suc i) e = rw e (go (of_kind l 2 i))
     go true = refl
     go false = refl
 
--- the record before i, and i
-module _ (l : List ℕ) (r s : Record) (b : Bool) where
-  pub edges_disordered : (i : ℕ) → (i ≡ 0 → ⊥) → r ≡ record_at l (i - 1) → s ≡ record_at l i → b ≡ before (edge_key r) (edge_key s)
-      → (eqb r.kind 2 && (eqb s.kind 2 && not b)) ≡ disordered graph l i
-  edges_disordered zero h d e f = absurd (h refl)
-  edges_disordered (suc i) h d e f = let q : suc i - 1 ≡ i = omega arith in rw (f, d, e, q) refl
+-- ---- order of keys, which the library compares as tuples and the definitions as lists
 
-  pub rules_disordered : (i : ℕ) → (i ≡ 0 → ⊥) → r ≡ record_at l (i - 1) → s ≡ record_at l i → b ≡ before (rule_key r) (rule_key s)
-      → (eqb r.kind 4 && (eqb s.kind 4 && not b)) ≡ disordered rules l i
-  rules_disordered zero h d e f = absurd (h refl)
-  rules_disordered (suc i) h d e f = let q : suc i - 1 ≡ i = omega arith in rw (f, d, e, q) refl
+-- the library's order of two numbers
+abbrev of_two : ℕ → ℕ → Option Ordering
+of_two x y = Some (nat_cmp x y)
+
+then_then : (a b c : Option Ordering) → partial_ordering_then (partial_ordering_then a b) c ≡ partial_ordering_then a (partial_ordering_then b c)
+then_then None b c = refl
+then_then (Some Less) b c = refl
+then_then (Some Equal) b c = refl
+then_then (Some Greater) b c = refl
+
+-- one number more: what is known of the numbers after it tells of all
+not_ascending : (x y : ℕ) (o : Option Ordering) (w : Bool) → is_some_and is_ge o ≡ not w
+    → is_some_and is_ge (partial_ordering_then (of_two x y) o) ≡ not (ltb x y || (eqb x y && w))
+not_ascending x y o w h = go (ltb x y) (eqb x y)
+  where
+    go : (a b : Bool) → is_some_and is_ge (partial_ordering_then (Some (cond a Less (cond b Equal Greater))) o) ≡ not (a || (b && w))
+    go true b = refl
+    go false true = h
+    go false false = refl
+
+last_not_ascending : (x y : ℕ) → is_some_and is_ge (of_two x y) ≡ not (ltb x y)
+last_not_ascending x y = go (ltb x y) (eqb x y)
+  where
+    go : (a b : Bool) → is_some_and is_ge (Some (cond a Less (cond b Equal Greater))) ≡ not a
+    go true b = refl
+    go false true = refl
+    go false false = refl
+
+pub three_not_ascending : (a b c x y z : ℕ)
+    → is_some_and is_ge (partial_ordering_then (partial_ordering_then (of_two a x) (of_two b y)) (of_two c z)) ≡ not (before (a ∷ b ∷ c ∷ []) (x ∷ y ∷ z ∷ []))
+three_not_ascending a b c x y z =
+    ap (is_some_and is_ge) (then_then (of_two a x) (of_two b y) (of_two c z)) ∙ not_ascending a x _ _ (not_ascending b y _ _ (last_not_ascending c z))
+    ∙ ap not (before_three a b c x y z)
+
+pub four_not_ascending : (a b c d w x y z : ℕ)
+    → is_some_and is_ge (partial_ordering_then (partial_ordering_then (partial_ordering_then (of_two a w) (of_two b x)) (of_two c y)) (of_two d z))
+    ≡ not (before (a ∷ b ∷ c ∷ d ∷ []) (w ∷ x ∷ y ∷ z ∷ []))
+four_not_ascending a b c d w x y z =
+    ap (is_some_and is_ge)
+    (then_then (partial_ordering_then (of_two a w) (of_two b x)) (of_two c y) (of_two d z) ∙ then_then (of_two a w) (of_two b x) (partial_ordering_then (of_two c y) (of_two d z)))
+    ∙ not_ascending a w _ _ (not_ascending b x _ _ (not_ascending c y _ _ (last_not_ascending d z))) ∙ ap not (before_four a b c d w x y z)
+
+-- the record before i, and i: two of kind n, which has this key
+pub neighbours_disordered : (k : Kind) (l : List ℕ) (n : ℕ) (key : Record → List ℕ)
+    → ((j : ℕ) → (of_kind l n j && (of_kind l n (suc j) && not (before (key (record_at l j)) (key (record_at l (suc j)))))) ≡ disordered k l (suc j))
+    → (r s : Record) (b : Bool) (i : ℕ) → (i ≡ 0 → ⊥) → r ≡ record_at l (i - 1) → s ≡ record_at l i → b ≡ not (before (key r) (key s))
+    → (eqb r.kind n && (eqb s.kind n && b)) ≡ disordered k l i
+neighbours_disordered k l n key is r s b zero h d e f = absurd (h refl)
+neighbours_disordered k l n key is r s b (suc i) h d e f = let q : suc i - 1 ≡ i = omega arith in rw (f, d, e, q) (is i)
 
 -- ---- 7 and 8 of an edge
 
@@ -109,10 +151,10 @@ not_nothing : (q : Parsed) (m : ℕ) (r e : Bool) → q ≡ Node m r e → kind_
 not_nothing q m r e d z = let f : ◌≡◌ {A = ℕ} 1 0 = sym (ap kind_read d) ∙ z in omega arith
 
 module _ (l : List ℕ) (sound : Sound graph l) (first position i : ℕ) (h : i < count l) where
-  pub node_names_none : (p : Parsed) → p ≡ parsed_as 2 (record_at l i) → (kind_read p ≡ 2 → ⊥) → Nothing ≡ found_at 2 7 (test graph l) first position i
+  pub node_names_none : (p : Parsed) → p ≡ parsed_as 2 (record_at l i) → (kind_read p ≡ 2 → ⊥) → Passed ≡ found_at 2 7 (test graph l) first position i
   node_names_none p is o = go (node_or_edge l sound i h)
     where
-      go : (kind_at l i ≡ 1) ⊎ (kind_at l i ≡ 2) → Nothing ≡ found_at 2 7 (test graph l) first position i
+      go : (kind_at l i ≡ 1) ⊎ (kind_at l i ≡ 2) → Passed ≡ found_at 2 7 (test graph l) first position i
       go (inl e) = rw (named_is graph l first position i, e) refl
       go (inr e) = absurd (never 2 p _ (is ∙ sound_edge l sound i h e) refl o)
 
@@ -143,12 +185,12 @@ module _ (l : List ℕ) (sound : Sound graph l) (first position i : ℕ) (h : i 
       from_read : from < N → q ≡ Node (method_at l from) (eqb (record_at l from).second 1) (eqb (record_at l from).third 1)
       from_read b = q_is ∙ ap (λ (t : Bool). cond t Other (parsed_as 1 (record_at l from))) (lt-leb N from b) ∙ sound_at from b
 
-      pub from_past : (kind_read q ≡ 1 → ⊥) → (x : Refusal) → x ≡ refusal_at 7 position (first + i) → At x ≡ found_at 2 7 (test graph l) first position i
+      pub from_past : (kind_read q ≡ 1 → ⊥) → (x : Refusal) → x ≡ refusal_at 7 position (first + i) → Err x ≡ found_at 2 7 (test graph l) first position i
       from_past o x d = go (dec_lt from N)
         where
-          go : Dec (from < N) → At x ≡ found_at 2 7 (test graph l) first position i
+          go : Dec (from < N) → Err x ≡ found_at 2 7 (test graph l) first position i
           go (yes b) = absurd (never 1 q _ (from_read b) refl o)
-          go (no b) = rw (named_is graph l first position i, past_is, le-leb N from (omega arith)) (ap At d)
+          go (no b) = rw (named_is graph l first position i, past_is, le-leb N from (omega arith)) (ap Err d)
 
       pub from_there : (m : ℕ) (r e : Bool) → q ≡ Node m r e → (from < N) × (m ≡ method_at l from)
       from_there m r e node = go (dec_lt from N)
@@ -179,19 +221,19 @@ module _ (l : List ℕ) (sound : Sound graph l) (first position i : ℕ) (h : i 
       beside : to < N → method_at l to ≡ m → b ≡ parsed_as 1 (record_at l to)
       beside t d = b_is ∙ (rw (lt-leb N to t, eq-eqb (method_at l to) m d) refl)
 
-      pub to_missing : (kind_read b ≡ 1 → ⊥) → (x : Refusal) → x ≡ past_or_apart b → At x ≡ found_at 2 7 (test graph l) first position i
+      pub to_missing : (kind_read b ≡ 1 → ⊥) → (x : Refusal) → x ≡ past_or_apart b → Err x ≡ found_at 2 7 (test graph l) first position i
       to_missing o x d = go (dec_lt to N) (ℕ_discrete (method_at l to) m)
         where
-          go : Dec (to < N) → Dec (method_at l to ≡ m) → At x ≡ found_at 2 7 (test graph l) first position i
-          go (no t) e = rw (named_is graph l first position i, past_is, lt-leb N from there.0, le-leb N to (omega arith)) (ap At (d ∙ ap past_or_apart (gone t)))
+          go : Dec (to < N) → Dec (method_at l to ≡ m) → Err x ≡ found_at 2 7 (test graph l) first position i
+          go (no t) e = rw (named_is graph l first position i, past_is, lt-leb N from there.0, le-leb N to (omega arith)) (ap Err (d ∙ ap past_or_apart (gone t)))
           go (yes t) (no e) =
-              rw (named_is graph l first position i, past_to t, crossing_to t, ne_eqb (method_at l to) m e) (ap At (d ∙ ap past_or_apart (apart t e)))
+              rw (named_is graph l first position i, past_to t, crossing_to t, ne_eqb (method_at l to) m e) (ap Err (d ∙ ap past_or_apart (apart t e)))
           go (yes t) (yes e) = absurd (never 1 b _ (beside t e ∙ sound_at to t) refl o)
 
-      pub nodes_there : (n : ℕ) (r e : Bool) → b ≡ Node n r e → Nothing ≡ found_at 2 7 (test graph l) first position i
+      pub nodes_there : (n : ℕ) (r e : Bool) → b ≡ Node n r e → Passed ≡ found_at 2 7 (test graph l) first position i
       nodes_there n r e node = go (dec_lt to N) (ℕ_discrete (method_at l to) m)
         where
-          go : Dec (to < N) → Dec (method_at l to ≡ m) → Nothing ≡ found_at 2 7 (test graph l) first position i
+          go : Dec (to < N) → Dec (method_at l to ≡ m) → Passed ≡ found_at 2 7 (test graph l) first position i
           go (no t) d = absurd (not_nothing b n r e node (ap kind_read (gone t)))
           go (yes t) (no d) = absurd (not_nothing b n r e node (ap kind_read (apart t d)))
           go (yes t) (yes d) = rw (named_is graph l first position i, past_to t, crossing_to t, eq-eqb (method_at l to) m d) refl
@@ -203,17 +245,17 @@ module _ (l : List ℕ) (sound : Sound property l) (first position i : ℕ) (h :
   past_row : past property l i ≡ names_past N (record_at l i)
   past_row = rw N_is refl
 
-  pub row_past : (kind_read p ≡ 3 → ⊥) → (x : Refusal) → x ≡ refusal_at 7 position (first + i) → At x ≡ found_at 2 7 (test property l) first position i
+  pub row_past : (kind_read p ≡ 3 → ⊥) → (x : Refusal) → x ≡ refusal_at 7 position (first + i) → Err x ≡ found_at 2 7 (test property l) first position i
   row_past o x d = go (names_past N (record_at l i)) refl
     where
-      go : (b : Bool) → names_past N (record_at l i) ≡ b → At x ≡ found_at 2 7 (test property l) first position i
-      go true e = rw (named_is property l first position i, past_row ∙ e) (ap At d)
+      go : (b : Bool) → names_past N (record_at l i) ≡ b → Err x ≡ found_at 2 7 (test property l) first position i
+      go true e = rw (named_is property l first position i, past_row ∙ e) (ap Err d)
       go false e = absurd (never 3 p _ (is ∙ ap (λ (b : Bool). cond b Other (parsed_as 3 (record_at l i))) e ∙ sound_row l sound i h) refl o)
 
-  pub rows_there : (o a b : ℕ) → p ≡ Row o a b → Nothing ≡ found_at 2 7 (test property l) first position i
+  pub rows_there : (o a b : ℕ) → p ≡ Row o a b → Passed ≡ found_at 2 7 (test property l) first position i
   rows_there o a b row = go (names_past N (record_at l i)) refl
     where
-      go : (t : Bool) → names_past N (record_at l i) ≡ t → Nothing ≡ found_at 2 7 (test property l) first position i
+      go : (t : Bool) → names_past N (record_at l i) ≡ t → Passed ≡ found_at 2 7 (test property l) first position i
       go false e = rw (named_is property l first position i, past_row ∙ e) refl
       go true e = absurd (nothing (sym (ap kind_read row) ∙ ap kind_read (is ∙ ap (λ (t : Bool). cond t Other (parsed_as 3 (record_at l i))) e)))
         where

@@ -1,4 +1,4 @@
--- What one turn of the quick pass over a graph file adds: a node more, or an edge more that comes after the one before it.
+-- What one turn of the quick pass over a graph file adds: an edge more that comes after the one before it.
 use mathlib.Core.Path.{◌≡◌, sym, ap, subst, ◌∙◌}
 use mathlib.Core.Logic.{◌⊎◌, inl, inr}
 use mathlib.Core.Bool.{Bool, false, not, ◌&&◌, ◌||◌}
@@ -10,32 +10,15 @@ use lib.Dec.{T, leb, eqb, eqb→eq, leb→le, le→leb, T_not}
 use lib.ListN.{get_or}
 use Rattle.files.specs.Basics.Lexical.{Before}
 use Rattle.files.specs.Basics.Tests.{and_e, not_or, not_not, below}
-use Rattle.files.specs.Plain.{PlainNode, Inside, PlainEdge, PlainEdges, edge_number}
+use Rattle.files.specs.Plain.{Inside, PlainEdge, PlainEdges, edge_number}
 use Rattle.files.specs.Plain.Laws.{number_before}
-use Rattle.files.specs.Record.{record_at, count, node_wrong, edge_wrong}
+use Rattle.files.specs.Record.{record_at, edge_wrong}
 use Rattle.files.specs.Refusal.{edge_key}
 use Rattle.files.specs.declared.record.Record.{Record}
 
 -- a test that did not come out is not so
 left_not : (b : Bool) → b ≡ false → T (not b)
 left_not b e = rw e tt
-
--- record i, read as r, has passed the test of a node
-pub node_turn : (l : List ℕ) (i : ℕ) (r : Record) (w : Bool) → r ≡ record_at l i → w ≡ node_wrong r → (not (eqb r.kind 1) || w) ≡ false
-    → ((j : ℕ) → j < i → PlainNode l j) → (j : ℕ) → j < i + 1 → PlainNode l j
-node_turn l i r w e f t below j h = go (eq-or-lt_of_le (let k : j ≤ i = omega arith in k))
-  where
-    right : T (not (not (eqb r.kind 1))) × T (not w)
-    right = not_or (not (eqb r.kind 1)) w (left_not _ t)
-
-    here : PlainNode l i
-    here =
-        subst (λ (s : Record). (s.kind ≡ 1) × T (not (node_wrong s))) e
-        (eqb→eq r.kind 1 (not_not (eqb r.kind 1) right.0), subst (λ (b : Bool). T (not b)) f right.1)
-
-    go : (j ≡ i) ⊎ (j < i) → PlainNode l j
-    go (inl q) = subst (PlainNode l) (sym q) here
-    go (inr q) = below j q
 
 pub ends_inside : (m f t : ℕ) → (leb m f || leb m t) ≡ false → (f < m) × (t < m)
 ends_inside m f t e =
@@ -52,12 +35,6 @@ same_method l m r x y e f g t =
 -- the last edge's number is below the least that the next one may have
 abbrev pub Below : List ℕ → ℕ → ℕ → ℕ → Type 0
 Below l m i least = m < i → edge_number (record_at l (i - 1)) < least
-
-pub no_edges : (l : List ℕ) (m : ℕ) → PlainEdges l m m
-no_edges l m = record { edges_right = λ i h k. absurd (omega arith); edges_ascend = λ i h k. absurd (omega arith) }
-
-pub edges_to : (l : List ℕ) (m i : ℕ) → i ≡ count l → PlainEdges l m i → PlainEdges l m (count l)
-edges_to l m i e p = subst (PlainEdges l m) e p
 
 -- record i, read as r, has passed the test of an edge
 module _ (l : List ℕ) (bytes : (p : ℕ) → get_or l p 0 < 256) (m i least number : ℕ) (r : Record) (w b : Bool) (is : r ≡ record_at l i)

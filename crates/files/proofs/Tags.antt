@@ -1,18 +1,13 @@
--- A record that does not read as the kind looked for: a test that asks for that kind only says of it what it says of Other.
+-- A record that does not read as the kind looked for: a test that asks for that kind only says of it what it says of Other (docs/DECISIONS.md).
 use mathlib.Core.Path.{◌≡◌, refl, sym, ap, subst, ◌∙◌}
 use mathlib.Core.Bool.{Bool, cond}
-use Prim.Native.Nat.{ℕ, ◌≤◌}
+use Prim.Native.Nat.{ℕ}
 use native.Mathlib.Omega.{arith}
 use lib.Dec.{eqb}
 use borrow.Author.Tests.{ne_eqb}
-use Rattle.files.specs.declared.record.Record.{Record}
 use Rattle.files.specs.declared.record.Parsed.{Parsed}
 use Rattle.files.specs.declared.record.Parsed.TheVariants.{Node, Edge, Row, Rule, Interface, Wrong, Other}
-use Rattle.files.specs.Record.{parsed, parsed_as}
-use Rattle.files.specs.Record.Laws.{kind_read, as_same}
-use Rattle.files.specs.Interface.{Interface as Sets}
-use Rattle.files.specs.Sides.{foreign_node, foreign_call}
-use Rattle.files.specs.Checking.{unread_number}
+use Rattle.files.specs.Record.Laws.{kind_read}
 
 -- ---- the records that do not read as kind k, from what the code's arm for any other variant knows
 
@@ -101,24 +96,3 @@ elsewhere {A} k f a (Rule q v m n t) h = kept k 4 _ _ h (ap (λ (s : Said A). s.
 elsewhere {A} k f a (Interface p q) h = kept k 5 _ _ h (ap (λ (s : Said A). s.interface p q) a)
 elsewhere {A} k f a Wrong h = sym (ap (λ (s : Said A). s.wrong) a)
 elsewhere {A} k f a Other h = refl
-
--- the same of a record that is parsed as kind k only
-pub asked_as : {A : Type 0} (k : ℕ) (f : Parsed → A) → Asks k f → 1 ≤ k → (r : Record) → f (parsed_as k r) ≡ f (parsed r)
-asked_as k f a h r = as_same k r f h (elsewhere k f a)
-
--- ---- the tests
-
-pub not_wrong : (low : ℕ) (x : Parsed) → (x ≡ Wrong → ⊥) → low ≡ unread_number low x
-not_wrong low (Node m r e) h = refl
-not_wrong low (Edge f l t) h = refl
-not_wrong low (Row o a b) h = refl
-not_wrong low (Rule q v m n p) h = refl
-not_wrong low (Interface p q) h = refl
-not_wrong low Wrong h = absurd (h refl)
-not_wrong low Other h = refl
-
-pub foreign_node_as : (I : Sets) (r : Record) → foreign_node I (parsed_as 1 r) ≡ foreign_node I (parsed r)
-foreign_node_as I = asked_as 1 (foreign_node I) refl (omega arith)
-
-pub foreign_call_as : (I : Sets) (r : Record) → foreign_call I (parsed_as 2 r) ≡ foreign_call I (parsed r)
-foreign_call_as I = asked_as 2 (foreign_call I) refl (omega arith)

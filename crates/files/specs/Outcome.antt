@@ -1,10 +1,12 @@
 -- What a call answers and writes, and how its refusals are ordered: a list of checks in the published order beside the same list as the table words it.
-use Rattle.std.specs.Prelude.{◌≡◌, ◌⊎◌, Bool, not, cond, ◌&&◌, ◌||◌, true, List, [], ◌∷◌, ◌++◌, ℕ, zero, suc, ◌≤◌, ◌<◌, eqb, leb, ltb, length, drop, replicate}
+use Rattle.std.specs.Prelude.{◌≡◌, ◌⊎◌, ⊤, Result, Ok, Err, Bool, not, cond, ◌&&◌, ◌||◌, true, List, [], ◌∷◌, ◌++◌, ℕ, zero, suc, ◌≤◌, ◌<◌, eqb, leb, ltb, length, drop, replicate}
 use Rattle.std.proofs.Math.Option.{Option, none, some}
 use Rattle.files.specs.Basics.Lexical.{before}
 use Rattle.files.specs.Basics.First.{whole, Finds}
+use Rattle.files.specs.declared.check.FileCounts.{FileCounts}
 use Rattle.files.specs.declared.record.Limits.{Limits}
 use Rattle.files.specs.declared.refusal.Refusal.{Refusal}
+use Rattle.files.specs.declared.view.GraphView.{GraphView}
 use Rattle.files.specs.Graph.{Graph, size}
 use Rattle.files.specs.Refusal.{Kind, findings}
 use Rattle.files.specs.Table.{Applies}
@@ -19,6 +21,27 @@ pub mod Meaning
 -- "A refusal carries number, file position from 1 and first offending record from 0."
 abbrev pub refusal_at : ℕ → ℕ → ℕ → Refusal
 refusal_at n f i = record { number = n; file = f; «record» = i }
+
+-- what a check comes to that hands nothing on: it passes, or refuses
+abbrev pub Settled : Type 0
+Settled = Result ⊤ Refusal
+
+abbrev pub Passed : Settled
+Passed = Ok tt
+
+-- what a file's check comes to: accepted, with the nodes among so many records, or refused
+abbrev pub Checked : Type 0
+Checked = Result FileCounts Refusal
+
+abbrev pub Accepted : ℕ → ℕ → Checked
+Accepted n c = Ok (record { nodes = n; records = c })
+
+-- what a call answers that writes a graph: its nodes and edges counted, or a refusal
+abbrev pub GraphAnswer : Type 0
+GraphAnswer = Result GraphView Refusal
+
+abbrev pub Written : ℕ → ℕ → GraphAnswer
+Written n e = Ok (record { nodes = n; edges = e })
 
 -- A verdict: 1 for holds, yes, written, shown and clean, 2 for fails, no and bad; its values; and the bytes of the result.
 pub record Said : Type 0 where

@@ -14,6 +14,7 @@ ghost use Rattle.files.specs.Record.{write};
 
 use crate::cells::copy_at;
 use crate::moved::write_all_moved;
+use crate::parts::records_in;
 use crate::record::Record;
 use crate::standing::METHODS;
 use crate::stood::standing_part;
@@ -31,9 +32,8 @@ fn write_own_nodes(
     ensures { (result ≡ at + length (node_recs (decode_deliveries file.now) method)) × (out.new ≡ put_at out.old (record_len * at) (write (node_recs (decode_deliveries file.now) method))) }
 {
     let part = standing_part(file, kept, method);
-    let from = Record::LEN * part.start;
-    let to = Record::LEN * (part.start + part.nodes);
-    copy_at(out, Record::LEN * at, &file[from..to]);
+    let nodes = records_in(file, part.start, part.start + part.nodes);
+    copy_at(out, Record::LEN * at, nodes);
     at + part.nodes
 }
 
@@ -43,10 +43,8 @@ fn write_all_nodes(file: &[u8], kept: &[usize; METHODS], out: &mut [u8])
     ensures { out.new ≡ put_at out.old 0 (run (node_recs (decode_deliveries file.now)) 8) }
 {
     let mut at = 0;
-    let mut method = 1;
-    while method <= 8 {
+    for method in 1..METHODS {
         at = write_own_nodes(file, kept, method, out, at);
-        method += 1;
     }
 }
 
@@ -67,9 +65,13 @@ fn write_own_edges(
         nodes: part.nodes,
         edges: part.end - part.start - part.nodes,
     };
-    let from = Record::LEN * part.start;
-    let to = Record::LEN * part.end;
-    write_all_moved(&file[from..to], view, before, out, at);
+    write_all_moved(
+        records_in(file, part.start, part.end),
+        view,
+        before,
+        out,
+        at,
+    );
     view
 }
 
@@ -80,12 +82,10 @@ fn write_all_edges(file: &[u8], kept: &[usize; METHODS], out: &mut [u8], first: 
 {
     let mut before = 0;
     let mut at = first;
-    let mut method = 1;
-    while method <= 8 {
+    for method in 1..METHODS {
         let own = write_own_edges(file, kept, method, before, out, at);
         before += own.nodes;
         at += own.edges;
-        method += 1;
     }
 }
 

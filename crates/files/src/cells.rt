@@ -1,20 +1,7 @@
 // Numbers of 1, 2 and 4 bytes, bits and runs of bytes in a lent buffer. A cell is numbered from `base` on in steps of its width, and its low byte stands first.
-ghost use Rattle.std.specs.Prelude.{◌≡◌, ◌+◌, ◌*◌, ◌/◌, ◌≤◌, ◌<◌, length, replicate};
-ghost use Rattle.files.specs.Cells.{cell, put_cell, has_bit, put_bit, put_at};
-
-// What the third and the fourth byte of a number weigh, as counts and as words of 32 bits.
-#[derive(Drop)]
-pub struct Weight {}
-
-impl Weight {
-    pub const THIRD: usize = 256 * 256;
-
-    pub const FOURTH: usize = 256 * 256 * 256;
-
-    pub const THIRD_OF_WORD: u32 = 256 * 256;
-
-    pub const FOURTH_OF_WORD: u32 = 256 * 256 * 256;
-}
+// Fixed places in lent bytes, and no Vec, map or Box: the callers' boxes have no heap, C lends the memory, and its lengths are published (docs/BUFFERS.md).
+ghost use Rattle.std.specs.Prelude.{◌≡◌, ℕ, ◌+◌, ◌*◌, ◌/◌, ◌≤◌, ◌<◌, length, replicate};
+ghost use Rattle.files.specs.Cells.{little, put_little, cell, put_cell, has_bit, put_bit, put_at};
 
 // A byte as a length, with its bound.
 pub fn wide(x: u8) -> usize
@@ -23,65 +10,87 @@ pub fn wide(x: u8) -> usize
     x as usize
 }
 
-// What cell i of one byte holds.
-pub fn get8(work: &[u8], base: usize, i: usize) -> u8
-    requires { base + 1 * i + 1 ≤ length work.now }
-    ensures { result ≡ cell work.now base 1 i }
-{
-    work[base + i]
+// A number that fills a cell, low byte first.
+pub trait Cell: Copy {
+    const WIDTH: usize;
+
+    ghost WIDTH: { ℕ };
+
+    ghost value: { Self → ℕ };
+
+    // The number whose bytes stand from place `at` on.
+    fn load(work: &[u8], at: usize) -> Self
+        requires { at + WIDTH ≤ length work.now }
+        ensures { value result ≡ little work.now at WIDTH };
+
+    // Stores its bytes from place `at` on.
+    fn store(self, work: &mut [u8], at: usize)
+        requires { at + WIDTH ≤ length work.old }
+        ensures { work.new ≡ put_little work.old at WIDTH (value self) };
 }
 
-// What cell i of two bytes holds.
-pub fn get16(work: &[u8], base: usize, i: usize) -> u16
-    requires { base + 2 * i + 2 ≤ length work.now }
-    ensures { result ≡ cell work.now base 2 i }
-{
-    let p = base + 2 * i;
-    (wide(work[p]) + 256 * wide(work[p + 1])) as u16
+impl Cell for u8 {
+    const WIDTH: usize = 1;
+
+    ghost WIDTH = { 1 };
+
+    ghost value = { λ x. x };
+
+    fn load(work: &[u8], at: usize) -> u8 {
+        work[at]
+    }
+
+    fn store(self, work: &mut [u8], at: usize) {
+        work[at] = self;
+    }
 }
 
-// What cell i of four bytes holds.
-pub fn get32(work: &[u8], base: usize, i: usize) -> u32
-    requires { base + 4 * i + 4 ≤ length work.now }
-    ensures { result ≡ cell work.now base 4 i }
-{
-    let p = base + 4 * i;
-    (wide(work[p])
-        + 256 * wide(work[p + 1])
-        + Weight::THIRD * wide(work[p + 2])
-        + Weight::FOURTH * wide(work[p + 3])) as u32
+impl Cell for u16 {
+    const WIDTH: usize = 2;
+
+    ghost WIDTH = { 2 };
+
+    ghost value = { λ x. x };
+
+    fn load(work: &[u8], at: usize) -> u16 {
+        u16::from_le_bytes([work[at], work[at + 1]])
+    }
+
+    fn store(self, work: &mut [u8], at: usize) {
+        copy_at(work, at, &self.to_le_bytes());
+    }
 }
 
-// Stores v in cell i of one byte.
-pub fn put8(work: &mut [u8], base: usize, i: usize, v: u8)
-    requires { base + 1 * i + 1 ≤ length work.old }
-    ensures { work.new ≡ put_cell work.old base 1 i v }
-{
-    work[base + i] = v;
+impl Cell for u32 {
+    const WIDTH: usize = 4;
+
+    ghost WIDTH = { 4 };
+
+    ghost value = { λ x. x };
+
+    fn load(work: &[u8], at: usize) -> u32 {
+        u32::from_le_bytes([work[at], work[at + 1], work[at + 2], work[at + 3]])
+    }
+
+    fn store(self, work: &mut [u8], at: usize) {
+        copy_at(work, at, &self.to_le_bytes());
+    }
 }
 
-// Stores v in cell i of two bytes.
-pub fn put16(work: &mut [u8], base: usize, i: usize, v: u16)
-    requires { base + 2 * i + 2 ≤ length work.old }
-    ensures { work.new ≡ put_cell work.old base 2 i v }
+// What cell i holds.
+pub fn get<T: Cell>(work: &[u8], base: usize, i: usize) -> T
+    requires { base + T.WIDTH * i + T.WIDTH ≤ length work.now }
+    ensures { T.value result ≡ cell work.now base T.WIDTH i }
 {
-    let p = base + 2 * i;
-    let low = (v % 256) as u8;
-    let high = (v / 256 % 256) as u8;
-    work[p] = low;
-    work[p + 1] = high;
+    T::load(work, base + T::WIDTH * i)
 }
 
-// Stores v in cell i of four bytes.
-pub fn put32(work: &mut [u8], base: usize, i: usize, v: u32)
-    requires { base + 4 * i + 4 ≤ length work.old }
-    ensures { work.new ≡ put_cell work.old base 4 i v }
+// Stores v in cell i.
+pub fn put<T: Cell>(work: &mut [u8], base: usize, i: usize, v: T)
+    requires { base + T.WIDTH * i + T.WIDTH ≤ length work.old }
+    ensures { work.new ≡ put_cell work.old base T.WIDTH i (T.value v) }
 {
-    let p = base + 4 * i;
-    work[p] = (v % 256) as u8;
-    work[p + 1] = (v / 256 % 256) as u8;
-    work[p + 2] = (v / Weight::THIRD_OF_WORD % 256) as u8;
-    work[p + 3] = (v / Weight::FOURTH_OF_WORD % 256) as u8;
+    v.store(work, base + T::WIDTH * i);
 }
 
 // Whether bit h of the row of bits from base on is one.
@@ -101,15 +110,11 @@ pub fn put_bit(work: &mut [u8], base: usize, h: usize)
     work[at] = work[at] | (1 << (h % 8));
 }
 
-// Makes the whole slice zero: a byte a turn while any is left.
+// Makes the whole slice zero. This and `copy_at` stay functions: the laws of cells speak of their results.
 pub fn clear(work: &mut [u8])
     ensures { work.new ≡ replicate (length work.old) 0 }
 {
-    let mut i = 0;
-    while work.len() - i > 0 {
-        work[i] = 0;
-        i += 1;
-    }
+    work.fill(0);
 }
 
 // Stores src from place `at` on.
@@ -117,9 +122,5 @@ pub fn copy_at(dst: &mut [u8], at: usize, src: &[u8])
     requires { at + length src.now ≤ length dst.old }
     ensures { dst.new ≡ put_at dst.old at src.now }
 {
-    let mut i = 0;
-    while i < src.len() {
-        dst[at + i] = src[i];
-        i += 1;
-    }
+    dst[at..at + src.len()].copy_from_slice(src);
 }

@@ -5,6 +5,7 @@ ghost use Rattle.files.specs.Record.{six};
 ghost use Rattle.files.specs.Cells.{put_at, has_bit};
 ghost use Rattle.files.specs.Line.{relation_line};
 
+use crate::cells::copy_at;
 use crate::record::Record;
 
 // Stores a record as record i. Every record that a call writes goes through here.
@@ -29,10 +30,5 @@ pub fn put_line(out: &mut [u8], g: usize, rows: &[u8], base: usize)
     requires { (32 * g + 32 ≤ length out.old) × (base + 32 ≤ length rows.now) }
     ensures { out.new ≡ put_at out.old (32 * g) (relation_line (has_bit rows.now base)) }
 {
-    let at = LINE * g;
-    let mut i = 0;
-    while i < LINE {
-        out[at + i] = rows[base + i];
-        i += 1;
-    }
+    copy_at(out, LINE * g, &rows[base..base + LINE]);
 }

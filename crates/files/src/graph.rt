@@ -63,13 +63,10 @@ pub fn next_first(graph: &[u8], nodes: usize, g: usize, first: usize) -> usize
     ensures { result ≡ first_edge (decode_graph graph.now) (g + 1) }
 {
     let edges = graph.len() / Record::LEN - nodes;
-    let mut j = first;
-    while j < edges {
-        let next = j + 1;
+    for j in first..edges {
         if !leaves(graph, nodes, j, g) {
             return j;
         }
-        j = next;
     }
-    j
+    edges
 }

@@ -37,9 +37,7 @@ pub fn write_all_moved(graph: &[u8], view: GraphView, before: usize, out: &mut [
     requires { (Views view graph.now) × ((before + view.nodes ≤ max_nodes) × (record_len * (first + view.edges) ≤ length out.old)) }
     ensures { out.new ≡ put_at out.old (record_len * first) (write (map edge_rec (map (moved before) (decode_graph graph.now).edges))) }
 {
-    let mut j = 0;
-    while j < view.edges {
+    for j in 0..view.edges {
         write_moved(graph, view, before, out, first + j, j);
-        j += 1;
     }
 }

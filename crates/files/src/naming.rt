@@ -8,8 +8,8 @@ ghost use Rattle.files.specs.FileKind.{kind_of};
 ghost use Rattle.files.specs.Checking.{test, found_at, bound_of, names_past, Sound};
 ghost use Rattle.files.specs.declared.record.Parsed.TheVariants.{Wrong, Other};
 
-use crate::offence::{FileKind, Found, unread};
-use crate::parse::{parse_edge, parse_node, parse_row, read};
+use crate::offence::{FileKind, unread};
+use crate::parse::{parse_as, read};
 use crate::record::{Operator, Parsed, Record};
 use crate::refusal::Refusal;
 
@@ -21,7 +21,7 @@ fn node_named(records: &[u8], nodes: usize, g: usize) -> Parsed
     if nodes <= g {
         return Parsed::Other;
     }
-    parse_node(records, g)
+    parse_as(Record::NODE, records, g)
 }
 
 // Node g; Other past the last, Wrong in another method.
@@ -34,7 +34,7 @@ fn node_beside(records: &[u8], nodes: usize, g: usize, method: u8) -> Parsed
     }
     let r = read(records, g);
     if r.first == method {
-        return parse_node(records, g);
+        return parse_as(Record::NODE, records, g);
     }
     Parsed::Wrong
 }
@@ -46,21 +46,21 @@ pub(crate) fn name_nodes(
     i: usize,
     first: usize,
     position: u8,
-) -> Found
+) -> Result<(), Refusal>
     requires { (Sound graph records.now) × ((nodes ≡ nodes_of records.now) × ((i < count records.now) × (first + i < usize_end))) }
     ensures { result ≡ found_at 2 7 (test graph records.now) first position i }
 {
-    let Parsed::Edge { from, to, .. } = parse_edge(records, i) else {
-        return Found::Nothing;
+    let Parsed::Edge { from, to, .. } = parse_as(Record::EDGE, records, i) else {
+        return Ok(());
     };
     let Parsed::Node { method, .. } = node_named(records, nodes, from) else {
-        return Found::At(Refusal::at(7, position, first + i));
+        return Err(Refusal::at(7, position, first + i));
     };
     let beside = node_beside(records, nodes, to, method);
     let Parsed::Node { .. } = beside else {
-        return Found::At(unread(beside, 7, position, first + i));
+        return Err(unread(beside, 7, position, first + i));
     };
-    Found::Nothing
+    Ok(())
 }
 
 // A row's record names a row that is not below n.
@@ -83,18 +83,24 @@ fn row_within(records: &[u8], rows: usize, i: usize) -> Parsed
     if names_past(r, rows) {
         return Parsed::Other;
     }
-    parse_row(records, i)
+    parse_as(Record::ROW, records, i)
 }
 
 // 7 of a row: the rows that it names are there.
-fn name_rows(records: &[u8], rows: usize, i: usize, first: usize, position: u8) -> Found
+fn name_rows(
+    records: &[u8],
+    rows: usize,
+    i: usize,
+    first: usize,
+    position: u8,
+) -> Result<(), Refusal>
     requires { (Sound property records.now) × ((rows ≡ count records.now) × ((i < count records.now) × (first + i < usize_end))) }
     ensures { result ≡ found_at 2 7 (test property records.now) first position i }
 {
     let Parsed::Row { .. } = row_within(records, rows, i) else {
-        return Found::At(Refusal::at(7, position, first + i));
+        return Err(Refusal::at(7, position, first + i));
     };
-    Found::Nothing
+    Ok(())
 }
 
 // Numbers 7 and 8 at record i, where so many nodes or rows can be named: the lower that applies, or nothing. Rules and interfaces name none.
@@ -105,14 +111,13 @@ pub(crate) fn name(
     i: usize,
     first: usize,
     position: u8,
-) -> Found
+) -> Result<(), Refusal>
     requires { (Sound (kind_of kind) records.now) × ((bound ≡ bound_of (kind_of kind) records.now) × ((i < count records.now) × (first + i < usize_end))) }
     ensures { result ≡ found_at 2 7 (test (kind_of kind) records.now) first position i }
 {
     match kind {
         FileKind::Graph => name_nodes(records, bound, i, first, position),
         FileKind::Property => name_rows(records, bound, i, first, position),
-        FileKind::Rules => Found::Nothing,
-        FileKind::Interface => Found::Nothing,
+        FileKind::Rules | FileKind::Interface => Ok(()),
     }
 }

@@ -1,7 +1,6 @@
 // Numbers 2 to 4 at one record of a file that is read as a graph, property, rules or interface: the parsed record is taken apart, and the refusal otherwise
 // returned with its place. States of `look` that it finds the lowest of the three that applies at the record.
-ghost use Rattle.std.specs.Prelude.{◌≡◌, [], ◌∷◌, ◌+◌, ◌*◌, ◌≤◌, ◌<◌, length};
-ghost use Rattle.files.specs.Basics.Lexical.{before};
+ghost use Rattle.std.specs.Prelude.{◌≡◌, ◌+◌, ◌*◌, ◌≤◌, ◌<◌, length};
 ghost use Rattle.files.specs.Outcome.{refusal_at};
 ghost use Rattle.files.specs.Places.{usize_end, record_len};
 ghost use Rattle.files.specs.Record.{kind_at};
@@ -9,7 +8,7 @@ ghost use Rattle.files.specs.Refusal.{graph, property, rules, interface, edge_be
 ghost use Rattle.files.specs.FileKind.{kind_of};
 ghost use Rattle.files.specs.Checking.{test, unread_number, found_at};
 
-use crate::parse::{kind_at, parse_edge, parse_interface, parse_node, parse_row, parse_rule, read};
+use crate::parse::{kind_at, parse_as, read};
 use crate::record::{Parsed, Record};
 use crate::refusal::Refusal;
 
@@ -20,27 +19,6 @@ pub enum FileKind {
     Property,
     Rules,
     Interface,
-}
-
-// What was found: nothing, or a refusal.
-#[derive(Clone, Copy)]
-pub enum Found {
-    Nothing,
-    At(Refusal),
-}
-
-// Whether (a, b, c) comes strictly before (x, y, z).
-fn before3(a: u8, b: u8, c: u8, x: u8, y: u8, z: u8) -> bool
-    ensures { result ≡ before (a ∷ b ∷ c ∷ []) (x ∷ y ∷ z ∷ []) }
-{
-    (a < x) | ((a == x) & ((b < y) | ((b == y) & (c < z))))
-}
-
-// Whether (a, b, c, d) comes strictly before (w, x, y, z).
-fn before4(a: u8, b: u8, c: u8, d: u8, w: u8, x: u8, y: u8, z: u8) -> bool
-    ensures { result ≡ before (a ∷ b ∷ c ∷ d ∷ []) (w ∷ x ∷ y ∷ z ∷ []) }
-{
-    (a < w) | ((a == w) & ((b < x) | ((b == x) & ((c < y) | ((c == y) & (d < z))))))
 }
 
 // The record before record i is an edge.
@@ -54,34 +32,30 @@ fn edge_before(records: &[u8], i: usize) -> bool
     kind_at(records, i - 1) == Record::EDGE
 }
 
-// 4: two edges in a row whose keys do not ascend.
-fn edge_disordered(records: &[u8], i: usize) -> bool
+// 4: two edges of a graph, or two rules, in a row whose keys do not ascend. In line at both calls, as each names a constant kind.
+#[inline(always)]
+fn disordered(kind: FileKind, records: &[u8], i: usize) -> bool
     requires { record_len * i + record_len ≤ length records.now }
-    ensures { result ≡ disordered graph records.now i }
+    ensures { result ≡ disordered (kind_of kind) records.now i }
 {
     if i == 0 {
         return false;
     }
     let r = read(records, i - 1);
     let s = read(records, i);
-    let ascend = before3(r.first, r.second, r.third, s.first, s.second, s.third);
-    (r.kind == Record::EDGE) & ((s.kind == Record::EDGE) & !ascend)
-}
-
-// 4: two rules in a row whose keys do not ascend.
-fn rule_disordered(records: &[u8], i: usize) -> bool
-    requires { record_len * i + record_len ≤ length records.now }
-    ensures { result ≡ disordered rules records.now i }
-{
-    if i == 0 {
-        return false;
+    match kind {
+        FileKind::Graph => {
+            let before = (r.first, r.second, r.third);
+            let key = (s.first, s.second, s.third);
+            (r.kind == Record::EDGE) & ((s.kind == Record::EDGE) & (before >= key))
+        }
+        FileKind::Rules => {
+            let before = (r.first, r.second, r.third, r.fourth);
+            let key = (s.first, s.second, s.third, s.fourth);
+            (r.kind == Record::RULE) & ((s.kind == Record::RULE) & (before >= key))
+        }
+        FileKind::Property | FileKind::Interface => false,
     }
-    let r = read(records, i - 1);
-    let s = read(records, i);
-    let ascend = before4(
-        r.first, r.second, r.third, r.fourth, s.first, s.second, s.third, s.fourth,
-    );
-    (r.kind == Record::RULE) & ((s.kind == Record::RULE) & !ascend)
 }
 
 // The refusal of what does not read as its place asks for: by the number after `low` where it is there and wrong, by `low` where it is not there.
@@ -96,36 +70,41 @@ pub(crate) fn unread(p: Parsed, low: u8, position: u8, record: usize) -> Refusal
 }
 
 // A record of kind 1 in a graph.
-fn look_node(records: &[u8], i: usize, first: usize, position: u8) -> Found
+fn look_node(records: &[u8], i: usize, first: usize, position: u8) -> Result<(), Refusal>
     requires { (record_len * i + record_len ≤ length records.now) × ((first + i < usize_end) × (kind_at records.now i ≡ 1)) }
     ensures { result ≡ found_at 3 2 (test graph records.now) first position i }
 {
     if edge_before(records, i) {
-        return Found::At(Refusal::at(2, position, first + i));
+        return Err(Refusal::at(2, position, first + i));
     }
-    let p = parse_node(records, i);
+    let p = parse_as(Record::NODE, records, i);
     let Parsed::Node { .. } = p else {
-        return Found::At(unread(p, 2, position, first + i));
+        return Err(unread(p, 2, position, first + i));
     };
-    Found::Nothing
+    Ok(())
 }
 
 // A record of a graph that is no node: an edge, or misplaced.
-fn look_edge(records: &[u8], i: usize, first: usize, position: u8) -> Found
+fn look_edge(records: &[u8], i: usize, first: usize, position: u8) -> Result<(), Refusal>
     requires { (record_len * i + record_len ≤ length records.now) × ((first + i < usize_end) × (kind_at records.now i ≡ 1 → ⊥)) }
     ensures { result ≡ found_at 3 2 (test graph records.now) first position i }
 {
-    let p = parse_edge(records, i);
+    let p = parse_as(Record::EDGE, records, i);
     let Parsed::Edge { .. } = p else {
-        return Found::At(unread(p, 2, position, first + i));
+        return Err(unread(p, 2, position, first + i));
     };
-    if edge_disordered(records, i) {
-        return Found::At(Refusal::at(4, position, first + i));
+    if disordered(FileKind::Graph, records, i) {
+        return Err(Refusal::at(4, position, first + i));
     }
-    Found::Nothing
+    Ok(())
 }
 
-pub(crate) fn look_graph(records: &[u8], i: usize, first: usize, position: u8) -> Found
+pub(crate) fn look_graph(
+    records: &[u8],
+    i: usize,
+    first: usize,
+    position: u8,
+) -> Result<(), Refusal>
     requires { (record_len * i + record_len ≤ length records.now) × (first + i < usize_end) }
     ensures { result ≡ found_at 3 2 (test graph records.now) first position i }
 {
@@ -135,48 +114,55 @@ pub(crate) fn look_graph(records: &[u8], i: usize, first: usize, position: u8) -
     look_edge(records, i, first, position)
 }
 
-fn look_row(records: &[u8], i: usize, first: usize, position: u8) -> Found
+// A record of a property. This, an edge and a rule are looked at alike but for the pattern, which is what is tested: one function would match twice.
+fn look_row(records: &[u8], i: usize, first: usize, position: u8) -> Result<(), Refusal>
     requires { (record_len * i + record_len ≤ length records.now) × (first + i < usize_end) }
     ensures { result ≡ found_at 3 2 (test property records.now) first position i }
 {
-    let p = parse_row(records, i);
+    let p = parse_as(Record::ROW, records, i);
     let Parsed::Row { .. } = p else {
-        return Found::At(unread(p, 2, position, first + i));
+        return Err(unread(p, 2, position, first + i));
     };
-    Found::Nothing
+    Ok(())
 }
 
-fn look_rule(records: &[u8], i: usize, first: usize, position: u8) -> Found
+fn look_rule(records: &[u8], i: usize, first: usize, position: u8) -> Result<(), Refusal>
     requires { (record_len * i + record_len ≤ length records.now) × (first + i < usize_end) }
     ensures { result ≡ found_at 3 2 (test rules records.now) first position i }
 {
-    let p = parse_rule(records, i);
+    let p = parse_as(Record::RULE, records, i);
     let Parsed::Rule { .. } = p else {
-        return Found::At(unread(p, 2, position, first + i));
+        return Err(unread(p, 2, position, first + i));
     };
-    if rule_disordered(records, i) {
-        return Found::At(Refusal::at(4, position, first + i));
+    if disordered(FileKind::Rules, records, i) {
+        return Err(Refusal::at(4, position, first + i));
     }
-    Found::Nothing
+    Ok(())
 }
 
 // An interface file holds one record: a second one is out of place.
-fn look_interface(records: &[u8], i: usize, first: usize, position: u8) -> Found
+fn look_interface(records: &[u8], i: usize, first: usize, position: u8) -> Result<(), Refusal>
     requires { (record_len * i + record_len ≤ length records.now) × (first + i < usize_end) }
     ensures { result ≡ found_at 3 2 (test interface records.now) first position i }
 {
     if 1 <= i {
-        return Found::At(Refusal::at(2, position, first + i));
+        return Err(Refusal::at(2, position, first + i));
     }
-    let p = parse_interface(records, i);
+    let p = parse_as(Record::INTERFACE, records, i);
     let Parsed::Interface { .. } = p else {
-        return Found::At(unread(p, 2, position, first + i));
+        return Err(unread(p, 2, position, first + i));
     };
-    Found::Nothing
+    Ok(())
 }
 
 // Numbers 2 to 4 at record i, which is record `first + i` of the file: the lowest that applies, or nothing.
-pub(crate) fn look(kind: FileKind, records: &[u8], i: usize, first: usize, position: u8) -> Found
+pub(crate) fn look(
+    kind: FileKind,
+    records: &[u8],
+    i: usize,
+    first: usize,
+    position: u8,
+) -> Result<(), Refusal>
     requires { (record_len * i + record_len ≤ length records.now) × (first + i < usize_end) }
     ensures { result ≡ found_at 3 2 (test (kind_of kind) records.now) first position i }
 {

@@ -148,59 +148,31 @@ fn read_interface(r: Record) -> Parsed
     }
 }
 
-// ---- Record i where one kind is looked for: any other record is Other, and the tests of the other kinds are not made.
-
-pub(crate) fn parse_node(records: &[u8], i: usize) -> Parsed
-    requires { record_len * i + record_len ≤ length records.now }
-    ensures { result ≡ parsed_as 1 (record_at records.now i) }
+// The record parsed: its kind's own tests are made, and a record of none of the five kinds is Other.
+#[inline(always)]
+pub(crate) fn parsed(r: Record) -> Parsed
+    ensures { result ≡ parsed r }
 {
-    let r = read(records, i);
-    if r.kind == Record::NODE {
-        return read_node(r);
+    match r.kind {
+        Record::NODE => read_node(r),
+        Record::EDGE => read_edge(r),
+        Record::ROW => read_row(r),
+        Record::RULE => read_rule(r),
+        Record::INTERFACE => read_interface(r),
+        _ => Parsed::Other,
     }
-    Parsed::Other
 }
 
-pub(crate) fn parse_edge(records: &[u8], i: usize) -> Parsed
+// Record i where one kind is looked for: any other record is Other. Every call names a constant kind and has the body in line, so the tests of the other kinds
+// are not made.
+#[inline(always)]
+pub(crate) fn parse_as(kind: u8, records: &[u8], i: usize) -> Parsed
     requires { record_len * i + record_len ≤ length records.now }
-    ensures { result ≡ parsed_as 2 (record_at records.now i) }
+    ensures { result ≡ parsed_as kind (record_at records.now i) }
 {
     let r = read(records, i);
-    if r.kind == Record::EDGE {
-        return read_edge(r);
-    }
-    Parsed::Other
-}
-
-pub(crate) fn parse_row(records: &[u8], i: usize) -> Parsed
-    requires { record_len * i + record_len ≤ length records.now }
-    ensures { result ≡ parsed_as 3 (record_at records.now i) }
-{
-    let r = read(records, i);
-    if r.kind == Record::ROW {
-        return read_row(r);
-    }
-    Parsed::Other
-}
-
-pub(crate) fn parse_rule(records: &[u8], i: usize) -> Parsed
-    requires { record_len * i + record_len ≤ length records.now }
-    ensures { result ≡ parsed_as 4 (record_at records.now i) }
-{
-    let r = read(records, i);
-    if r.kind == Record::RULE {
-        return read_rule(r);
-    }
-    Parsed::Other
-}
-
-pub(crate) fn parse_interface(records: &[u8], i: usize) -> Parsed
-    requires { record_len * i + record_len ≤ length records.now }
-    ensures { result ≡ parsed_as 5 (record_at records.now i) }
-{
-    let r = read(records, i);
-    if r.kind == Record::INTERFACE {
-        return read_interface(r);
+    if r.kind == kind {
+        return parsed(r);
     }
     Parsed::Other
 }

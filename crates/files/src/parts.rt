@@ -1,6 +1,7 @@
 // Numbers 5, 7 and 8 of a file of deliveries in which 2 and 3 found nothing: each delivery is a graph by itself, which starts behind its opening and ends at the next. States
 // of `passed_deliveries` that it tells 5, and of `name_deliveries` that it finds the lower of 7 and 8 at its first record.
-ghost use Rattle.std.specs.Prelude.{◌≡◌, ◌+◌, ◌≤◌, ◌<◌};
+ghost use Rattle.std.specs.Prelude.{◌≡◌, ◌+◌, ◌-◌, ◌*◌, ◌≤◌, ◌<◌, take, drop};
+ghost use Rattle.files.specs.Places.{record_len};
 ghost use Rattle.files.specs.Record.{count, kind_at};
 ghost use Rattle.files.specs.Refusal.{graph, passed};
 ghost use Rattle.files.specs.Checking.{found_at, lowest};
@@ -10,7 +11,7 @@ ghost use Rattle.files.specs.Deliveries.Steps.{delivery_test};
 
 use crate::check::over;
 use crate::naming::name_nodes;
-use crate::offence::{FileKind, Found};
+use crate::offence::FileKind;
 use crate::parse::{kind_at, read};
 use crate::record::{Limits, Record};
 use crate::refusal::Refusal;
@@ -24,20 +25,26 @@ pub struct Part {
     pub nodes: usize,
 }
 
+// The records of the file from `start` up to `end`.
+pub(crate) fn records_in(file: &[u8], start: usize, end: usize) -> &[u8]
+    requires { (start ≤ end) × (end ≤ count file.now) }
+    ensures { result.now ≡ take (record_len * end - record_len * start) (drop (record_len * start) file.now) }
+{
+    &file[Record::LEN * start..Record::LEN * end]
+}
+
 // The next opening from record a on, or the count of records.
 fn part_end(file: &[u8], a: usize) -> usize
     requires { a ≤ count file.now }
     ensures { result ≡ own_end file.now a }
 {
     let n = file.len() / Record::LEN;
-    let mut e = a;
-    while e < n {
+    for e in a..n {
         if kind_at(file, e) == Record::OPENING {
             return e;
         }
-        e += 1;
     }
-    e
+    n
 }
 
 // The delivery that starts at record a.
@@ -46,9 +53,7 @@ pub(crate) fn part_at(file: &[u8], a: usize) -> Part
     ensures { PartAt file.now a result }
 {
     let e = part_end(file, a);
-    let from = Record::LEN * a;
-    let to = Record::LEN * e;
-    let nodes = count(FileKind::Graph, &file[from..to]);
+    let nodes = count(FileKind::Graph, records_in(file, a, e));
     Part {
         start: a,
         end: e,
@@ -83,36 +88,32 @@ pub(crate) fn passed_deliveries(file: &[u8], limits: Limits) -> bool
 {
     let n = file.len() / Record::LEN;
     let mut some = false;
-    let mut o = 0;
-    while o < n {
+    for o in 0..n {
         some = opens_passed(file, o, limits) | some;
-        o += 1;
     }
     some
 }
 
 // 8 of a node: it is of another method than its opening.
-fn name_own(file: &[u8], part: Part, i: usize, position: u8) -> Found
+fn name_own(file: &[u8], part: Part, i: usize, position: u8) -> Result<(), Refusal>
     requires { (SoundParts file.now) × ((i < count file.now) × ((Held file.now i part) × (kind_at file.now i ≡ 1))) }
     ensures { result ≡ found_at 2 7 (delivery_test file.now) 0 position i }
 {
     let opening = read(file, part.start - 1);
     let node = read(file, i);
     if node.first == opening.first {
-        return Found::Nothing;
+        return Ok(());
     }
-    Found::At(Refusal::at(8, position, i))
+    Err(Refusal::at(8, position, i))
 }
 
 // 7 and 8 of an edge, in the graph that its delivery is.
-fn name_edge(file: &[u8], part: Part, i: usize, position: u8) -> Found
+fn name_edge(file: &[u8], part: Part, i: usize, position: u8) -> Result<(), Refusal>
     requires { (SoundParts file.now) × ((i < count file.now) × ((Held file.now i part) × ((kind_at file.now i ≡ 1 → ⊥) × (kind_at file.now i ≡ 6 → ⊥)))) }
     ensures { result ≡ found_at 2 7 (delivery_test file.now) 0 position i }
 {
-    let from = Record::LEN * part.start;
-    let to = Record::LEN * part.end;
     name_nodes(
-        &file[from..to],
+        records_in(file, part.start, part.end),
         part.nodes,
         i - part.start,
         part.start,
@@ -120,13 +121,13 @@ fn name_edge(file: &[u8], part: Part, i: usize, position: u8) -> Found
     )
 }
 
-fn name_delivery(file: &[u8], part: Part, i: usize, position: u8) -> Found
+fn name_delivery(file: &[u8], part: Part, i: usize, position: u8) -> Result<(), Refusal>
     requires { (SoundParts file.now) × ((i < count file.now) × (Held file.now i part)) }
     ensures { result ≡ found_at 2 7 (delivery_test file.now) 0 position i }
 {
     let kind = kind_at(file, i);
     if kind == Record::OPENING {
-        return Found::Nothing;
+        return Ok(());
     }
     if kind == Record::NODE {
         return name_own(file, part, i, position);
@@ -146,23 +147,21 @@ fn next_part(file: &[u8], part: Part, i: usize) -> Part
 }
 
 // The lower of numbers 7 and 8, at its first record.
-pub(crate) fn name_deliveries(file: &[u8], position: u8) -> Found
+pub(crate) fn name_deliveries(file: &[u8], position: u8) -> Result<(), Refusal>
     requires { SoundParts file.now }
     ensures { result ≡ lowest 2 7 (delivery_test file.now) 0 position (count file.now) }
 {
     let n = file.len() / Record::LEN;
-    let mut found = Found::Nothing;
+    let mut found = Ok(());
     let mut part = Part {
         start: 0,
         end: 0,
         nodes: 0,
     };
-    let mut i = 0;
-    while i < n {
+    for i in 0..n {
         let next = name_delivery(file, part, i, position);
         found = lower(found, next);
         part = next_part(file, part, i);
-        i += 1;
     }
     found
 }

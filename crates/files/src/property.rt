@@ -1,60 +1,126 @@
 // The rows of an accepted property file.
-ghost use Rattle.std.specs.Prelude.{◌≡◌, ◌<◌};
+ghost use Rattle.std.specs.Prelude.{◌≡◌, ◌<◌, T, cond, Some, None};
 ghost use Rattle.files.specs.Record.{count};
-ghost use Rattle.files.specs.Property.{row, is_box, box_row};
+ghost use Rattle.files.specs.Property.{row, is_box, aims, box_row};
 ghost use Rattle.files.specs.Decode.{decode_property};
-ghost use Rattle.files.specs.Access.{PropertyFile, row_held, looks};
+ghost use Rattle.files.specs.Access.{PropertyFile, row_held, row_by, operator_of, looks, looked_at};
 
 use crate::parse::read;
-use crate::record::Operator;
+use crate::record::{Operator, Record};
 
+// A row as the code holds it, with the methods, labels and rows that it names.
 #[derive(Clone, Copy)]
-pub struct PropertyRow {
-    pub operator: u8,
-    pub a: u8,
-    pub b: u8,
+pub enum PropertyRow {
+    True,
+    False,
+    InMethod(u8),
+    NotInMethod(u8),
+    Returns,
+    NotReturns,
+    And(u8, u8),
+    Or(u8, u8),
+    Box { label: u8, row: u8 },
+    BoxAll(u8),
 }
 
-// Whether a row looks along a label, and at which row: what it obliges the end of such an edge to.
-#[derive(Clone, Copy)]
-pub struct Looks {
-    pub along: bool,
-    pub at: u8,
+impl PropertyRow {
+    // Whether the row is a box, of one label or of all.
+    pub fn is_box(self) -> bool
+        ensures { result ≡ is_box (operator_of self) }
+    {
+        match self {
+            PropertyRow::Box { .. } | PropertyRow::BoxAll(_) => true,
+            PropertyRow::True
+            | PropertyRow::False
+            | PropertyRow::InMethod(_)
+            | PropertyRow::NotInMethod(_)
+            | PropertyRow::Returns
+            | PropertyRow::NotReturns
+            | PropertyRow::And(..)
+            | PropertyRow::Or(..) => false,
+        }
+    }
+
+    // The row, if any, that the row obliges the end of an edge with this label to. Judging, the sheet's causes and the model's obligations ask this and nothing else.
+    pub fn obliged(self, label: u8) -> Option<u8>
+        ensures { result ≡ looks self label }
+    {
+        match self {
+            PropertyRow::Box { label: along, row } => (along == label).then_some(row),
+            PropertyRow::BoxAll(row) => Some(row),
+            PropertyRow::True
+            | PropertyRow::False
+            | PropertyRow::InMethod(_)
+            | PropertyRow::NotInMethod(_)
+            | PropertyRow::Returns
+            | PropertyRow::NotReturns
+            | PropertyRow::And(..)
+            | PropertyRow::Or(..) => None,
+        }
+    }
+
+    // The row that a box looks at, whatever the label.
+    pub fn looked_at(self) -> u8
+        requires { T (is_box (operator_of self)) }
+        ensures { result ≡ looked_at self }
+    {
+        match self {
+            PropertyRow::Box { row, .. } | PropertyRow::BoxAll(row) => row,
+            PropertyRow::True
+            | PropertyRow::False
+            | PropertyRow::InMethod(_)
+            | PropertyRow::NotInMethod(_)
+            | PropertyRow::Returns
+            | PropertyRow::NotReturns
+            | PropertyRow::And(..)
+            | PropertyRow::Or(..) => 0,
+        }
+    }
 }
 
-// Whether a row of this operator is a box, of one label (9) or of all (10, the last operator).
+// The same of bytes, which may be any: whether an operator is a box's, and the row that a row with these bytes obliges to. For callers that hold bytes, as docs/DECISIONS.md
+// names them; here a row is a `PropertyRow`.
 pub fn is_box(operator: u8) -> bool
     ensures { result ≡ is_box operator }
 {
     Operator::BOX <= operator
 }
 
-// The row that a box looks at, whatever the label.
-fn box_row(operator: u8, a: u8, b: u8) -> u8
-    ensures { result ≡ box_row operator a b }
+pub fn obliged(operator: u8, a: u8, b: u8, label: u8) -> Option<u8>
+    ensures { result ≡ cond (aims operator a label) (Some (box_row operator a b)) None }
 {
-    if operator == Operator::BOX_ALL { a } else { b }
-}
-
-// What a row obliges the end of an edge with this label to. Judging, the sheet's causes and the model's obligations ask this and nothing else.
-pub fn obliged(x: PropertyRow, label: u8) -> Looks
-    ensures { result ≡ looks x label }
-{
-    Looks {
-        along: (x.operator == Operator::BOX_ALL) | ((x.operator == Operator::BOX) & (x.a == label)),
-        at: box_row(x.operator, x.a, x.b),
+    match operator {
+        Operator::BOX_ALL => Some(a),
+        Operator::BOX => (a == label).then_some(b),
+        _ => None,
     }
 }
 
-// The operator of row r and its operands, 0 where it has none.
+// The row that a record is. An accepted one has one of ten operators, of which the first is left at the end.
+fn row_by(r: Record) -> PropertyRow
+    ensures { result ≡ row_by r.first r.second r.third }
+{
+    match r.first {
+        Operator::FALSE => PropertyRow::False,
+        Operator::IN_METHOD => PropertyRow::InMethod(r.second),
+        Operator::NOT_IN_METHOD => PropertyRow::NotInMethod(r.second),
+        Operator::RETURNS => PropertyRow::Returns,
+        Operator::NOT_RETURNS => PropertyRow::NotReturns,
+        Operator::AND => PropertyRow::And(r.second, r.third),
+        Operator::OR => PropertyRow::Or(r.second, r.third),
+        Operator::BOX => PropertyRow::Box {
+            label: r.second,
+            row: r.third,
+        },
+        Operator::BOX_ALL => PropertyRow::BoxAll(r.second),
+        _ => PropertyRow::True,
+    }
+}
+
+// Row r.
 pub fn row_at(property: &[u8], r: usize) -> PropertyRow
     requires { (PropertyFile property.now) × (r < count property.now) }
     ensures { result ≡ row_held (row (decode_property property.now) r) }
 {
-    let x = read(property, r);
-    PropertyRow {
-        operator: x.first,
-        a: x.second,
-        b: x.third,
-    }
+    row_by(read(property, r))
 }

@@ -1,6 +1,6 @@
 // The record of six bytes, whatever its kind: its constants, its constructors, and what it reads as.
 ghost use Rattle.std.specs.Prelude.{◌≡◌, [], ◌∷◌};
-ghost use Rattle.files.specs.Record.{six, node_record, edge_record};
+ghost use Rattle.files.specs.Record.{six, node_record, edge_record, step_number, step_of};
 ghost use Rattle.files.specs.Limits.{desk};
 
 // The six bytes of a record, in file order.
@@ -18,6 +18,7 @@ impl Record {
     // The length of every record, in bytes.
     pub const LEN: usize = 6;
 
+    // The kinds are bytes and no enum: a record's first byte may be any, and refusals 2 and 3 compare it as it stands. What is read is a `Parsed`.
     pub const NODE: u8 = 1;
 
     pub const EDGE: u8 = 2;
@@ -86,7 +87,7 @@ impl Record {
     }
 }
 
-// The operators of a property's rows.
+// The operators of a property's rows. Bytes and no enum: a row's may be any until the row is checked (row_wrong, names_past). A checked row is a `PropertyRow`.
 #[derive(Drop)]
 pub struct Operator {}
 
@@ -113,19 +114,40 @@ impl Operator {
     pub const BOX_ALL: u8 = 10;
 }
 
-// The steps of a trail's records.
-#[derive(Drop)]
-pub struct Step {}
+// A step of a trail: its first record, an internal step, a call entered, and one passed over.
+#[derive(Clone, Copy, PartialEq, Eq)]
+pub enum Step {
+    Start,
+    Internal,
+    Entered,
+    Passed,
+}
 
 impl Step {
-    pub const START: u8 = 0;
+    // Its number in a trail's records.
+    pub fn number(self) -> u8
+        ensures { result ≡ step_number self }
+    {
+        match self {
+            Step::Start => 0,
+            Step::Internal => 1,
+            Step::Entered => 2,
+            Step::Passed => 3,
+        }
+    }
 
-    pub const INTERNAL: u8 = 1;
-
-    // A call entered, and one passed over.
-    pub const ENTERED: u8 = 2;
-
-    pub const PASSED: u8 = 3;
+    // The step of a number, if it is one's.
+    pub fn of(number: u8) -> Option<Self>
+        ensures { result ≡ step_of number }
+    {
+        match number {
+            0 => Some(Step::Start),
+            1 => Some(Step::Internal),
+            2 => Some(Step::Entered),
+            3 => Some(Step::Passed),
+            _ => None,
+        }
+    }
 }
 
 // How much a file may hold.
@@ -161,7 +183,7 @@ impl Limits {
     }
 }
 
-// What the six bytes of a record read as. `Wrong`: a field is out of range or an unused byte is not 0. `Other`: the kind is none of the five.
+// What the six bytes of a record read as: five kinds, so no Option or Result. `Wrong`: a field is out of range or an unused byte is not 0. `Other`: the kind is none of the five.
 #[derive(Clone, Copy)]
 pub enum Parsed {
     Node {

@@ -1,4 +1,5 @@
-// A refusal: its number in the published table, the position of the file from 1, and the first offending record from 0.
+// A refusal: its number in the published table, the position of the file from 1, and the first offending record from 0. The number is no enum: programs print it, C gets it,
+// and the definitions count on it (Outcome.numbered).
 ghost use Rattle.std.specs.Prelude.{◌≡◌};
 ghost use Rattle.files.specs.Outcome.{refusal_at};
 

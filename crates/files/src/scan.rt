@@ -7,18 +7,19 @@ ghost use Rattle.files.specs.FileKind.{kind_of};
 ghost use Rattle.files.specs.Checking.{test, lower, lowest, counts, counted, bound_of, Sound};
 
 use crate::naming::name;
-use crate::offence::{FileKind, Found, look};
+use crate::offence::{FileKind, look};
 use crate::parse::{kind_at, read};
 use crate::record::{Operator, Record};
+use crate::refusal::Refusal;
 
 // The one of the lower number, the earlier where they have the same.
-pub(crate) fn lower(found: Found, next: Found) -> Found
+pub(crate) fn lower(found: Result<(), Refusal>, next: Result<(), Refusal>) -> Result<(), Refusal>
     ensures { result ≡ lower found next }
 {
-    let Found::At(later) = next else {
+    let Err(later) = next else {
         return found;
     };
-    let Found::At(earlier) = found else {
+    let Err(earlier) = found else {
         return next;
     };
     if later.number < earlier.number {
@@ -29,17 +30,20 @@ pub(crate) fn lower(found: Found, next: Found) -> Found
 }
 
 // The lowest of numbers 2 to 4, at its first record.
-pub(crate) fn look_through(kind: FileKind, records: &[u8], first: usize, position: u8) -> Found
+pub(crate) fn look_through(
+    kind: FileKind,
+    records: &[u8],
+    first: usize,
+    position: u8,
+) -> Result<(), Refusal>
     requires { first + length records.now < usize_end }
     ensures { result ≡ lowest 3 2 (test (kind_of kind) records.now) first position (count records.now) }
 {
     let n = records.len() / Record::LEN;
-    let mut found = Found::Nothing;
-    let mut i = 0;
-    while i < n {
+    let mut found = Ok(());
+    for i in 0..n {
         let next = look(kind, records, i, first, position);
         found = lower(found, next);
-        i += 1;
     }
     found
 }
@@ -51,17 +55,15 @@ pub(crate) fn name_through(
     bound: usize,
     first: usize,
     position: u8,
-) -> Found
+) -> Result<(), Refusal>
     requires { (Sound (kind_of kind) records.now) × ((bound ≡ bound_of (kind_of kind) records.now) × (first + length records.now < usize_end)) }
     ensures { result ≡ lowest 2 7 (test (kind_of kind) records.now) first position (count records.now) }
 {
     let n = records.len() / Record::LEN;
-    let mut found = Found::Nothing;
-    let mut i = 0;
-    while i < n {
+    let mut found = Ok(());
+    for i in 0..n {
         let next = name(kind, records, bound, i, first, position);
         found = lower(found, next);
-        i += 1;
     }
     found
 }
@@ -77,8 +79,7 @@ fn counts(kind: FileKind, records: &[u8], i: usize) -> bool
             let r = read(records, i);
             r.first == Operator::OR
         }
-        FileKind::Rules => false,
-        FileKind::Interface => false,
+        FileKind::Rules | FileKind::Interface => false,
     }
 }
 
@@ -87,12 +88,10 @@ pub(crate) fn count(kind: FileKind, records: &[u8]) -> usize
     ensures { result ≡ counted (kind_of kind) records.now }
 {
     let n = records.len() / Record::LEN;
-    let mut i = 0;
     let mut apart = 0;
-    while i < n {
+    for i in 0..n {
         let this = counts(kind, records, i);
         apart += this as usize;
-        i += 1;
     }
     apart
 }

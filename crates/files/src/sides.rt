@@ -4,43 +4,25 @@ ghost use Rattle.std.specs.Prelude.{◌≡◌, ◌+◌, ◌*◌, ◌≤◌, leng
 ghost use Rattle.files.specs.Places.{record_len};
 ghost use Rattle.files.specs.Record.{parsed_at};
 ghost use Rattle.files.specs.Decode.{decode_graph, decode_interface};
-ghost use Rattle.files.specs.Sides.{foreign_node, foreign_call, foreign_of, first_foreign_record, shares, lacks, unprovided, has_entry, lacks_entry};
+ghost use Rattle.files.specs.Sides.{foreign_of, first_foreign_record, shares, lacks, unprovided, has_entry, lacks_entry};
 ghost use Rattle.files.specs.Refusal.{nodes_of};
 ghost use Rattle.files.specs.Access.{GraphFile, InterfaceFile};
 
 use crate::graph::node_at;
 use crate::interface::{in_set, provided_methods, provides, required_methods};
-use crate::parse::{parse_edge, parse_node};
+use crate::parse::{parsed, read};
 use crate::record::{Parsed, Record};
 
-// A node whose method is not provided.
-fn foreign_node(p: Parsed, provided: u8, required: u8) -> bool
-    ensures { result ≡ foreign_node (record { provided = provided; required = required }) p }
-{
-    let Parsed::Node { method, .. } = p else {
-        return false;
-    };
-    !in_set(provided, method)
-}
-
-// An edge that calls a method that is not required.
-fn foreign_call(p: Parsed, provided: u8, required: u8) -> bool
-    ensures { result ≡ foreign_call (record { provided = provided; required = required }) p }
-{
-    let Parsed::Edge { label, .. } = p else {
-        return false;
-    };
-    (0 < label) & !in_set(required, label)
-}
-
-// Record i is not of the interface with these sets.
+// Record i is not of the interface with these sets: a node whose method is not provided, or an edge that calls a method that is not required.
 fn foreign(graph: &[u8], i: usize, provided: u8, required: u8) -> bool
     requires { record_len * i + record_len ≤ length graph.now }
     ensures { result ≡ foreign_of (record { provided = provided; required = required }) (parsed_at graph.now i) }
 {
-    let node = parse_node(graph, i);
-    let edge = parse_edge(graph, i);
-    foreign_node(node, provided, required) | foreign_call(edge, provided, required)
+    match parsed(read(graph, i)) {
+        Parsed::Node { method, .. } => !in_set(provided, method),
+        Parsed::Edge { label, .. } => (0 < label) & !in_set(required, label),
+        _ => false,
+    }
 }
 
 // The first record of the graph that is not of the interface, or the count of records.
@@ -51,12 +33,10 @@ pub(crate) fn first_foreign(graph: &[u8], interface: &[u8]) -> usize
     let provided = provided_methods(interface);
     let required = required_methods(interface);
     let n = graph.len() / Record::LEN;
-    let mut i = 0;
-    while i < n {
+    for i in 0..n {
         if foreign(graph, i, provided, required) {
             return i;
         }
-        i += 1;
     }
     n
 }
@@ -66,28 +46,14 @@ pub(crate) fn shares(first: &[u8], second: &[u8]) -> bool
     requires { (InterfaceFile first.now) × (InterfaceFile second.now) }
     ensures { result ≡ shares (decode_interface first.now) (decode_interface second.now) }
 {
-    let mut m = 1;
-    while m < 9 {
-        if provides(first, m) & provides(second, m) {
-            return true;
-        }
-        m += 1;
-    }
-    false
+    (1..9).any(|m| provides(first, m) & provides(second, m))
 }
 
 // A required method is not provided.
 fn lacks(provided: u8, required: u8) -> bool
     ensures { result ≡ lacks (record { provided = provided; required = required }) }
 {
-    let mut m = 1;
-    while m < 9 {
-        if in_set(required, m) & !in_set(provided, m) {
-            return true;
-        }
-        m += 1;
-    }
-    false
+    (1..9).any(|m| in_set(required, m) & !in_set(provided, m))
 }
 
 // A required method, or the start method, is provided by nobody, where these methods are provided and required.
@@ -102,13 +68,11 @@ fn has_entry(graph: &[u8], nodes: usize, m: u8) -> bool
     requires { (GraphFile graph.now) × (nodes ≡ nodes_of graph.now) }
     ensures { result ≡ has_entry (decode_graph graph.now) m }
 {
-    let mut n = 0;
-    while n < nodes {
+    for n in 0..nodes {
         let v = node_at(graph, n);
         if v.entry & (v.method == m) {
             return true;
         }
-        n += 1;
     }
     false
 }
@@ -118,12 +82,5 @@ pub fn lacks_entry(interface: &[u8], graph: &[u8], nodes: usize) -> bool
     requires { (InterfaceFile interface.now) × ((GraphFile graph.now) × (nodes ≡ nodes_of graph.now)) }
     ensures { result ≡ lacks_entry (decode_interface interface.now) (decode_graph graph.now) }
 {
-    let mut m = 1;
-    while m < 9 {
-        if provides(interface, m) & !has_entry(graph, nodes, m) {
-            return true;
-        }
-        m += 1;
-    }
-    false
+    (1..9).any(|m| provides(interface, m) & !has_entry(graph, nodes, m))
 }

@@ -46,12 +46,10 @@ pub(crate) fn repeats(file: &[u8]) -> bool
 {
     let n = file.len() / Record::LEN;
     let mut met = [0u8; ISSUES];
-    let mut i = 0;
-    while i < n {
+    for i in 0..n {
         if meet(file, &mut met, i) {
             return true;
         }
-        i += 1;
     }
     false
 }
@@ -91,10 +89,8 @@ pub fn latest_openings(file: &[u8]) -> [usize; METHODS]
 {
     let n = file.len() / Record::LEN;
     let mut kept = [0usize; METHODS];
-    let mut i = 0;
-    while i < n {
+    for i in 0..n {
         keep_later(file, &mut kept, i);
-        i += 1;
     }
     kept
 }

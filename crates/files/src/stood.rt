@@ -31,12 +31,10 @@ pub fn standing_view(file: &[u8], kept: &[usize; METHODS]) -> GraphView
 {
     let mut nodes = 0;
     let mut edges = 0;
-    let mut method = 1;
-    while method <= 8 {
+    for method in 1..METHODS {
         let part = standing_part(file, kept, method);
         nodes += part.nodes;
         edges += part.end - part.start - part.nodes;
-        method += 1;
     }
     GraphView {
         nodes: nodes,

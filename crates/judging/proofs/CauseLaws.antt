@@ -1,9 +1,11 @@
 -- For the code that finds causes: ranks and first edges as their cells hold them, targets as numbers, and causes by a row's operator.
 use mathlib.Core.Path.{◌≡◌, refl, sym, ap, ap₂, subst, ◌∙◌}
 use mathlib.Core.Logic.{inl}
-use mathlib.Core.Bool.{Bool, true, false, cond, ◌&&◌, ◌||◌}
+use mathlib.Core.Bool.{Bool, true, false, not, cond, ◌&&◌, ◌||◌}
 use mathlib.Core.List.{List, [], ◌∷◌}
 use mathlib.Core.Option.{Option, none, some}
+use Rattle.std.specs.Prelude.{Option as OptionOf, None, Some, MatchOption}
+use Rattle.std.specs.Option.{unwrap_or}
 use Prim.Native.Nat.{ℕ, suc, ◌+◌, ◌*◌, ◌≤◌, ◌<◌}
 use native.Mathlib.Nat.{mul-le-mul}
 use native.Mathlib.Numerals.{add-one}
@@ -11,7 +13,7 @@ use native.Mathlib.Omega.{arith}
 use lib.Dec.{T, eqb, ltb, leb, ltb→lt}
 use lib.ListN.{length, get_or}
 use borrow.Author.Tests.{le-leb, lt-leb}
-use Rattle.files.specs.Access.{row_held, edge_held, first_edge}
+use Rattle.files.specs.Access.{row_held, edge_held, first_edge, looked_at, aims_along, operator_of, first_of, second_of}
 use Rattle.files.specs.Access.Boxes.{looks_obliged, boxed_if, boxed_operator, box_row_named}
 use Rattle.files.specs.Access.Laws.{first_edge_le, leaves_in, in_leaves, scan_starts}
 use Rattle.files.specs.Basics.First.{first_or}
@@ -21,24 +23,23 @@ use Rattle.files.specs.Cells.{cell, put_cell}
 use Rattle.files.specs.Cells.Laws.{cells_on, cell_apart}
 use Rattle.files.specs.Decode.{decode_graph, decode_property, row_of, Filed}
 use Rattle.files.specs.Decode.Graphs.{decoded_filed}
-use Rattle.files.specs.Decode.Values.{row_written}
 use Rattle.files.specs.Graph.{Graph, size, no_edge}
 use Rattle.files.specs.Places.{max_edges}
-use Rattle.files.specs.Property.{Row, both, either, row, names, obliged, Boxed, is_box, aims, box_row}
+use Rattle.files.specs.Property.{Row, always, never, returns, not_returns, in_method, not_in_method, both, either, box, box_all, row, names, obliged, Boxed, is_box}
 use Rattle.files.specs.declared.graph.GraphEdge.{GraphEdge}
 use Rattle.files.specs.declared.property.PropertyRow.{PropertyRow}
 use Rattle.judging.specs.Places.{firsts_base, judge_room, max_pairs}
 use Rattle.judging.specs.declared.causes.Cause.{Cause}
 use Rattle.judging.specs.declared.shape.Shape.{Shape}
 use Rattle.judging.specs.Levels.{holds, rank}
-use Rattle.judging.specs.Levels.Sheet.{no_cause, targets, lower, ahead, box_causes, causes}
+use Rattle.judging.specs.Levels.Sheet.{no_cause, targets, lower, ahead, box_causes, causes, failing}
 use Rattle.judging.specs.Levels.Sheet.Laws.{lower_is, ahead_is, box_none, box_some, causes_both, causes_box, causes_rest}
 use Rattle.judging.proofs.Theorems.Levels.Sheet.Laws.{causes_either}
 use Rattle.judging.specs.Ranking.{Ready, rank_at, Ranked}
 use Rattle.judging.specs.Ranking.Files.{size_is, edges_is, rows_is, is_flow, is_property, nodes_fit, rows_fit}
 use Rattle.judging.specs.Ranking.Laws.{ranked_e, ranked_i}
-use Rattle.judging.specs.Sheets.{cause_held, AreCauses, as_causes, best_target, better}
-use Rattle.judging.specs.Sheets.Laws.{within, best_none, best_still, best_within, best_on, box_causes_are}
+use Rattle.judging.specs.Sheets.{cause_held, AreCauses, as_causes, fails_at, best_target, better}
+use Rattle.judging.specs.Sheets.Laws.{failing_at, failing_none, within, best_none, best_still, best_within, best_on, box_causes_are}
 use Rattle.judging.proofs.Theorems.Sheets.Laws.{zero_holds, rank_zero, rank_found}
 
 -- ---- ranks
@@ -58,6 +59,12 @@ module _ (s : Shape) (g p : List ℕ) (ready : Ready s g p) where
 
   as_row : (r : ℕ) → r < s.rows → r < length P
   as_row r h = omega (arith, rows_is s g p ready)
+
+  -- ---- the lowest failing entry, from what a search of the nodes gives
+
+  pub lowest_failing : (r : OptionOf ℕ) → MatchOption r ((v : ℕ) → 0 ≤ v → v < s.graph.nodes → T (not (fails_at G P v))) (λ v. (0 ≤ v) × (v < s.graph.nodes) × T (fails_at G P v) × ((u : ℕ) → 0 ≤ u → u < v → T (not (fails_at G P u)))) → unwrap_or r s.graph.nodes ≡ failing G P
+  lowest_failing None h = sym (size_is s g p ready) ∙ sym (failing_none G P (λ v l. h v (omega arith) (omega (arith, l, size_is s g p ready))))
+  lowest_failing (Some v) h = sym (failing_at G P v (as_node v h.1) (λ u l. h.3 u (omega arith) l) h.2)
 
   module _ (w : List ℕ) (found : Ranked G P w) where
     module _ (v r x : ℕ) (hv : v < s.graph.nodes) (hr : r < s.rows) (is : x ≡ rank_at w v r) where
@@ -179,29 +186,33 @@ module _ (G : Graph) (P : List Row) where
   pub ahead_by : (x t b m n : ℕ) → m ≡ rank G P x b → n ≡ rank G P t b → ltb m n || (eqb m n && leb x t) ≡ ahead G P (x, b) (t, b)
   ahead_by x t b m n d e = ap₂ (λ (i j : ℕ). ltb i j || (eqb i j && leb x t)) d e ∙ sym (ahead_is G P (x, b) (t, b))
 
-  -- edge j, read as u, by the three tests on it
-  pub better_is : (u : GraphEdge) (l : ℕ → Bool) (b n best j : ℕ) (c d a : Bool) → u ≡ edge_held (get_or G.edges j no_edge) → l u.label ≡ c → ltb best n ≡ d → ahead G P (best, b) (u.to, b) ≡ a
-      → cond c (cond (d && a) best u.to) best ≡ better G P l b n best j
-  better_is u l b n best j c d a q x y z =
-      sym (ap (λ (i : Bool). cond i (cond (ltb best n && ahead G P (best, b) (u.to, b)) best u.to) best) x
-      ∙ ap (λ (i : Bool). cond c (cond (i && ahead G P (best, b) (u.to, b)) best u.to) best) y
-      ∙ ap (λ (i : Bool). cond c (cond (d && i) best u.to) best) z)
-      ∙ ap (λ (i : GraphEdge). cond (l i.label) (cond (ltb best n && ahead G P (best, b) (i.to, b)) best i.to) best) q
-
 -- ---- a row by its operator
+
+-- a row is told by its operator and its operands
+row_told : (x : Row) → x ≡ row_of (operator_of (row_held x)) (first_of (row_held x)) (second_of (row_held x))
+row_told always = refl
+row_told never = refl
+row_told returns = refl
+row_told not_returns = refl
+row_told (in_method a) = refl
+row_told (not_in_method a) = refl
+row_told (both a b) = refl
+row_told (either a b) = refl
+row_told (box l b) = refl
+row_told (box_all a) = refl
 
 -- row r, read as u
 module _ (s : Shape) (g p : List ℕ) (ready : Ready s g p) (v r : ℕ) (hr : r < s.rows) (u : PropertyRow) (is : u ≡ row_held (row (decode_property p) r)) where
-  operator_is : u.operator ≡ (row_held (row (decode_property p) r)).operator
-  operator_is = ap (λ (x : PropertyRow). x.operator) is
+  operator_is : operator_of u ≡ operator_of (row_held (row (decode_property p) r))
+  operator_is = ap (λ (x : PropertyRow). operator_of x) is
 
-  by_operator : (o : ℕ) → u.operator ≡ o → row (decode_property p) r ≡ row_of o u.a u.b
-  by_operator o e = sym (row_written (row (decode_property p) r)).0 ∙ ap (λ (x : PropertyRow). row_of x.operator x.a x.b) (sym is) ∙ ap (λ (n : ℕ). row_of n u.a u.b) e
+  by_operator : (o : ℕ) → operator_of u ≡ o → row (decode_property p) r ≡ row_of o (first_of u) (second_of u)
+  by_operator o e = row_told (row (decode_property p) r) ∙ ap (λ (x : PropertyRow). row_of (operator_of x) (first_of x) (second_of x)) (sym is) ∙ ap (λ (n : ℕ). row_of n (first_of u) (second_of u)) e
 
-  both_read : u.operator ≡ 7 → row (decode_property p) r ≡ both u.a u.b
+  both_read : operator_of u ≡ 7 → row (decode_property p) r ≡ both (first_of u) (second_of u)
   both_read = by_operator 7
 
-  either_read : u.operator ≡ 8 → row (decode_property p) r ≡ either u.a u.b
+  either_read : operator_of u ≡ 8 → row (decode_property p) r ≡ either (first_of u) (second_of u)
   either_read = by_operator 8
 
   named_rows : T (names s.rows (row (decode_property p) r))
@@ -209,21 +220,21 @@ module _ (s : Shape) (g p : List ℕ) (ready : Ready s g p) (v r : ℕ) (hr : r 
       subst (λ (n : ℕ). T (names n (row (decode_property p) r))) (rows_is s g p ready)
       ((is_property s g p ready).names_rows r (omega (arith, rows_is s g p ready)))
 
-  pub both_rows : u.operator ≡ 7 → (u.a < s.rows) × (u.b < s.rows)
+  pub both_rows : operator_of u ≡ 7 → (first_of u < s.rows) × (second_of u < s.rows)
   both_rows e =
-      let t : T (ltb u.a s.rows && ltb u.b s.rows) = subst (λ (x : Row). T (names s.rows x)) (both_read e) named_rows in
-      (ltb→lt u.a s.rows (and_l (ltb u.a s.rows) (ltb u.b s.rows) t), ltb→lt u.b s.rows (and_r (ltb u.a s.rows) (ltb u.b s.rows) t))
+      let t : T (ltb (first_of u) s.rows && ltb (second_of u) s.rows) = subst (λ (x : Row). T (names s.rows x)) (both_read e) named_rows in
+      (ltb→lt (first_of u) s.rows (and_l (ltb (first_of u) s.rows) (ltb (second_of u) s.rows) t), ltb→lt (second_of u) s.rows (and_r (ltb (first_of u) s.rows) (ltb (second_of u) s.rows) t))
 
   -- a box, of one label or of all: its operand is a row, and it obliges to it where the code says that it looks along the edge
-  module _ (e : is_box u.operator ≡ true) where
+  module _ (e : is_box (operator_of u) ≡ true) where
     boxed : Boxed (row (decode_property p) r)
-    boxed = boxed_if (row (decode_property p) r) (subst T (sym e ∙ ap (λ (y : PropertyRow). is_box y.operator) is) tt)
+    boxed = boxed_if (row (decode_property p) r) (subst T (sym e ∙ ap (λ (y : PropertyRow). is_box (operator_of y)) is) tt)
 
-    pub box_row_in : box_row u.operator u.a u.b < s.rows
-    box_row_in = subst (λ (y : PropertyRow). box_row y.operator y.a y.b < s.rows) (sym is) (box_row_named s.rows (row (decode_property p) r) boxed named_rows)
+    pub box_row_in : looked_at u < s.rows
+    box_row_in = subst (λ (y : PropertyRow). looked_at y < s.rows) (sym is) (box_row_named s.rows (row (decode_property p) r) boxed named_rows)
 
-    box_only : (l : ℕ) → obliged (row (decode_property p) r) l ≡ cond (aims u.operator u.a l) (some (box_row u.operator u.a u.b)) none
-    box_only l = subst (λ (y : PropertyRow). obliged (row (decode_property p) r) l ≡ cond (aims y.operator y.a l) (some (box_row y.operator y.a y.b)) none) (sym is) (looks_obliged (row (decode_property p) r) l)
+    box_only : (l : ℕ) → obliged (row (decode_property p) r) l ≡ cond (aims_along u l) (some (looked_at u)) none
+    box_only l = subst (λ (y : PropertyRow). obliged (row (decode_property p) r) l ≡ cond (aims_along y l) (some (looked_at y)) none) (sym is) (looks_obliged (row (decode_property p) r) l)
 
   -- a and b are what the code answers as the causes
   abbrev Answers : Cause → Cause → Type 0
@@ -233,24 +244,24 @@ module _ (s : Shape) (g p : List ℕ) (ready : Ready s g p) (v r : ℕ) (hr : r 
   as_listed xs e =
       (ap (λ (ys : List (ℕ × ℕ)). cause_held (get_or ys 0 no_cause)) (sym e), ap (λ (ys : List (ℕ × ℕ)). cause_held (get_or ys 1 no_cause)) (sym e))
 
-  pub both_causes : (c : ℕ) → u.operator ≡ 7 → c ≡ lower (decode_graph g) (decode_property p) v u.a u.b → Answers (record { node = v; row = c }) (cause_held no_cause)
+  pub both_causes : (c : ℕ) → operator_of u ≡ 7 → c ≡ lower (decode_graph g) (decode_property p) v (first_of u) (second_of u) → Answers (record { node = v; row = c }) (cause_held no_cause)
   both_causes c e q =
-      let x = as_listed ((v, lower (decode_graph g) (decode_property p) v u.a u.b) ∷ []) (causes_both (decode_graph g) (decode_property p) v r u.a u.b (both_read e)) in
+      let x = as_listed ((v, lower (decode_graph g) (decode_property p) v (first_of u) (second_of u)) ∷ []) (causes_both (decode_graph g) (decode_property p) v r (first_of u) (second_of u) (both_read e)) in
       (ap (λ (n : ℕ). record { node = v; row = n }) q ∙ x.0, x.1)
 
-  pub either_causes : u.operator ≡ 8 → Answers (record { node = v; row = u.a }) (record { node = v; row = u.b })
-  either_causes e = as_listed ((v, u.a) ∷ (v, u.b) ∷ []) (causes_either (decode_graph g) (decode_property p) v r u.a u.b (either_read e))
+  pub either_causes : operator_of u ≡ 8 → Answers (record { node = v; row = first_of u }) (record { node = v; row = second_of u })
+  either_causes e = as_listed ((v, first_of u) ∷ (v, second_of u) ∷ []) (causes_either (decode_graph g) (decode_property p) v r (first_of u) (second_of u) (either_read e))
 
-  pub box_causes_of : (c : Cause) → is_box u.operator ≡ true
-      → c ≡ cause_held (get_or (as_causes (box_row u.operator u.a u.b) (best_target (decode_graph g) (decode_property p) v (aims u.operator u.a) (box_row u.operator u.a u.b) s.graph.edges)) 0 no_cause)
+  pub box_causes_of : (c : Cause) → is_box (operator_of u) ≡ true
+      → c ≡ cause_held (get_or (as_causes (looked_at u) (best_target (decode_graph g) (decode_property p) v (aims_along u) (looked_at u) s.graph.edges)) 0 no_cause)
       → Answers c (cause_held no_cause)
   box_causes_of c e q =
-      let b = box_row u.operator u.a u.b in
+      let b = looked_at u in
       let x = as_listed _ (causes_box (decode_graph g) (decode_property p) v r (boxed e)) in (
         q
-            ∙ ap (λ (n : ℕ). cause_held (get_or (as_causes b (best_target (decode_graph g) (decode_property p) v (aims u.operator u.a) b n)) 0 no_cause)) (sym (edges_is s g p ready))
+            ∙ ap (λ (n : ℕ). cause_held (get_or (as_causes b (best_target (decode_graph g) (decode_property p) v (aims_along u) b n)) 0 no_cause)) (sym (edges_is s g p ready))
             ∙ ap (λ (xs : List (ℕ × ℕ)). cause_held (get_or xs 0 no_cause))
-            (sym (box_causes_are (decode_graph g) (decode_property p) v (aims u.operator u.a) b (row (decode_property p) r) (box_only e)))
+            (sym (box_causes_are (decode_graph g) (decode_property p) v (aims_along u) b (row (decode_property p) r) (box_only e)))
             ∙ x.0,
         ap cause_held (one_at_most (targets (decode_graph g) v (row (decode_property p) r))) ∙ x.1,
       )
@@ -259,8 +270,8 @@ module _ (s : Shape) (g p : List ℕ) (ready : Ready s g p) (v r : ℕ) (hr : r 
       one_at_most [] = ap (λ (ys : List (ℕ × ℕ)). get_or ys 1 no_cause) (sym (box_none (decode_graph g) (decode_property p)))
       one_at_most (x ∷ xs) = ap (λ (ys : List (ℕ × ℕ)). get_or ys 1 no_cause) (sym (box_some (decode_graph g) (decode_property p) x xs))
 
-  no_box : is_box u.operator ≡ false → Boxed (row (decode_property p) r) → ⊥
-  no_box n b = subst T (ap (λ (y : PropertyRow). is_box y.operator) (sym is) ∙ n) (boxed_operator (row (decode_property p) r) b)
+  no_box : is_box (operator_of u) ≡ false → Boxed (row (decode_property p) r) → ⊥
+  no_box n b = subst T (ap (λ (y : PropertyRow). is_box (operator_of y)) (sym is) ∙ n) (boxed_operator (row (decode_property p) r) b)
 
-  pub no_causes : (u.operator ≡ 7 → ⊥) → (u.operator ≡ 8 → ⊥) → is_box u.operator ≡ false → Answers (cause_held no_cause) (cause_held no_cause)
+  pub no_causes : (operator_of u ≡ 7 → ⊥) → (operator_of u ≡ 8 → ⊥) → is_box (operator_of u) ≡ false → Answers (cause_held no_cause) (cause_held no_cause)
   no_causes d e f = as_listed [] (causes_rest (decode_graph g) (decode_property p) v r (λ q. d (operator_is ∙ q)) (λ q. e (operator_is ∙ q)) (no_box f))

@@ -1,6 +1,6 @@
--- For the code that builds the chains: the row that a record names, a list of zeros, and one edge or place more.
+-- For the code that builds the chains: one item, one edge or place more, and chains whose heads were cleared.
 use mathlib.Core.Path.{◌≡◌, refl, sym, ap, subst, ◌∙◌}
-use mathlib.Core.Bool.{Bool, true, false, not, cond}
+use mathlib.Core.Bool.{false}
 use mathlib.Core.List.{List}
 use mathlib.Core.Option.{Option, none, some}
 use Prim.Native.Nat.{ℕ, ◌+◌, ◌*◌, ◌-◌, ◌/◌, ◌%◌, ◌≤◌, ◌<◌}
@@ -13,17 +13,16 @@ use borrow.Author.Tests.{ne_eqb}
 use Rattle.files.specs.Basics.Lists.{index_e}
 use Rattle.files.specs.Graph.{Graph, size, no_edge}
 use Rattle.files.specs.Places.{max_edges, two_bytes_last}
-use Rattle.files.specs.Property.{Row, always, never, returns, not_returns, in_method, not_in_method, both, either, box, box_all, row}
-use Rattle.files.specs.Access.{GraphFile, row_held}
+use Rattle.files.specs.Property.{Row, row}
+use Rattle.files.specs.Access.{GraphFile}
 use Rattle.files.specs.Cells.{cell, put_cell}
 use Rattle.files.specs.Decode.{decode_graph, decode_property}
 use Rattle.files.specs.Decode.Graphs.{decoded_size, decoded_edges, decoded_flow}
 use Rattle.files.specs.Record.{count}
 use Rattle.files.specs.Refusal.{nodes_of}
-use Rattle.files.specs.declared.property.PropertyRow.{PropertyRow}
 use Rattle.judging.specs.Places.{judge_room, node_heads_base, node_nexts_base, row_heads_base, row_nexts_base, node_heads_bytes}
 use Rattle.judging.specs.declared.shape.Shape.{Shape}
-use Rattle.judging.specs.Chains.{Chained, Outside, linked, into, uses, named, named_or, is_row, operand_of, Index}
+use Rattle.judging.specs.Chains.{Chained, Outside, linked, into, uses, named, named_or, is_row, Index}
 use Rattle.judging.specs.Chains.Laws.{chained_none, chained_kept, linked_is, linked_outside, test_turned, chain_more, chain_on, chain_skip, outside_both}
 use Rattle.judging.specs.Ranking.{Ready}
 use Rattle.judging.specs.Ranking.Files.{size_is, edges_is, rows_is}
@@ -34,34 +33,6 @@ use Rattle.judging.proofs.ClearedLaws.{cleared_outside, cleared_inside}
 pub linked_by : (w once twice : List ℕ) (heads nexts key item held : ℕ) → held ≡ cell w heads 2 key → once ≡ put_cell w nexts 2 item held → twice ≡ put_cell once heads 2 key (item + 1)
     → twice ≡ linked w heads nexts key item
 linked_by w once twice heads nexts key item held a b c = c ∙ rw (b, a, add-one) (sym (linked_is w heads nexts key item))
-
--- ---- the row that a record names
-
-operand_is : (x : Row) (i n : ℕ) → operand_of (row_held x).operator (row_held x).a (row_held x).b i n ≡ named_or (named x i) n
-operand_is always i n = refl
-operand_is never i n = refl
-operand_is returns i n = refl
-operand_is not_returns i n = refl
-operand_is (in_method a) i n = refl
-operand_is (not_in_method a) i n = refl
-operand_is (both a b) i n = refl
-operand_is (either a b) i n = refl
-operand_is (box l b) i n = go (eqb i 0)
-  where
-    go : (c : Bool) → cond (not c) b n ≡ named_or (cond c none (some b)) n
-    go true = refl
-    go false = refl
-operand_is (box_all a) i n = go (eqb i 0)
-  where
-    go : (c : Bool) → cond c a n ≡ named_or (cond c (some a) none) n
-    go true = refl
-    go false = refl
-
--- what the operands of row v, read as u, name
-pub row_names : (u : PropertyRow) (v : Row) (i n r : ℕ) → u ≡ row_held v → r ≡ operand_of u.operator u.a u.b i n → r ≡ named_or (named v i) n
-row_names u v i n r is e = e ∙ ap (λ (y : PropertyRow). operand_of y.operator y.a y.b i n) is ∙ operand_is v i n
-
--- ---- bytes
 
 -- ---- edges
 

@@ -8,7 +8,7 @@ use Prim.Native.Nat.{ℕ, zero, suc, ◌*◌, ◌/◌, ◌%◌, ◌≤◌, ◌<�
 use native.Mathlib.Omega.{arith}
 use lib.Dec.{T, eqb, leb}
 use lib.ListN.{length, get_or}
-use Rattle.files.specs.Access.{row_held}
+use Rattle.files.specs.Access.{row_held, aims_along, operator_of, first_of, second_of}
 use Rattle.files.specs.Access.Boxes.{boxed_if, boxed_operator}
 use Rattle.files.specs.Basics.Lists.{index_e}
 use Rattle.files.specs.Basics.Tables.{tally_le}
@@ -16,7 +16,7 @@ use Rattle.files.specs.Basics.Tests.{T_eq}
 use Rattle.files.specs.Cells.{cell}
 use Rattle.files.specs.Decode.{decode_graph, decode_property}
 use Rattle.files.specs.Graph.{Graph, size, no_edge}
-use Rattle.files.specs.Property.{Row, both, either, row, obliged, Boxed, is_box, aims}
+use Rattle.files.specs.Property.{Row, both, either, row, obliged, Boxed, is_box}
 use Rattle.files.specs.declared.property.PropertyRow.{PropertyRow}
 use Rattle.judging.specs.Places.{judge_room, max_pairs}
 use Rattle.judging.specs.declared.shape.Shape.{Shape}
@@ -85,48 +85,48 @@ module _ (s : Shape) (g p : List ℕ) (ready : Ready s g p) where
   module _ (k tail : ℕ) (w : List ℕ) (f : Finding G P k tail w) (v r q : ℕ) (hv : v < s.graph.nodes) (hq : q < s.rows) (falls : T (not (level G P k v r))) (names : Names (row P q) r)
       (u : PropertyRow) (is : u ≡ row_held (row P q)) where
     -- a box obliges to the row where the code says that it looks along the edge, and only there
-    module _ (e : is_box u.operator ≡ true) where
+    module _ (e : is_box (operator_of u) ≡ true) where
       pub is_boxed : Boxed (row P q)
-      is_boxed = boxed_if (row P q) (subst T (sym e ∙ ap (λ (y : PropertyRow). is_box y.operator) is) tt)
+      is_boxed = boxed_if (row P q) (subst T (sym e ∙ ap (λ (y : PropertyRow). is_box (operator_of y)) is) tt)
 
-      obliges : (l : ℕ) → obliged (row P q) l ≡ cond (aims u.operator u.a l) (some r) none
-      obliges l = box_operand G P (row P q) r is_boxed names l ∙ ap (λ (y : PropertyRow). cond (aims y.operator y.a l) (some r) none) (sym is)
+      obliges : (l : ℕ) → obliged (row P q) l ≡ cond (aims_along u l) (some r) none
+      obliges l = box_operand G P (row P q) r is_boxed names l ∙ ap (λ (y : PropertyRow). cond (aims_along y l) (some r) none) (sym is)
 
-      pub aims_obliges : (l : ℕ) → T (aims u.operator u.a l) → obliged (row P q) l ≡ some r
-      aims_obliges l t = obliges l ∙ ap (λ (b : Bool). cond b (some r) none) (T_eq (aims u.operator u.a l) t)
+      pub aims_obliges : (l : ℕ) → T (aims_along u l) → obliged (row P q) l ≡ some r
+      aims_obliges l t = obliges l ∙ ap (λ (b : Bool). cond b (some r) none) (T_eq (aims_along u l) t)
 
-      pub obliges_aims : (l : ℕ) → obliged (row P q) l ≡ some r → T (aims u.operator u.a l)
-      obliges_aims l d = go (aims u.operator u.a l) (sym (obliges l) ∙ d)
+      pub obliges_aims : (l : ℕ) → obliged (row P q) l ≡ some r → T (aims_along u l)
+      obliges_aims l d = go (aims_along u l) (sym (obliges l) ∙ d)
         where
           go : (b : Bool) → cond b (some r) none ≡ some r → T b
           go true x = tt
           go false x = absurd (none-ne-some _ x)
 
-    module _ (n : is_box u.operator ≡ false) where
+    module _ (n : is_box (operator_of u) ≡ false) where
       two : Operands G P (row P q) r
-      two = operands G P (row P q) r ((is_property s g p ready).names_rows q (row_in q hq)) names (λ b. subst T (ap (λ (y : PropertyRow). is_box y.operator) (sym is) ∙ n) (boxed_operator (row P q) b))
+      two = operands G P (row P q) r ((is_property s g p ready).names_rows q (row_in q hq)) names (λ b. subst T (ap (λ (y : PropertyRow). is_box (operator_of y)) (sym is) ∙ n) (boxed_operator (row P q) b))
 
-      a_is : u.a ≡ two.a
-      a_is = ap (λ (y : PropertyRow). y.a) is ∙ two.is_a
+      a_is : first_of u ≡ two.a
+      a_is = ap (λ (y : PropertyRow). first_of y) is ∙ two.is_a
 
-      b_is : u.b ≡ two.b
-      b_is = ap (λ (y : PropertyRow). y.b) is ∙ two.is_b
+      b_is : second_of u ≡ two.b
+      b_is = ap (λ (y : PropertyRow). second_of y) is ∙ two.is_b
 
-      pub a_fits : (pair v u.a < max_pairs) × (judge_room ≤ length w)
+      pub a_fits : (pair v (first_of u) < max_pairs) × (judge_room ≤ length w)
       a_fits = (omega (arith, a_is, two.a_row, rows_fit s g p ready, ready.held.few_nodes), f.room)
 
-      pub b_fits : (pair v u.b < max_pairs) × (judge_room ≤ length w)
+      pub b_fits : (pair v (second_of u) < max_pairs) × (judge_room ≤ length w)
       b_fits = (omega (arith, b_is, two.b_row, rows_fit s g p ready, ready.held.few_nodes), f.room)
 
       -- it has a rank where the pair is, and so is done
       pub given_done : (w' : List ℕ) → Given w' v q → RowDone G P k w' v r q
       given_done w' d = go two.by_operator
         where
-          go : ((row P q ≡ both two.a two.b) × ((row_held (row P q)).operator ≡ 7)) ⊎ ((row P q ≡ either two.a two.b) × ((row_held (row P q)).operator ≡ 8)) → RowDone G P k w' v r q
+          go : ((row P q ≡ both two.a two.b) × (operator_of (row_held (row P q)) ≡ 7)) ⊎ ((row P q ≡ either two.a two.b) × (operator_of (row_held (row P q)) ≡ 8)) → RowDone G P k w' v r q
           go (inl e) = both_done G P k w' v r q two.a two.b e.0 d
           go (inr e) = either_done G P k w' v r q two.a two.b e.0 (λ t. d)
 
-      module _ (x y : Bool) (ex : x ≡ (leb 1 (rank_at w v u.a) && leb (rank_at w v u.a) k)) (ey : y ≡ (leb 1 (rank_at w v u.b) && leb (rank_at w v u.b) k)) where
+      module _ (x y : Bool) (ex : x ≡ (leb 1 (rank_at w v (first_of u)) && leb (rank_at w v (first_of u)) k)) (ey : y ≡ (leb 1 (rank_at w v (second_of u)) && leb (rank_at w v (second_of u)) k)) where
         x_is : x ≡ not (level G P k v two.a)
         x_is =
             ex ∙ ap (λ (m : ℕ). leb 1 (rank_at w v m) && leb (rank_at w v m) k) a_is
@@ -137,13 +137,13 @@ module _ (s : Shape) (g p : List ℕ) (ready : Ready s g p) where
             ey ∙ ap (λ (m : ℕ). leb 1 (rank_at w v m) && leb (rank_at w v m) k) b_is
             ∙ rank_tells G P (is_flow s g p ready) (is_property s g p ready) k tail w f v two.b (node_in v hv) two.b_row
 
-        says : (eqb u.operator 7 || (x && y)) ≡ (eqb (row_held (row P q)).operator 7 || (not (level G P k v two.a) && not (level G P k v two.b)))
+        says : (eqb (operator_of u) 7 || (x && y)) ≡ (eqb (operator_of (row_held (row P q))) 7 || (not (level G P k v two.a) && not (level G P k v two.b)))
         says =
-            ap (λ (z : PropertyRow). eqb z.operator 7 || (x && y)) is
-            ∙ ap (λ (c : Bool). eqb (row_held (row P q)).operator 7 || (c && y)) x_is
-            ∙ ap (λ (c : Bool). eqb (row_held (row P q)).operator 7 || (not (level G P k v two.a) && c)) y_is
+            ap (λ (z : PropertyRow). eqb (operator_of z) 7 || (x && y)) is
+            ∙ ap (λ (c : Bool). eqb (operator_of (row_held (row P q))) 7 || (c && y)) x_is
+            ∙ ap (λ (c : Bool). eqb (operator_of (row_held (row P q))) 7 || (not (level G P k v two.a) && c)) y_is
 
-        either_says : (row P q ≡ either two.a two.b) × ((row_held (row P q)).operator ≡ 8) → (eqb u.operator 7 || (x && y)) ≡ not (level G P (suc k) v q)
+        either_says : (row P q ≡ either two.a two.b) × (operator_of (row_held (row P q)) ≡ 8) → (eqb (operator_of u) 7 || (x && y)) ≡ not (level G P (suc k) v q)
         either_says e =
             says
             ∙ ap (λ (o : ℕ). eqb o 7 || (not (level G P k v two.a) && not (level G P k v two.b))) e.1
@@ -151,17 +151,17 @@ module _ (s : Shape) (g p : List ℕ) (ready : Ready s g p) where
             ∙ ap not (sym (either_level G P k v q two.a two.b e.0))
 
         -- what the code asks is whether the row turns false
-        pub row_turns : (eqb u.operator 7 || (x && y)) ≡ true → T (not (level G P (suc k) v q))
+        pub row_turns : (eqb (operator_of u) 7 || (x && y)) ≡ true → T (not (level G P (suc k) v q))
         row_turns t = go two.by_operator
           where
-            go : ((row P q ≡ both two.a two.b) × ((row_held (row P q)).operator ≡ 7)) ⊎ ((row P q ≡ either two.a two.b) × ((row_held (row P q)).operator ≡ 8)) → T (not (level G P (suc k) v q))
+            go : ((row P q ≡ both two.a two.b) × (operator_of (row_held (row P q)) ≡ 7)) ⊎ ((row P q ≡ either two.a two.b) × (operator_of (row_held (row P q)) ≡ 8)) → T (not (level G P (suc k) v q))
             go (inl e) = both_falls G P k v q two.a two.b r e.0 two.names_one falls
             go (inr e) = subst T (sym t ∙ either_says e) tt
 
-        pub row_stays : (eqb u.operator 7 || (x && y)) ≡ false → RowDone G P k w v r q
+        pub row_stays : (eqb (operator_of u) 7 || (x && y)) ≡ false → RowDone G P k w v r q
         row_stays t = go two.by_operator
           where
-            go : ((row P q ≡ both two.a two.b) × ((row_held (row P q)).operator ≡ 7)) ⊎ ((row P q ≡ either two.a two.b) × ((row_held (row P q)).operator ≡ 8)) → RowDone G P k w v r q
+            go : ((row P q ≡ both two.a two.b) × (operator_of (row_held (row P q)) ≡ 7)) ⊎ ((row P q ≡ either two.a two.b) × (operator_of (row_held (row P q)) ≡ 8)) → RowDone G P k w v r q
             go (inl e) = absurd (subst T (sym (says ∙ ap (λ (o : ℕ). eqb o 7 || (not (level G P k v two.a) && not (level G P k v two.b))) e.1) ∙ t) tt)
             go (inr e) = either_done G P k w v r q two.a two.b e.0 (λ z. absurd (subst T (sym (either_says e) ∙ t) z))
 

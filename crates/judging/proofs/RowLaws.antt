@@ -5,7 +5,6 @@ use mathlib.Core.List.{List}
 use Prim.Native.Nat.{ℕ, ◌+◌, ◌*◌, ◌-◌, ◌/◌, ◌%◌, ◌≤◌, ◌<◌}
 use native.Mathlib.Nat.{zero-add}
 use native.Mathlib.Decide.{ℕ_discrete}
-use native.Mathlib.Numerals.{add-one}
 use native.Mathlib.Omega.{arith}
 use lib.Bits.{bit_or, bit_and}
 use lib.Dec.{T, ltb, ltb→lt, lt→ltb, T_not}
@@ -92,9 +91,6 @@ module _ (p : ℕ → Bool) (r : List ℕ) (n : ℕ) (was : Chosen p n r) where
       go (no f) = chosen_beside x f
 
 -- ---- bytes put together
-
-pub joined_more : (f : ℕ → ℕ) (any k : ℕ) → any ≡ joined f k → bit_or any (f k) ≡ joined f (k + 1)
-joined_more f any k e = ap (λ (n : ℕ). bit_or n (f k)) e ∙ ap (joined f) (sym (add-one k))
 
 -- the bytes f 0 .. f 31, put together and tested
 module _ (f : ℕ → ℕ) (any k x : ℕ) (is : any ≡ joined f k) (few : k ≤ 32) (all : 32 ≤ k) (same : x ≡ any) (low : x < max_nodes) where

@@ -1,5 +1,6 @@
 -- The call "compare": what it answers and writes, from the bytes of its files and the lengths of its buffers.
-use Rattle.std.specs.Prelude.{◌≡◌, ◌↔◌, cond, List, [], ◌∷◌, ℕ, ◌<◌, ◌+◌, ◌*◌, ◌/◌, ◌%◌, T, get_or}
+use Rattle.files.specs.declared.refusal.Refusal.{Refusal}
+use Rattle.std.specs.Prelude.{◌≡◌, ◌↔◌, cond, List, [], ◌∷◌, ℕ, ◌<◌, ◌+◌, ◌*◌, ◌/◌, ◌%◌, T, get_or, Result, Ok, Err}
 use Rattle.files.specs.Places.{max_nodes}
 use Rattle.files.specs.declared.record.Limits.{Limits}
 use Rattle.files.specs.Graph.{Graph, Flow, node, size}
@@ -8,7 +9,7 @@ use Rattle.files.specs.Decode.{decode_graph}
 use Rattle.files.specs.Outcome.{Said, Outcome, Answer, refused_answer, verdict_answer, Check, whole_check, file_checks, out_check, answered, Lines, whole_line, file_lines, out_line, short}
 use Rattle.judging.specs.Places.{compare_room}
 use Rattle.judging.specs.declared.answers.Compared.{Compared}
-use Rattle.judging.specs.declared.answers.Compared.TheVariants.{Yes, No, Refused}
+use Rattle.judging.specs.declared.answers.Compared.TheVariants.{Yes, No}
 use Rattle.judging.specs.Simulation.{Simulation, Covered, Simulates, simulates, uncovered, relation_bytes, related}
 use Rattle.files.specs.Basics.Tests.{one}
 use Rattle.files.specs.Basics.Binary.{bit}
@@ -17,10 +18,10 @@ pub mod Meaning
 pub mod Examples
 
 -- the paper's number and values for each case
-abbrev pub compared_answer : Compared → Answer
-compared_answer Yes = verdict_answer 1 []
-compared_answer (No g) = verdict_answer 2 (g ∷ [])
-compared_answer (Refused r) = refused_answer r
+abbrev pub compared_answer : Result Compared Refusal → Answer
+compared_answer (Ok Yes) = verdict_answer 1 []
+compared_answer (Ok (No g)) = verdict_answer 2 (g ∷ [])
+compared_answer (Err r) = refused_answer r
 
 -- "The largest relation is written, under either verdict"; 'A "no" names the lowest uncovered entry.'
 pub compare_said : Graph → Graph → Said

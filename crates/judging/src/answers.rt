@@ -1,12 +1,10 @@
-// What the calls of this layer answer. The definitions `judged_answer` and `compared_answer` of specs/ give the paper's number and values for each case.
-use files::refusal::Refusal;
+// What the calls of this layer answer where they do not refuse. The definitions `judged_answer` and `compared_answer` of specs/ give the paper's number and values for each case.
 
 // Whether a graph satisfies a property; a failure carries the number of records of its fault sheet.
 #[derive(Clone, Copy)]
 pub enum Judged {
     Holds,
     Fails(usize),
-    Refused(Refusal),
 }
 
 // Whether the second graph simulates the first; a "no" carries the lowest uncovered entry.
@@ -14,5 +12,4 @@ pub enum Judged {
 pub enum Compared {
     Yes,
     No(usize),
-    Refused(Refusal),
 }

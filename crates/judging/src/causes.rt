@@ -1,7 +1,8 @@
 // Why a pair of a node and a row is false, read off the ranks: its rank, the lowest failing entry, and its causes.
-ghost use Rattle.std.specs.Prelude.{◌≡◌, ◌+◌, ◌*◌, ◌≤◌, ◌<◌, length, get_or};
+ghost use Rattle.files.specs.Access.{looked_at, aims_along, operator_of};
+ghost use Rattle.std.specs.Prelude.{◌≡◌, ◌+◌, ◌*◌, ◌≤◌, ◌<◌, T, length, get_or};
 ghost use Rattle.files.specs.Basics.First.{first_or};
-ghost use Rattle.files.specs.Property.{aims, box_row};
+ghost use Rattle.files.specs.Property.{is_box};
 ghost use Rattle.files.specs.Decode.{decode_graph, decode_property};
 ghost use Rattle.judging.specs.Levels.{rank};
 ghost use Rattle.judging.specs.Levels.Sheet.{no_cause, ahead, lower, failing};
@@ -10,10 +11,9 @@ ghost use Rattle.judging.specs.Ranking.{Ready, Ranked};
 ghost use Rattle.judging.specs.Sheets.{Settled, cause_held, AreCauses, as_causes, fails_at, best_target, better};
 
 use crate::shape::Shape;
-use files::cells::{get16, put16};
+use files::cells::{get, put};
 use files::graph::{edge_at, next_first, node_at};
-use files::property::{PropertyRow, is_box, obliged, row_at};
-use files::record::Operator;
+use files::property::{PropertyRow, row_at};
 
 // A pair of a node and a row; row 255 is none.
 #[derive(Clone, Copy)]
@@ -38,7 +38,7 @@ fn rank_of(graph: &[u8], property: &[u8], s: Shape, work: &[u8], g: usize, r: us
     requires { (Ready s graph.now property.now) × ((g < s.graph.nodes) × ((r < s.rows) × ((judge_room ≤ length work.now) × (Ranked (decode_graph graph.now) (decode_property property.now) work.now)))) }
     ensures { result ≡ rank (decode_graph graph.now) (decode_property property.now) g r }
 {
-    let x = get16(work, 0, Shape::STRIDE * g + r) as usize;
+    let x = get::<u16>(work, 0, Shape::STRIDE * g + r) as usize;
     if x == 0 {
         return s.graph.nodes * s.rows + 1;
     }
@@ -51,7 +51,7 @@ fn fails_at(graph: &[u8], property: &[u8], s: Shape, work: &[u8], g: usize) -> b
     ensures { result ≡ fails_at (decode_graph graph.now) (decode_property property.now) g }
 {
     let v = node_at(graph, g);
-    let x = get16(work, 0, Shape::STRIDE * g);
+    let x = get::<u16>(work, 0, Shape::STRIDE * g);
     v.entry & !(x == 0)
 }
 
@@ -60,14 +60,9 @@ pub(crate) fn first_failing(graph: &[u8], property: &[u8], s: Shape, work: &[u8]
     requires { (Ready s graph.now property.now) × ((judge_room ≤ length work.now) × (Ranked (decode_graph graph.now) (decode_property property.now) work.now)) }
     ensures { result ≡ failing (decode_graph graph.now) (decode_property property.now) }
 {
-    let mut g = 0;
-    while g < s.graph.nodes {
-        if fails_at(graph, property, s, work, g) {
-            return g;
-        }
-        g += 1;
-    }
-    g
+    (0..s.graph.nodes)
+        .find(|g| fails_at(graph, property, s, work, *g))
+        .unwrap_or(s.graph.nodes)
 }
 
 // Puts the first edge of each node, and the number of edges, into the buffer.
@@ -75,13 +70,11 @@ pub(crate) fn first_edges(graph: &[u8], property: &[u8], s: Shape, work: &mut [u
     requires { (Ready s graph.now property.now) × ((judge_room ≤ length work.old) × (Ranked (decode_graph graph.now) (decode_property property.now) work.old)) }
     ensures { Settled (decode_graph graph.now) (decode_property property.now) work.new }
 {
-    let mut g = 0;
     let mut first = 0;
-    put16(work, Shape::FIRSTS, 0, 0);
-    while g < s.graph.nodes {
+    put(work, Shape::FIRSTS, 0, 0u16);
+    for g in 0..s.graph.nodes {
         first = next_first(graph, s.graph.nodes, g, first);
-        g += 1;
-        put16(work, Shape::FIRSTS, g, first as u16);
+        put(work, Shape::FIRSTS, g + 1, first as u16);
     }
 }
 
@@ -134,38 +127,34 @@ fn better(
     best: usize,
     j: usize,
 ) -> usize
-    requires { (Ready s graph.now property.now) × ((box_row x.operator x.a x.b < s.rows) × ((best ≤ s.graph.nodes) × ((j < s.graph.edges) × (Settled (decode_graph graph.now) (decode_property property.now) work.now)))) }
-    ensures { result ≡ better (decode_graph graph.now) (decode_property property.now) (aims x.operator x.a) (box_row x.operator x.a x.b) s.graph.nodes best j }
+    requires { (Ready s graph.now property.now) × ((looked_at x < s.rows) × ((best ≤ s.graph.nodes) × ((j < s.graph.edges) × (Settled (decode_graph graph.now) (decode_property property.now) work.now)))) }
+    ensures { result ≡ better (decode_graph graph.now) (decode_property property.now) (aims_along x) (looked_at x) s.graph.nodes best j }
 {
     let edge = edge_at(graph, s.graph.nodes, j);
-    let on = obliged(x, edge.label);
-    if on.along {
-        if best < s.graph.nodes {
-            if is_ahead(graph, property, s, work, on.at as usize, best, edge.to) {
-                return best;
-            }
-        }
-        return edge.to;
+    let Some(row) = x.obliged(edge.label) else {
+        return best;
+    };
+    if best < s.graph.nodes && is_ahead(graph, property, s, work, row as usize, best, edge.to) {
+        return best;
     }
-    best
+    edge.to
 }
 
 // The foremost target at node g of box x, or the number of nodes.
 fn foremost(graph: &[u8], property: &[u8], s: Shape, work: &[u8], g: usize, x: PropertyRow) -> usize
-    requires { (Ready s graph.now property.now) × ((g < s.graph.nodes) × ((box_row x.operator x.a x.b < s.rows) × (Settled (decode_graph graph.now) (decode_property property.now) work.now))) }
-    ensures { result ≡ first_or (best_target (decode_graph graph.now) (decode_property property.now) g (aims x.operator x.a) (box_row x.operator x.a x.b) s.graph.edges) s.graph.nodes }
+    requires { (Ready s graph.now property.now) × ((g < s.graph.nodes) × ((looked_at x < s.rows) × (Settled (decode_graph graph.now) (decode_property property.now) work.now))) }
+    ensures { result ≡ first_or (best_target (decode_graph graph.now) (decode_property property.now) g (aims_along x) (looked_at x) s.graph.edges) s.graph.nodes }
 {
-    let end = get16(work, Shape::FIRSTS, g + 1) as usize;
-    let mut j = get16(work, Shape::FIRSTS, g) as usize;
+    let end = get::<u16>(work, Shape::FIRSTS, g + 1) as usize;
+    let start = get::<u16>(work, Shape::FIRSTS, g) as usize;
     let mut best = s.graph.nodes;
-    while j < end {
+    for j in start..end {
         best = better(graph, property, s, work, x, best, j);
-        j += 1;
     }
     best
 }
 
-// The cause at node g of box x. (The row that it looks at is the same under every label.)
+// The cause at node g of box x: its foremost target with the row that it looks at, whatever the label.
 fn box_cause(
     graph: &[u8],
     property: &[u8],
@@ -174,15 +163,14 @@ fn box_cause(
     g: usize,
     x: PropertyRow,
 ) -> Cause
-    requires { (Ready s graph.now property.now) × ((g < s.graph.nodes) × ((box_row x.operator x.a x.b < s.rows) × (Settled (decode_graph graph.now) (decode_property property.now) work.now))) }
-    ensures { result ≡ cause_held (get_or (as_causes (box_row x.operator x.a x.b) (best_target (decode_graph graph.now) (decode_property property.now) g (aims x.operator x.a) (box_row x.operator x.a x.b) s.graph.edges)) 0 no_cause) }
+    requires { (Ready s graph.now property.now) × ((g < s.graph.nodes) × ((looked_at x < s.rows) × ((Settled (decode_graph graph.now) (decode_property property.now) work.now) × (T (is_box (operator_of x)))))) }
+    ensures { result ≡ cause_held (get_or (as_causes (looked_at x) (best_target (decode_graph graph.now) (decode_property property.now) g (aims_along x) (looked_at x) s.graph.edges)) 0 no_cause) }
 {
     let t = foremost(graph, property, s, work, g, x);
-    let on = obliged(x, 0);
     if t < s.graph.nodes {
         return Cause {
             node: t,
-            row: on.at as usize,
+            row: x.looked_at() as usize,
         };
     }
     Cause {
@@ -208,29 +196,36 @@ pub(crate) fn causes_of(
         row: Cause::NONE,
     };
     let x = row_at(property, r);
-    let a = x.a as usize;
-    let b = x.b as usize;
-    if x.operator == Operator::AND {
-        let c = lower(graph, property, s, work, g, a, b);
-        return Causes {
-            first: Cause { node: g, row: c },
-            second: none,
-        };
-    }
-    if x.operator == Operator::OR {
-        return Causes {
-            first: Cause { node: g, row: a },
-            second: Cause { node: g, row: b },
-        };
-    }
-    if is_box(x.operator) {
-        return Causes {
+    match x {
+        PropertyRow::And(a, b) => {
+            let c = lower(graph, property, s, work, g, a as usize, b as usize);
+            Causes {
+                first: Cause { node: g, row: c },
+                second: none,
+            }
+        }
+        PropertyRow::Or(a, b) => Causes {
+            first: Cause {
+                node: g,
+                row: a as usize,
+            },
+            second: Cause {
+                node: g,
+                row: b as usize,
+            },
+        },
+        PropertyRow::Box { .. } | PropertyRow::BoxAll(_) => Causes {
             first: box_cause(graph, property, s, work, g, x),
             second: none,
-        };
-    }
-    Causes {
-        first: none,
-        second: none,
+        },
+        PropertyRow::True
+        | PropertyRow::False
+        | PropertyRow::InMethod(_)
+        | PropertyRow::NotInMethod(_)
+        | PropertyRow::Returns
+        | PropertyRow::NotReturns => Causes {
+            first: none,
+            second: none,
+        },
     }
 }

@@ -1,6 +1,6 @@
 // The chains of judging: edges by the node they lead to, operands by the row they name. `index` states that both stand in the lent buffer.
 ghost use Rattle.std.specs.Prelude.{◌≡◌, ◌+◌, ◌*◌, ◌-◌, ◌/◌, ◌%◌, ◌≤◌, ◌<◌, length, get_or};
-ghost use Rattle.files.specs.Access.{GraphFile};
+ghost use Rattle.files.specs.Access.{GraphFile, operator_of, first_of, second_of};
 ghost use Rattle.files.specs.Places.{max_edges, two_bytes_last};
 ghost use Rattle.files.specs.Record.{count};
 ghost use Rattle.files.specs.Refusal.{nodes_of};
@@ -12,19 +12,18 @@ ghost use Rattle.judging.specs.Places.{judge_room, row_heads_base, row_nexts_bas
 ghost use Rattle.judging.specs.Ranking.{Ready};
 
 use crate::shape::Shape;
-use files::cells::{clear, get16, put16};
+use files::cells::{clear, get, put};
 use files::graph::edge_at;
-use files::property::row_at;
-use files::record::Operator;
+use files::property::{PropertyRow, row_at};
 
 // Puts an item at the head of a key's chain.
 pub fn link(work: &mut [u8], heads: usize, nexts: usize, key: usize, item: usize)
     requires { (heads + 2 * key + 2 ≤ length work.old) × ((nexts + 2 * item + 2 ≤ length work.old) × (item < two_bytes_last)) }
     ensures { work.new ≡ linked work.old heads nexts key item }
 {
-    let before = get16(work, heads, key);
-    put16(work, nexts, item, before);
-    put16(work, heads, key, (item + 1) as u16);
+    let before = get::<u16>(work, heads, key);
+    put(work, nexts, item, before);
+    put(work, heads, key, (item + 1) as u16);
 }
 
 // The node that edge e leads to.
@@ -36,23 +35,23 @@ fn edge_target(graph: &[u8], nodes: usize, e: usize) -> usize
     edge.to
 }
 
-// Operand i of a row, or n: 7 and 8 take rows a and b, 9 takes row b, 10 row a.
-fn operand(operator: u8, a: u8, b: u8, i: usize, n: usize) -> usize
-    ensures { result ≡ operand_of operator a b i n }
+// Operand i of row x where it is a row, or n: both operands of an "and" and an "or", the second of a box of one label, the first of a box of all.
+fn operand(x: PropertyRow, i: usize, n: usize) -> usize
+    ensures { result ≡ operand_of (operator_of x) (first_of x) (second_of x) i n }
 {
-    if (operator == Operator::AND) | (operator == Operator::OR) {
-        if i == 0 {
-            return a as usize;
+    match x {
+        PropertyRow::And(a, b) | PropertyRow::Or(a, b) => {
+            if i == 0 { a as usize } else { b as usize }
         }
-        return b as usize;
+        PropertyRow::Box { row, .. } => if i == 0 { n } else { row as usize },
+        PropertyRow::BoxAll(row) => if i == 0 { row as usize } else { n },
+        PropertyRow::True
+        | PropertyRow::False
+        | PropertyRow::InMethod(_)
+        | PropertyRow::NotInMethod(_)
+        | PropertyRow::Returns
+        | PropertyRow::NotReturns => n,
     }
-    if (operator == Operator::BOX) & !(i == 0) {
-        return b as usize;
-    }
-    if (operator == Operator::BOX_ALL) & (i == 0) {
-        return a as usize;
-    }
-    n
 }
 
 // The row that place j names: place 2 q + i is operand i of row q. `s.rows` where it names none.
@@ -60,8 +59,7 @@ fn row_named(graph: &[u8], property: &[u8], s: Shape, j: usize) -> usize
     requires { (Ready s graph.now property.now) × (j < 2 * s.rows) }
     ensures { result ≡ named_or (named (row (decode_property property.now) (j / 2)) (j % 2)) s.rows }
 {
-    let row = row_at(property, j / 2);
-    operand(row.operator, row.a, row.b, j % 2, s.rows)
+    operand(row_at(property, j / 2), j % 2, s.rows)
 }
 
 // Links every edge of a graph to the node that it leads to.
@@ -76,11 +74,9 @@ pub(crate) fn link_graph(
     requires { (GraphFile graph.now) × ((nodes ≡ nodes_of graph.now) × ((edges ≡ count graph.now - nodes_of graph.now) × ((edges ≤ max_edges) × ((heads + 2 * nodes ≤ nexts) × ((nexts + 2 * edges ≤ length work.old) × (Chained work.old heads nexts (into (decode_graph graph.now)) (size (decode_graph graph.now)) 0)))))) }
     ensures { (Chained work.new heads nexts (into (decode_graph graph.now)) (size (decode_graph graph.now)) (length (decode_graph graph.now).edges)) × (Outside heads (nexts + 2 * edges) work.old work.new) }
 {
-    let mut e = 0;
-    while e < edges {
+    for e in 0..edges {
         let to = edge_target(graph, nodes, e);
         link(work, heads, nexts, to, e);
-        e += 1;
     }
 }
 
@@ -100,10 +96,8 @@ fn link_places(graph: &[u8], property: &[u8], s: Shape, work: &mut [u8])
     requires { (Ready s graph.now property.now) × ((judge_room ≤ length work.old) × (Chained work.old row_heads_base row_nexts_base (uses (decode_property property.now)) s.rows 0)) }
     ensures { (Chained work.new row_heads_base row_nexts_base (uses (decode_property property.now)) s.rows (2 * s.rows)) × (Outside row_heads_base judge_room work.old work.new) }
 {
-    let mut j = 0;
-    while j < 2 * s.rows {
+    for j in 0..2 * s.rows {
         link_place(graph, property, s, work, j);
-        j += 1;
     }
 }
 

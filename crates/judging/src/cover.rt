@@ -28,12 +28,10 @@ fn entries(first: &[u8], second: &[u8], s: Sizes) -> [u8; LINE]
     ensures { (length result ≡ line_bytes) × (Chosen (λ h. (node (decode_graph second.now) h).entry) s.second.nodes result) }
 {
     let mut row = [0u8; LINE];
-    let mut h = 0;
-    while h < s.second.nodes {
+    for h in 0..s.second.nodes {
         if is_entry(first, second, s, h) {
             put_bit(&mut row, 0, h);
         }
-        h += 1;
     }
     row
 }
@@ -69,14 +67,9 @@ pub(crate) fn first_uncovered(first: &[u8], second: &[u8], s: Sizes, work: &[u8]
     ensures { result ≡ uncovered (decode_graph first.now) (decode_graph second.now) }
 {
     let row = entries(first, second, s);
-    let mut g = 0;
-    while g < s.first.nodes {
-        if is_uncovered(first, second, s, work, &row, g) {
-            return g;
-        }
-        g += 1;
-    }
-    g
+    (0..s.first.nodes)
+        .find(|g| is_uncovered(first, second, s, work, &row, *g))
+        .unwrap_or(s.first.nodes)
 }
 
 // Writes the relation, 32 bytes for each node of the first graph.
@@ -84,9 +77,7 @@ pub(crate) fn write_relation(first: &[u8], second: &[u8], s: Sizes, work: &[u8],
     requires { ((Both s first.now second.now)) × ((compare_room ≤ length work.now) × ((Settled (decode_graph first.now) (decode_graph second.now) work.now) × (32 * s.first.nodes ≤ length out.old))) }
     ensures { out.new ≡ relation_bytes (decode_graph first.now) (decode_graph second.now) ++ drop (length (relation_bytes (decode_graph first.now) (decode_graph second.now))) out.old }
 {
-    let mut g = 0;
-    while g < s.first.nodes {
+    for g in 0..s.first.nodes {
         put_line(out, g, work, LINE * g);
-        g += 1;
     }
 }

@@ -11,12 +11,12 @@ use crate::decide::decide;
 use crate::shape::Shape;
 use files::assembled::write_standing;
 use files::cells::clear;
+use files::check::check;
+use files::delivered::check_deliveries;
 use files::offence::FileKind;
 use files::record::{Limits, Record};
 use files::refusal::Refusal;
-use files::settle::{
-    Settled, clear_after, then_deliveries, then_file, then_unrepeated, whole_settled,
-};
+use files::settle::{check_unrepeated, clear_after, refuse_if};
 use files::standing::latest_openings;
 use files::stood::standing_view;
 
@@ -28,14 +28,14 @@ fn judge_standing(
     store: &mut [u8],
     work: &mut [u8],
     limits: Limits,
-) -> Judged
+) -> Result<Judged, Refusal>
     requires { (Strides limits) × (Judgeable limits deliveries.now property.now (length store.old) (length work.old)) }
     ensures { Answers (answered (delivered_last limits deliveries.now property.now (length out.old) (length store.old) (length work.old)) (delivered_verdict limits deliveries.now property.now (length out.old) (length store.old) (length work.old))) out.old out.new (judged_answer result) }
 {
     let kept = latest_openings(deliveries);
     let view = standing_view(deliveries, &kept);
     if (limits.nodes < view.nodes) | (limits.edges < view.edges) {
-        return Judged::Refused(Refusal::whole(11));
+        return Err(Refusal::whole(11));
     }
     write_standing(deliveries, &kept, view, store);
     let end = Record::LEN * (view.nodes + view.edges);
@@ -53,13 +53,13 @@ fn check_delivered(
     store: usize,
     work: usize,
     limits: Limits,
-) -> Settled
+) -> Result<(), Refusal>
     ensures { Settles (delivered_first limits deliveries.now property.now store work) result }
 {
-    let room = whole_settled(13, (store < Shape::STORE) | (work < Shape::ROOM));
-    let filed = then_deliveries(room, deliveries, 1, limits);
-    let both = then_file(filed, FileKind::Property, property, 2, limits);
-    then_unrepeated(both, deliveries)
+    refuse_if(13, (store < Shape::STORE) | (work < Shape::ROOM))?;
+    check_deliveries(deliveries, 1, limits)?;
+    check(FileKind::Property, property, 2, limits)?;
+    check_unrepeated(deliveries)
 }
 
 // Judges within limits that the buffers' strides allow.
@@ -70,17 +70,17 @@ pub(crate) fn judge_deliveries_within(
     store: &mut [u8],
     work: &mut [u8],
     limits: Limits,
-) -> Judged
+) -> Result<Judged, Refusal>
     requires { Strides limits }
     ensures { DoesBoth (delivered limits deliveries.now property.now (length out.old) (length store.old) (length work.old)) out.old store.old work.old out.new store.new work.new (judged_answer result) }
 {
     match check_delivered(deliveries, property, store.len(), work.len(), limits) {
-        Settled::Refused(refusal) => {
+        Err(refusal) => {
             clear_after(refusal, store);
             clear_after(refusal, work);
-            Judged::Refused(refusal)
+            Err(refusal)
         }
-        Settled::Passed => {
+        Ok(()) => {
             let answer = judge_standing(deliveries, property, out, store, work, limits);
             clear(store);
             clear(work);

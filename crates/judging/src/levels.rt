@@ -1,9 +1,9 @@
 // Levels on lent bytes: what is false by itself has rank 1; each next level pops the pairs of the level before from a queue and gives the next rank to what
 // turns false with them. `levels` states that all ranks are found. One level is one call of `level`.
 ghost use Rattle.std.specs.Prelude.{◌≡◌, not, ◌&&◌, ℕ, suc, ◌+◌, ◌*◌, ◌≤◌, ◌<◌, T, leb, length, get_or};
-ghost use Rattle.files.specs.Access.{PropertyFile, row_held};
+ghost use Rattle.files.specs.Access.{PropertyFile, row_held, aims_along, operator_of, first_of};
 ghost use Rattle.files.specs.Graph.{no_edge};
-ghost use Rattle.files.specs.Property.{row, aims};
+ghost use Rattle.files.specs.Property.{row};
 ghost use Rattle.files.specs.Record.{count};
 ghost use Rattle.files.specs.Decode.{decode_graph, decode_property};
 ghost use Rattle.judging.specs.Chains.{into};
@@ -12,10 +12,9 @@ ghost use Rattle.judging.specs.Places.{judge_room, max_pairs};
 ghost use Rattle.judging.specs.Ranking.{Ready, pair, rank_at, Given, given, tail_after, Finding, Grew, RowDone, Done, Found, Ranked, Names, leaf_false, may_fall};
 
 use crate::shape::Shape;
-use files::cells::{get16, put16};
+use files::cells::{get, put};
 use files::graph::{edge_at, node_at};
-use files::property::{PropertyRow, is_box, obliged, row_at};
-use files::record::Operator;
+use files::property::{PropertyRow, row_at};
 
 // Gives pair (g, r) rank k + 1 and puts it at the queue's end, unless it has a rank. The queue's end after it.
 fn give(work: &mut [u8], tail: usize, g: usize, r: usize, k: u16) -> usize
@@ -23,9 +22,9 @@ fn give(work: &mut [u8], tail: usize, g: usize, r: usize, k: u16) -> usize
     ensures { (result ≡ tail_after work.old tail g r) × (work.new ≡ given work.old tail g r k) }
 {
     let p = Shape::STRIDE * g + r;
-    if get16(work, 0, p) == 0 {
-        put16(work, 0, p, k + 1);
-        put16(work, Shape::QUEUE, tail, p as u16);
+    if get::<u16>(work, 0, p) == 0 {
+        put(work, 0, p, k + 1);
+        put(work, Shape::QUEUE, tail, p as u16);
         return tail + 1;
     }
     tail
@@ -36,22 +35,28 @@ fn is_false(work: &[u8], g: usize, r: usize, k: u16) -> bool
     requires { (pair g r < max_pairs) × (judge_room ≤ length work.now) }
     ensures { result ≡ (leb 1 (rank_at work.now g r) && leb (rank_at work.now g r) k) }
 {
-    let x = get16(work, 0, Shape::STRIDE * g + r);
+    let x = get::<u16>(work, 0, Shape::STRIDE * g + r);
     (1 <= x) & (x <= k)
 }
 
 // ---- level 1
 
-// Whether a row without operands is false of a node, by its operator, its method, the node's method and its return flag.
-fn leaf_false(operator: u8, a: u8, method: u8, returns: bool) -> bool
-    ensures { result ≡ leaf_false operator a method returns }
+// Whether row x is false by itself of a node, by the node's method and its return flag: it names no row, and what it says of the node is not so.
+fn leaf_false(x: PropertyRow, method: u8, returns: bool) -> bool
+    ensures { result ≡ leaf_false (operator_of x) (first_of x) method returns }
 {
-    let at = method == a;
-    (operator == Operator::FALSE)
-        | ((operator == Operator::IN_METHOD) & !at)
-        | ((operator == Operator::NOT_IN_METHOD) & at)
-        | ((operator == Operator::RETURNS) & !returns)
-        | ((operator == Operator::NOT_RETURNS) & returns)
+    match x {
+        PropertyRow::False => true,
+        PropertyRow::InMethod(a) => method != a,
+        PropertyRow::NotInMethod(a) => method == a,
+        PropertyRow::Returns => !returns,
+        PropertyRow::NotReturns => returns,
+        PropertyRow::True
+        | PropertyRow::And(..)
+        | PropertyRow::Or(..)
+        | PropertyRow::Box { .. }
+        | PropertyRow::BoxAll(_) => false,
+    }
 }
 
 // Whether row r is false at node g by itself, which is at level 1.
@@ -60,8 +65,7 @@ fn falls_alone(graph: &[u8], property: &[u8], s: Shape, g: usize, r: usize) -> b
     ensures { result ≡ not (level (decode_graph graph.now) (decode_property property.now) 1 g r) }
 {
     let v = node_at(graph, g);
-    let x = row_at(property, r);
-    leaf_false(x.operator, x.a, v.method, v.returns)
+    leaf_false(row_at(property, r), v.method, v.returns)
 }
 
 // Gives rank 1 to row r at node g if it is false by itself.
@@ -83,13 +87,23 @@ fn start_pair(
     tail
 }
 
-// Whether row r may be false by itself: it has no operands, and is not "true".
+// Whether row r may be false by itself: it names no row, and is not "true".
 fn may_fall(property: &[u8], r: usize) -> bool
     requires { (PropertyFile property.now) × (r < count property.now) }
-    ensures { result ≡ may_fall (row_held (row (decode_property property.now) r)).operator }
+    ensures { result ≡ may_fall (operator_of (row_held (row (decode_property property.now) r))) }
 {
-    let x = row_at(property, r);
-    (Operator::FALSE <= x.operator) & (x.operator <= Operator::NOT_RETURNS)
+    match row_at(property, r) {
+        PropertyRow::False
+        | PropertyRow::InMethod(_)
+        | PropertyRow::NotInMethod(_)
+        | PropertyRow::Returns
+        | PropertyRow::NotReturns => true,
+        PropertyRow::True
+        | PropertyRow::And(..)
+        | PropertyRow::Or(..)
+        | PropertyRow::Box { .. }
+        | PropertyRow::BoxAll(_) => false,
+    }
 }
 
 // Gives rank 1 to row r at each node where it is false by itself.
@@ -107,11 +121,9 @@ fn start_row(
     if !may_fall(property, r) {
         return tail;
     }
-    let mut g = 0;
     let mut end = tail;
-    while g < s.graph.nodes {
+    for g in 0..s.graph.nodes {
         end = start_pair(graph, property, s, work, end, g, r);
-        g += 1;
     }
     end
 }
@@ -121,11 +133,9 @@ pub(crate) fn start(graph: &[u8], property: &[u8], s: Shape, work: &mut [u8]) ->
     requires { (Ready s graph.now property.now) × (Finding (decode_graph graph.now) (decode_property property.now) 0 0 work.old) }
     ensures { Found (decode_graph graph.now) (decode_property property.now) 1 0 result work.new }
 {
-    let mut r = 0;
     let mut end = 0;
-    while r < s.rows {
+    for r in 0..s.rows {
         end = start_row(graph, property, s, work, end, r);
-        r += 1;
     }
     end
 }
@@ -144,12 +154,11 @@ fn arrive(
     q: usize,
     k: u16,
 ) -> usize
-    requires { (Ready s graph.now property.now) × ((e < s.graph.edges) × ((q < s.rows) × ((Finding (decode_graph graph.now) (decode_property property.now) k tail work.old) × (T (aims x.operator x.a (get_or (decode_graph graph.now).edges e no_edge).label) → T (not (level (decode_graph graph.now) (decode_property property.now) (suc k) (get_or (decode_graph graph.now).edges e no_edge).from q)))))) }
-    ensures { (Grew (decode_graph graph.now) (decode_property property.now) k tail result work.old work.new) × (T (aims x.operator x.a (get_or (decode_graph graph.now).edges e no_edge).label) → Given work.new (get_or (decode_graph graph.now).edges e no_edge).from q) }
+    requires { (Ready s graph.now property.now) × ((e < s.graph.edges) × ((q < s.rows) × ((Finding (decode_graph graph.now) (decode_property property.now) k tail work.old) × (T (aims_along x (get_or (decode_graph graph.now).edges e no_edge).label) → T (not (level (decode_graph graph.now) (decode_property property.now) (suc k) (get_or (decode_graph graph.now).edges e no_edge).from q)))))) }
+    ensures { (Grew (decode_graph graph.now) (decode_property property.now) k tail result work.old work.new) × (T (aims_along x (get_or (decode_graph graph.now).edges e no_edge).label) → Given work.new (get_or (decode_graph graph.now).edges e no_edge).from q) }
 {
     let edge = edge_at(graph, s.graph.nodes, e);
-    let on = obliged(x, edge.label);
-    if on.along {
+    if x.obliged(edge.label).is_some() {
         return give(work, tail, edge.from, q, k);
     }
     tail
@@ -167,15 +176,16 @@ fn boxes(
     q: usize,
     k: u16,
 ) -> usize
-    requires { (Ready s graph.now property.now) × ((v < s.graph.nodes) × ((q < s.rows) × ((Finding (decode_graph graph.now) (decode_property property.now) k tail work.old) × ((e : ℕ) → e < s.graph.edges → T (into (decode_graph graph.now) v e) → T (aims x.operator x.a (get_or (decode_graph graph.now).edges e no_edge).label) → T (not (level (decode_graph graph.now) (decode_property property.now) (suc k) (get_or (decode_graph graph.now).edges e no_edge).from q)))))) }
-    ensures { (Grew (decode_graph graph.now) (decode_property property.now) k tail result work.old work.new) × ((e : ℕ) → e < s.graph.edges → T (into (decode_graph graph.now) v e) → T (aims x.operator x.a (get_or (decode_graph graph.now).edges e no_edge).label) → Given work.new (get_or (decode_graph graph.now).edges e no_edge).from q) }
+    requires { (Ready s graph.now property.now) × ((v < s.graph.nodes) × ((q < s.rows) × ((Finding (decode_graph graph.now) (decode_property property.now) k tail work.old) × ((e : ℕ) → e < s.graph.edges → T (into (decode_graph graph.now) v e) → T (aims_along x (get_or (decode_graph graph.now).edges e no_edge).label) → T (not (level (decode_graph graph.now) (decode_property property.now) (suc k) (get_or (decode_graph graph.now).edges e no_edge).from q)))))) }
+    ensures { (Grew (decode_graph graph.now) (decode_property property.now) k tail result work.old work.new) × ((e : ℕ) → e < s.graph.edges → T (into (decode_graph graph.now) v e) → T (aims_along x (get_or (decode_graph graph.now).edges e no_edge).label) → Given work.new (get_or (decode_graph graph.now).edges e no_edge).from q) }
 {
-    let mut at = get16(work, Shape::NODE_HEADS, v) as usize;
+    let mut at = get::<u16>(work, Shape::NODE_HEADS, v) as usize;
     let mut end = tail;
+    // The body writes to `work`, which an iterator over the chain would hold, so the next link is read by hand.
     while at > 0 {
         let e = at - 1;
         end = arrive(graph, property, s, work, end, e, x, q, k);
-        at = get16(work, Shape::NODE_NEXTS, e) as usize;
+        at = get::<u16>(work, Shape::NODE_NEXTS, e) as usize;
     }
     end
 }
@@ -196,15 +206,24 @@ fn row_on(
     ensures { (Grew (decode_graph graph.now) (decode_property property.now) k tail result work.old work.new) × (RowDone (decode_graph graph.now) (decode_property property.now) k work.new v r q) }
 {
     let x = row_at(property, q);
-    if is_box(x.operator) {
-        return boxes(graph, property, s, work, tail, v, x, q, k);
+    match x {
+        PropertyRow::Box { .. } | PropertyRow::BoxAll(_) => {
+            boxes(graph, property, s, work, tail, v, x, q, k)
+        }
+        PropertyRow::And(..) => give(work, tail, v, q, k),
+        PropertyRow::Or(a, b) => {
+            if is_false(work, v, a as usize, k) & is_false(work, v, b as usize, k) {
+                return give(work, tail, v, q, k);
+            }
+            tail
+        }
+        PropertyRow::True
+        | PropertyRow::False
+        | PropertyRow::InMethod(_)
+        | PropertyRow::NotInMethod(_)
+        | PropertyRow::Returns
+        | PropertyRow::NotReturns => tail,
     }
-    let a = is_false(work, v, x.a as usize, k);
-    let b = is_false(work, v, x.b as usize, k);
-    if (x.operator == Operator::AND) | (a & b) {
-        return give(work, tail, v, q, k);
-    }
-    tail
 }
 
 // Gives the next rank to all that turns false with pair (v, r).
@@ -221,12 +240,13 @@ fn pop(
     requires { (Ready s graph.now property.now) × ((v < s.graph.nodes) × ((r < s.rows) × ((Finding (decode_graph graph.now) (decode_property property.now) k tail work.old) × (T (not (level (decode_graph graph.now) (decode_property property.now) k v r)))))) }
     ensures { (Grew (decode_graph graph.now) (decode_property property.now) k tail result work.old work.new) × (Done (decode_graph graph.now) (decode_property property.now) k work.new v r) }
 {
-    let mut at = get16(work, Shape::ROW_HEADS, r) as usize;
+    let mut at = get::<u16>(work, Shape::ROW_HEADS, r) as usize;
     let mut end = tail;
+    // The body writes to `work`, which an iterator over the chain would hold, so the next link is read by hand.
     while at > 0 {
         let j = at - 1;
         end = row_on(graph, property, s, work, end, v, r, j / 2, k);
-        at = get16(work, Shape::ROW_NEXTS, j) as usize;
+        at = get::<u16>(work, Shape::ROW_NEXTS, j) as usize;
     }
     end
 }
@@ -244,14 +264,12 @@ pub(crate) fn level(
     requires { (Ready s graph.now property.now) × ((Found (decode_graph graph.now) (decode_property property.now) k head tail work.old) × ((head < tail) × (1 ≤ k))) }
     ensures { Found (decode_graph graph.now) (decode_property property.now) (suc k) tail result work.new }
 {
-    let mut i = head;
     let mut end = tail;
-    while i < tail {
-        let p = get16(work, Shape::QUEUE, i) as usize;
+    for i in head..tail {
+        let p = get::<u16>(work, Shape::QUEUE, i) as usize;
         let v = p / Shape::STRIDE;
         let r = p % Shape::STRIDE;
         end = pop(graph, property, s, work, end, v, r, k);
-        i += 1;
     }
     end
 }
@@ -264,6 +282,7 @@ pub(crate) fn levels(graph: &[u8], property: &[u8], s: Shape, work: &mut [u8], f
     let mut head = 0;
     let mut tail = first;
     let mut k = 1;
+    // Each level sets where the next one begins and ends, until one is empty.
     while head < tail {
         let end = level(graph, property, s, work, head, tail, k);
         head = tail;

@@ -14,7 +14,7 @@ ghost use Rattle.judging.specs.Simulation.{related};
 
 use crate::rows::{any_at, common, drop_row, meets, row_at, row_with, row_without, size_of_row};
 use crate::sizes::Sizes;
-use files::cells::{get16, get32, put_bit};
+use files::cells::{get, put_bit};
 use files::encode::LINE;
 use files::graph::edge_at;
 
@@ -33,12 +33,13 @@ fn related_to_sources(first: &[u8], second: &[u8], s: Sizes, work: &[u8], slot: 
     ensures { (length result ≡ line_bytes) × ((Within s.second.nodes result) × ((e h : ℕ) → e < s.first.edges → T (labelled_into (decode_graph first.now) slot e) → h < max_nodes → T (rel work.now (edge (decode_graph first.now) e).from h) → T (has_bit result 0 h))) }
 {
     let mut found = [0u8; LINE];
-    let mut at = get16(work, Sizes::HEADS, slot) as usize;
+    let mut at = get::<u16>(work, Sizes::HEADS, slot) as usize;
+    // A chain's links are read as they are walked; an iterator of our own with its laws would be no plainer than this line.
     while at > 0 {
         let e = at - 1;
         let u = source_of(first, s.first.nodes, e);
         found = row_with(&found, work, LINE * u);
-        at = get16(work, Sizes::NEXTS, e) as usize;
+        at = get::<u16>(work, Sizes::NEXTS, e) as usize;
     }
     found
 }
@@ -49,7 +50,8 @@ fn with_predecessors(work: &[u8], nodes: &[u8], row: &[u8], k: usize) -> [u8; LI
     ensures { (length result ≡ line_bytes) × (Preceded work.now nodes.now row.now result (32 * k) (32 * k + 32)) }
 {
     let mut met = row_at(row, 0);
-    let mut rest = get32(nodes, 0, k);
+    let mut rest = get::<u32>(nodes, 0, k);
+    // Bits are taken until none is left: their number is known only when they are, and an iterator of our own would be no plainer.
     while rest != 0 {
         let h = 32 * k + (u32::trailing_zeros(rest) as usize);
         let at = Sizes::NEIGHBOURS + LINE * (Sizes::ROWS * h + Sizes::BEFORE);
@@ -65,10 +67,8 @@ fn predecessors(work: &[u8], nodes: &[u8]) -> [u8; LINE]
     ensures { (length result ≡ line_bytes) × (Preceded work.now nodes.now (replicate line_bytes 0) result 0 256) }
 {
     let mut met = [0u8; LINE];
-    let mut k = 0;
-    while k < 8 {
+    for k in 0..8 {
         met = with_predecessors(work, nodes, &met, k);
-        k += 1;
     }
     met
 }
@@ -110,7 +110,8 @@ fn sift_word(work: &[u8], label: usize, row: &[u8], found: &[u8], gone: &mut [u8
     requires { ((32 ≤ length row.now) × ((32 ≤ length found.now) × (32 ≤ length gone.old))) × ((compare_room ≤ length work.now) × ((label < 9) × (k < 8))) }
     ensures { Sifted work.now label row.now found.now gone.old gone.new (32 * k) (32 * k + 32) }
 {
-    let mut rest = get32(found, 0, k);
+    let mut rest = get::<u32>(found, 0, k);
+    // Bits are taken until none is left: their number is known only when they are, and an iterator of our own would be no plainer.
     while rest != 0 {
         let x = 32 * k + (u32::trailing_zeros(rest) as usize);
         sift_at(work, label, row, gone, x);
@@ -123,10 +124,8 @@ fn sift(work: &[u8], label: usize, row: &[u8], found: &[u8], gone: &mut [u8])
     requires { ((32 ≤ length row.now) × ((32 ≤ length found.now) × (32 ≤ length gone.old))) × ((compare_room ≤ length work.now) × (label < 9)) }
     ensures { Sifted work.now label row.now found.now gone.old gone.new 0 256 }
 {
-    let mut k = 0;
-    while k < 8 {
+    for k in 0..8 {
         sift_word(work, label, row, found, gone, k);
-        k += 1;
     }
 }
 
@@ -142,12 +141,13 @@ pub(crate) fn drop_from(
     requires { (32 ≤ length gone.now) × ((Both s first.now second.now) × ((slot < 9 * s.first.nodes) × ((Refining (decode_graph first.now) (decode_graph second.now) work.old) × ((e h : ℕ) → e < s.first.edges → T (labelled_into (decode_graph first.now) slot e) → h < max_nodes → T (has_bit gone.now 0 h) → T (related (decode_graph first.now) (decode_graph second.now) (edge (decode_graph first.now) e).from h) → ⊥)))) }
     ensures { (Shrank (decode_graph first.now) (decode_graph second.now) work.old work.new) × ((e h : ℕ) → e < s.first.edges → T (labelled_into (decode_graph first.now) slot e) → h < max_nodes → T (rel work.new (edge (decode_graph first.now) e).from h) → T (has_bit gone.now 0 h) → ⊥) }
 {
-    let mut at = get16(work, Sizes::HEADS, slot) as usize;
+    let mut at = get::<u16>(work, Sizes::HEADS, slot) as usize;
+    // The body writes to `work`, which an iterator over the chain would hold, so the next link is read by hand.
     while at > 0 {
         let e = at - 1;
         let u = source_of(first, s.first.nodes, e);
         drop_row(work, LINE * u, gone);
-        at = get16(work, Sizes::NEXTS, e) as usize;
+        at = get::<u16>(work, Sizes::NEXTS, e) as usize;
     }
 }
 
@@ -168,7 +168,7 @@ fn hand_on_by(
     ensures { (Shrank (decode_graph first.now) (decode_graph second.now) work.old work.new) × (LabelMatched (decode_graph first.now) (decode_graph second.now) work.new v label row.now) }
 {
     let slot = 9 * v + label;
-    if get16(work, Sizes::HEADS, slot) == 0 {
+    if get::<u16>(work, Sizes::HEADS, slot) == 0 {
         return;
     }
     let related = related_to_sources(first, second, s, work, slot);
@@ -190,9 +190,7 @@ pub(crate) fn hand_on(first: &[u8], second: &[u8], s: Sizes, work: &mut [u8], v:
     let lost = row_without(work, Sizes::HELD + LINE * v, row);
     let met = predecessors(work, &lost);
     let near = nodes_near(first, second, s, work, row, &lost);
-    let mut label = 0;
-    while label < 9 {
+    for label in 0..9 {
         hand_on_by(first, second, s, work, v, label, row, &met, &near);
-        label += 1;
     }
 }

@@ -7,7 +7,7 @@ ghost use Rattle.judging.specs.Refinement.{Both};
 
 use crate::matches::source_of;
 use crate::sizes::Sizes;
-use files::cells::{get8, get16, has_bit, put_bit, put8, put16};
+use files::cells::{get, has_bit, put, put_bit};
 use files::graph::edge_at;
 
 // The node at which the walk stands, how many nodes it has left, and whether it has left the root.
@@ -25,7 +25,7 @@ fn leave(first: &[u8], second: &[u8], s: Sizes, work: &mut [u8], w: Place) -> Pl
 {
     let at = w.node;
     let left = w.left;
-    let up = get8(work, Sizes::PARENTS, at) as usize;
+    let up = get::<u8>(work, Sizes::PARENTS, at) as usize;
     if (s.first.nodes <= left) | (s.first.nodes <= up) {
         return Place {
             node: at,
@@ -33,7 +33,7 @@ fn leave(first: &[u8], second: &[u8], s: Sizes, work: &mut [u8], w: Place) -> Pl
             ended: true,
         };
     }
-    put8(work, Sizes::ORDER, left, at as u8);
+    put(work, Sizes::ORDER, left, at as u8);
     Place {
         node: up,
         left: left + 1,
@@ -47,7 +47,7 @@ fn step(first: &[u8], second: &[u8], s: Sizes, work: &mut [u8], w: Place) -> Pla
     ensures { (result.node < s.first.nodes) × (Outside cursors_base neighbours_base work.old work.new) }
 {
     let at = w.node;
-    let e = get16(work, Sizes::CURSORS, at) as usize;
+    let e = get::<u16>(work, Sizes::CURSORS, at) as usize;
     if s.first.edges <= e {
         return leave(first, second, s, work, w);
     }
@@ -55,12 +55,12 @@ fn step(first: &[u8], second: &[u8], s: Sizes, work: &mut [u8], w: Place) -> Pla
     if x.from != at {
         return leave(first, second, s, work, w);
     }
-    put16(work, Sizes::CURSORS, at, (e + 1) as u16);
+    put(work, Sizes::CURSORS, at, (e + 1) as u16);
     if has_bit(work, Sizes::SEEN, x.to) {
         return w;
     }
     put_bit(work, Sizes::SEEN, x.to);
-    put8(work, Sizes::PARENTS, x.to, at as u8);
+    put(work, Sizes::PARENTS, x.to, at as u8);
     Place {
         node: x.to,
         left: w.left,
@@ -85,13 +85,11 @@ fn walk_from(
         left: left,
         ended: false,
     };
-    let mut steps = s.first.edges + s.first.nodes;
-    while steps > 0 {
+    for _ in 0..s.first.edges + s.first.nodes {
         if w.ended {
             return w.left;
         }
         w = step(first, second, s, work, w);
-        steps -= 1;
     }
     w.left
 }
@@ -105,7 +103,7 @@ fn visit(first: &[u8], second: &[u8], s: Sizes, work: &mut [u8], root: usize, le
         return left;
     }
     put_bit(work, Sizes::SEEN, root);
-    put8(work, Sizes::PARENTS, root, root as u8);
+    put(work, Sizes::PARENTS, root, root as u8);
     walk_from(first, second, s, work, root, left)
 }
 
@@ -114,11 +112,9 @@ fn put_cursors(first: &[u8], second: &[u8], s: Sizes, work: &mut [u8])
     requires { (Both s first.now second.now) × (compare_room ≤ length work.old) }
     ensures { Outside cursors_base neighbours_base work.old work.new }
 {
-    let mut left = s.first.edges;
-    while left > 0 {
-        left -= 1;
-        let u = source_of(first, s.first.nodes, left);
-        put16(work, Sizes::CURSORS, u, left as u16);
+    for e in (0..s.first.edges).rev() {
+        let u = source_of(first, s.first.nodes, e);
+        put(work, Sizes::CURSORS, u, e as u16);
     }
 }
 
@@ -128,10 +124,8 @@ pub(crate) fn put_in_order(first: &[u8], second: &[u8], s: Sizes, work: &mut [u8
     ensures { Outside cursors_base neighbours_base work.old work.new }
 {
     put_cursors(first, second, s, work);
-    let mut root = 0;
     let mut left = 0;
-    while root < s.first.nodes {
+    for root in 0..s.first.nodes {
         left = visit(first, second, s, work, root, left);
-        root += 1;
     }
 }

@@ -13,7 +13,7 @@ use crate::order::put_in_order;
 use crate::relation::prepare;
 use crate::rows::{any_at, exceeds, put_row, row_at};
 use crate::sizes::Sizes;
-use files::cells::{get8, put_bit};
+use files::cells::{get, put_bit};
 use files::encode::LINE;
 
 // Takes the row of node v: hands on what it has lost, and holds it.
@@ -32,12 +32,10 @@ fn lacking(s: Sizes, work: &[u8], label: usize) -> [u8; LINE]
     ensures { (length result ≡ line_bytes) × (Lacking work.now label s.second.nodes result) }
 {
     let mut row = [0u8; LINE];
-    let mut x = 0;
-    while x < s.second.nodes {
+    for x in 0..s.second.nodes {
         if !any_at(work, Sizes::NEIGHBOURS + LINE * (Sizes::ROWS * x + label)) {
             put_bit(&mut row, 0, x);
         }
-        x += 1;
     }
     row
 }
@@ -48,10 +46,8 @@ fn drop_lacking_by(first: &[u8], second: &[u8], s: Sizes, work: &mut [u8], label
     ensures { (Shrank (decode_graph first.now) (decode_graph second.now) work.old work.new) × (Leading (decode_graph first.now) (decode_graph second.now) work.new label) }
 {
     let gone = lacking(s, work, label);
-    let mut v = 0;
-    while v < s.first.nodes {
+    for v in 0..s.first.nodes {
         drop_from(first, second, s, work, 9 * v + label, &gone);
-        v += 1;
     }
 }
 
@@ -60,10 +56,8 @@ fn drop_lacking(first: &[u8], second: &[u8], s: Sizes, work: &mut [u8])
     requires { (Both s first.now second.now) × (Refining (decode_graph first.now) (decode_graph second.now) work.old) }
     ensures { (Shrank (decode_graph first.now) (decode_graph second.now) work.old work.new) × ((l : ℕ) → l < 9 → Leading (decode_graph first.now) (decode_graph second.now) work.new l) }
 {
-    let mut label = 0;
-    while label < 9 {
+    for label in 0..9 {
         drop_lacking_by(first, second, s, work, label);
-        label += 1;
     }
 }
 
@@ -73,10 +67,8 @@ fn everything(s: Sizes) -> [u8; LINE]
     ensures { (length result ≡ line_bytes) × ((h : ℕ) → h < max_nodes → has_bit result 0 h ≡ ltb h s.second.nodes) }
 {
     let mut row = [0u8; LINE];
-    let mut x = 0;
-    while x < s.second.nodes {
+    for x in 0..s.second.nodes {
         put_bit(&mut row, 0, x);
-        x += 1;
     }
     row
 }
@@ -87,10 +79,8 @@ fn hold_everything(first: &[u8], second: &[u8], s: Sizes, work: &mut [u8])
     ensures { ((v h : ℕ) → v < s.first.nodes → h < max_nodes → held work.new v h ≡ ltb h s.second.nodes) × (Outside held_base kinds_base work.old work.new) }
 {
     let row = everything(s);
-    let mut v = 0;
-    while v < s.first.nodes {
+    for v in 0..s.first.nodes {
         put_row(work, Sizes::HELD + LINE * v, &row);
-        v += 1;
     }
 }
 
@@ -107,6 +97,7 @@ fn settle_node(first: &[u8], second: &[u8], s: Sizes, work: &mut [u8], v: usize)
     requires { (Both s first.now second.now) × ((v < s.first.nodes) × (Matching (decode_graph first.now) (decode_graph second.now) s.first.nodes work.old)) }
     ensures { (Matching (decode_graph first.now) (decode_graph second.now) s.first.nodes work.new) × (load s.first.nodes work.new ≤ load s.first.nodes work.old) }
 {
+    // Until nothing is lost: how often is known only by the measure.
     while has_lost(first, second, s, work, v) {
         take(first, second, s, work, v);
     }
@@ -117,14 +108,11 @@ fn sweep(first: &[u8], second: &[u8], s: Sizes, work: &mut [u8])
     requires { (Both s first.now second.now) × (Matching (decode_graph first.now) (decode_graph second.now) s.first.nodes work.old) }
     ensures { (Matching (decode_graph first.now) (decode_graph second.now) s.first.nodes work.new) × (load s.first.nodes work.new ≤ load s.first.nodes work.old) }
 {
-    let mut i = 0;
-    while i < s.first.nodes {
-        let v = get8(work, Sizes::ORDER, i) as usize;
-        i += 1;
-        if s.first.nodes <= v {
-            continue;
+    for i in 0..s.first.nodes {
+        let v = get::<u8>(work, Sizes::ORDER, i) as usize;
+        if v < s.first.nodes {
+            settle_node(first, second, s, work, v);
         }
-        settle_node(first, second, s, work, v);
     }
 }
 
@@ -133,14 +121,12 @@ fn lowest_unsettled(first: &[u8], second: &[u8], s: Sizes, work: &[u8]) -> usize
     requires { (Both s first.now second.now) × (compare_room ≤ length work.now) }
     ensures { (result < s.first.nodes → (h : ℕ) × (h < max_nodes) × T (held work.now result h) × (T (rel work.now result h) → ⊥)) × (s.first.nodes ≤ result → (v h : ℕ) → v < s.first.nodes → h < max_nodes → T (held work.now v h) → T (rel work.now v h)) }
 {
-    let mut v = 0;
-    while v < s.first.nodes {
+    for v in 0..s.first.nodes {
         if has_lost(first, second, s, work, v) {
             return v;
         }
-        v += 1;
     }
-    v
+    s.first.nodes
 }
 
 // Takes rows until none has lost anything: sweep by sweep, and after each the lowest that is left.
@@ -150,6 +136,7 @@ fn settle(first: &[u8], second: &[u8], s: Sizes, work: &mut [u8])
 {
     sweep(first, second, s, work);
     let mut v = lowest_unsettled(first, second, s, work);
+    // Until nothing is lost: how often is known only by the measure.
     while v < s.first.nodes {
         take(first, second, s, work, v);
         sweep(first, second, s, work);

@@ -36,11 +36,9 @@ fn put_kinds(first: &[u8], second: &[u8], s: Sizes, work: &mut [u8])
     requires { (Both s first.now second.now) × ((compare_room ≤ length work.old) × ((q : ℕ) → kinds_base ≤ q → q < heads_base → get_or work.old q 0 ≡ 0)) }
     ensures { (KindRows (decode_graph second.now) s.second.nodes work.new) × (Outside kinds_base heads_base work.old work.new) }
 {
-    let mut h = 0;
-    while h < s.second.nodes {
+    for h in 0..s.second.nodes {
         let k = kind_of(second, h);
         put_bit(work, Sizes::KINDS + LINE * k, h);
-        h += 1;
     }
 }
 
@@ -49,12 +47,10 @@ fn relate(first: &[u8], second: &[u8], s: Sizes, work: &mut [u8])
     requires { (Both s first.now second.now) × ((compare_room ≤ length work.old) × (KindRows (decode_graph second.now) s.second.nodes work.old)) }
     ensures { ((g h : ℕ) → g < s.first.nodes → h < max_nodes → rel work.new g h ≡ (ltb h s.second.nodes && alike (node (decode_graph first.now) g) (node (decode_graph second.now) h))) × (Outside 0 held_base work.old work.new) }
 {
-    let mut g = 0;
-    while g < s.first.nodes {
+    for g in 0..s.first.nodes {
         let k = kind_of(first, g);
         let row = row_at(work, Sizes::KINDS + LINE * k);
         put_row(work, LINE * g, &row);
-        g += 1;
     }
 }
 
@@ -72,11 +68,9 @@ fn link_slots(first: &[u8], second: &[u8], s: Sizes, work: &mut [u8])
     requires { (Both s first.now second.now) × ((compare_room ≤ length work.old) × ((q : ℕ) → heads_base ≤ q → q < nexts_base → get_or work.old q 0 ≡ 0)) }
     ensures { (Chained work.new heads_base nexts_base (labelled_into (decode_graph first.now)) (9 * s.first.nodes) s.first.edges) × (Outside heads_base cursors_base work.old work.new) }
 {
-    let mut e = 0;
-    while e < s.first.edges {
+    for e in 0..s.first.edges {
         let slot = slot_of(first, second, s, e);
         link(work, Sizes::HEADS, Sizes::NEXTS, slot, e);
-        e += 1;
     }
 }
 
@@ -104,10 +98,8 @@ fn put_edges(first: &[u8], second: &[u8], s: Sizes, work: &mut [u8])
     requires { (Both s first.now second.now) × ((compare_room ≤ length work.old) × ((q : ℕ) → neighbours_base ≤ q → q < neighbours_base + 320 * s.second.nodes → get_or work.old q 0 ≡ 0)) }
     ensures { (Neighbours (decode_graph second.now) s.second.nodes work.new) × (Outside neighbours_base neighbours_end work.old work.new) }
 {
-    let mut j = 0;
-    while j < s.second.edges {
+    for j in 0..s.second.edges {
         put_edge(first, second, s, work, j);
-        j += 1;
     }
 }
 

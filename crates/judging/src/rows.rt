@@ -7,7 +7,7 @@ ghost use Rattle.files.specs.Places.{line_bytes, max_nodes};
 ghost use Rattle.judging.specs.Chains.{Outside};
 ghost use Rattle.judging.specs.Words.{ones_in};
 
-use files::cells::{get32, wide};
+use files::cells::{get, wide};
 use files::encode::LINE;
 
 // The digits of one byte that another has not.
@@ -17,16 +17,14 @@ pub(crate) fn without(x: u8, y: u8) -> u8
     x & !y
 }
 
-// The row from `at` on.
+// The row from `at` on. (Here and in `put_row` a loop over the bytes is built into the caller, where `copy_from_slice` is a call and makes comparing up to a third slower.)
 pub(crate) fn row_at(work: &[u8], at: usize) -> [u8; LINE]
     requires { at + line_bytes ≤ length work.now }
     ensures { (length result ≡ line_bytes) × ((h : ℕ) → h < max_nodes → has_bit result 0 h ≡ has_bit work.now at h) }
 {
     let mut row = [0u8; LINE];
-    let mut k = 0;
-    while k < LINE {
+    for k in 0..LINE {
         row[k] = work[at + k];
-        k += 1;
     }
     row
 }
@@ -37,10 +35,8 @@ pub(crate) fn row_without(work: &[u8], at: usize, row: &[u8]) -> [u8; LINE]
     ensures { (length result ≡ line_bytes) × ((h : ℕ) → h < max_nodes → has_bit result 0 h ≡ (has_bit work.now at h && not (has_bit row.now 0 h))) }
 {
     let mut rest = [0u8; LINE];
-    let mut k = 0;
-    while k < LINE {
+    for k in 0..LINE {
         rest[k] = without(work[at + k], row[k]);
-        k += 1;
     }
     rest
 }
@@ -50,10 +46,8 @@ pub(crate) fn put_row(work: &mut [u8], at: usize, row: &[u8])
     requires { (at + line_bytes ≤ length work.old) × (32 ≤ length row.now) }
     ensures { ((h : ℕ) → h < max_nodes → has_bit work.new at h ≡ has_bit row.now 0 h) × (Outside at (at + line_bytes) work.old work.new) }
 {
-    let mut k = 0;
-    while k < LINE {
+    for k in 0..LINE {
         work[at + k] = row[k];
-        k += 1;
     }
 }
 
@@ -63,10 +57,8 @@ pub(crate) fn row_with(row: &[u8], work: &[u8], at: usize) -> [u8; LINE]
     ensures { (length result ≡ line_bytes) × ((h : ℕ) → h < max_nodes → has_bit result 0 h ≡ (has_bit row.now 0 h || has_bit work.now at h)) }
 {
     let mut both = [0u8; LINE];
-    let mut k = 0;
-    while k < LINE {
+    for k in 0..LINE {
         both[k] = row[k] | work[at + k];
-        k += 1;
     }
     both
 }
@@ -77,10 +69,8 @@ pub(crate) fn common(row: &[u8], other: &[u8]) -> [u8; LINE]
     ensures { (length result ≡ line_bytes) × ((h : ℕ) → h < max_nodes → has_bit result 0 h ≡ (has_bit row.now 0 h && has_bit other.now 0 h)) }
 {
     let mut both = [0u8; LINE];
-    let mut k = 0;
-    while k < LINE {
+    for k in 0..LINE {
         both[k] = row[k] & other[k];
-        k += 1;
     }
     both
 }
@@ -100,10 +90,8 @@ pub(crate) fn meets(row: &[u8], work: &[u8], at: usize) -> bool
     ensures { (T result → (h : ℕ) × (h < max_nodes) × T (has_bit row.now 0 h) × T (has_bit work.now at h)) × (T (not result) → (h : ℕ) → h < max_nodes → T (has_bit row.now 0 h) → T (has_bit work.now at h) → ⊥) }
 {
     let mut any = 0;
-    let mut k = 0;
-    while k < LINE {
+    for k in 0..LINE {
         any = any | (row[k] & work[at + k]);
-        k += 1;
     }
     wide(any) > 0
 }
@@ -114,10 +102,8 @@ pub(crate) fn any_at(work: &[u8], at: usize) -> bool
     ensures { (T result → (h : ℕ) × (h < max_nodes) × T (has_bit work.now at h)) × (T (not result) → (h : ℕ) → h < max_nodes → has_bit work.now at h ≡ false) }
 {
     let mut any = 0;
-    let mut k = 0;
-    while k < LINE {
-        any = any | work[at + k];
-        k += 1;
+    for byte in &work[at..at + LINE] {
+        any |= *byte;
     }
     wide(any) > 0
 }
@@ -128,10 +114,8 @@ pub(crate) fn exceeds(work: &[u8], at: usize, less: usize) -> bool
     ensures { (T result → (h : ℕ) × (h < max_nodes) × T (has_bit work.now at h) × (T (has_bit work.now less h) → ⊥)) × (T (not result) → (h : ℕ) → h < max_nodes → T (has_bit work.now at h) → T (has_bit work.now less h)) }
 {
     let mut any = 0;
-    let mut k = 0;
-    while k < LINE {
+    for k in 0..LINE {
         any = any | without(work[at + k], work[less + k]);
-        k += 1;
     }
     wide(any) > 0
 }
@@ -142,10 +126,8 @@ pub(crate) fn size_of_row(row: &[u8]) -> u32
     ensures { result ≡ ones_in row.now 8 }
 {
     let mut n = 0;
-    let mut k = 0;
-    while k < 8 {
-        n = n + u32::count_ones(get32(row, 0, k));
-        k += 1;
+    for k in 0..8 {
+        n = n + u32::count_ones(get::<u32>(row, 0, k));
     }
     n
 }

@@ -3,6 +3,7 @@ use files::encode::LINE;
 use files::record::Limits;
 use files::view::GraphView;
 
+// It stands beside the two files for the reason that shape.rt gives.
 #[derive(Clone, Copy)]
 pub struct Sizes {
     pub first: GraphView,

@@ -60,9 +60,6 @@ module _ (s : Scope) (I : Interface) (P : List Row) where
     charting = subst (λ (i : ℕ). Charting I P t i w) d (x.0 l).0;
   }
 
-  pub working_end : (m long₀ q q' c : ℕ) (w : List ℕ) → q ≡ q' → Working m long₀ q c w → Worked m c q' w
-  working_end m long₀ q q' c w d x = (λ h. (subst (λ (i : ℕ). Charting I P c i w) d x.charting, (x.tables, x.more)), (omega (arith, x.fits), λ h. absurd (omega (arith, x.fits))))
-
 module _ (s : Scope) (I : Interface) (p : List ℕ) (scoped : Scoped s p) where
   abbrev P : List Row
   P = decode_property p

@@ -6,23 +6,23 @@ use mathlib.Core.Bool.{Bool, true, false, not, cond}
 use mathlib.Core.List.{List}
 use mathlib.Core.Option.{Option, none, some, none-ne-some}
 use Prim.Native.Nat.{ℕ, zero, suc, ◌+◌, ◌*◌, ◌-◌, ◌/◌, ◌%◌, ◌^◌, ◌≤◌, ◌<◌}
-use native.Mathlib.Nat.{one-mul, zero-add, add_comm, pow-suc, mod-lt}
+use native.Mathlib.Nat.{one-mul, add_comm, pow-suc, mod-lt}
 use native.Mathlib.Numerals.{add-one}
 use native.Mathlib.Omega.{arith}
 use lib.Bits.{bit_and, bit_or, bit_xor, or_lt, or_shifted_r, xor_add_and, and_le_l, and_le_r}
 use lib.Count.{count_leading_zeros, leading_top}
 use lib.Dec.{T, eqb, eqb→eq}
-use lib.ListN.{length, get_or, set, length-set}
+use lib.ListN.{length, get_or}
 use borrow.Author.Tests.{eqb-true, eqb-false, leb-false, not-true, not-false, ne_eqb}
 use lib.Pow.{pow_pos, pow-lt, shl_exact, shr_lt, split}
-use Rattle.files.specs.Access.{row_held, looks}
+use Rattle.files.specs.Access.{row_held, looked_at, aims_along, operator_of}
 use Rattle.files.specs.Access.Boxes.{looks_obliged}
 use Rattle.files.specs.Basics.Tables.{tally, tally_le}
 use Rattle.files.specs.Basics.Tests.{decide, same, same_test, eq_eqb, one, and_l, and_i, or_e, or_l, or_r}
 use Rattle.files.specs.Property.{Row, row, names, obliged, is_box}
 use Rattle.files.specs.declared.property.PropertyRow.{PropertyRow}
 use Rattle.judging.specs.Levels.Laws.{obliged_named}
-use Rattle.judging.specs.Refinement.Rows.{Bytes, bytes_on}
+use Rattle.judging.specs.Refinement.Rows.{Bytes}
 use Rattle.maximal.specs.Model.Supports.{has_tab, asked_e, asked_i}
 use Rattle.maximal.specs.Masks.{member, within, Partly, Taken, untrue_at, untrue, obliged_rows, asked_of, mask, rows, Boxes}
 use Rattle.maximal.specs.Masks.Laws.{member_or, member_and, member_xor, member_one, member_none, member_lt, members_eq, within_e, within_i}
@@ -159,48 +159,34 @@ untrue_all P m f n s e p = p ∙ ap (mask (untrue_row P m f)) e ∙ sym (untrue_
 
 -- the set of label l of a table t, with row r where that looks along the label, read as x
 abbrev pub entered : PropertyRow → ℕ → List ℕ → ℕ → ℕ
-entered x r t l = cond (looks x l).along (bit_or (get_or t l 0) (2 ^ r)) (get_or t l 0)
+entered x r t l = cond (aims_along x l) (bit_or (get_or t l 0) (2 ^ r)) (get_or t l 0)
 
 -- the row is entered under the labels below l
 abbrev pub Entering : PropertyRow → ℕ → List ℕ → ℕ → List ℕ → Type 0
 Entering x r t₀ l t = (length t ≡ 9) × Bytes (entered x r t₀) t₀ 0 l t
 
-pub entering_on : (x : PropertyRow) (r : ℕ) (t₀ t t' : List ℕ) (l : ℕ) → l < 9 → (b : Bool) → (looks x l).along ≡ b
-    → t' ≡ set t l (cond b (bit_or (get_or t l 0) (2 ^ r)) (get_or t l 0)) → Entering x r t₀ l t → Entering x r t₀ (l + 1) t'
-entering_on x r t₀ t t' l h b along put y = (
-  ap length put ∙ length-set t l v ∙ y.0,
-  bytes_on (entered x r t₀) t₀ t t' 0 l v (omega (arith, y.0)) (ap (λ (m : ℕ). cond b (bit_or m (2 ^ r)) m) (y.1.1 l (inr (omega arith)))
-      ∙ ap (λ (c : Bool). cond c (bit_or (get_or t₀ l 0) (2 ^ r)) (get_or t₀ l 0)) (sym along)) (put ∙ ap (λ (i : ℕ). set t i v) (sym (zero-add l))) y.1,
-)
-  where
-    v : ℕ
-    v = cond b (bit_or (get_or t l 0) (2 ^ r)) (get_or t l 0)
-
-pub entering_all : (x : PropertyRow) (r : ℕ) (t₀ t : List ℕ) (l : ℕ) → 9 ≤ l → Entering x r t₀ l t → (i : ℕ) → i < 9 → get_or t i 0 ≡ entered x r t₀ i
-entering_all x r t₀ t l h y i k = ap (λ (j : ℕ). get_or t j 0) (sym (zero-add i)) ∙ y.1.0 i (omega arith)
-
 -- a row that is no box looks along nothing
-unboxed_looks : (x : PropertyRow) (l : ℕ) → is_box x.operator ≡ false → (looks x l).along ≡ false
+unboxed_looks : (x : PropertyRow) (l : ℕ) → is_box (operator_of x) ≡ false → aims_along x l ≡ false
 unboxed_looks x l e =
-    let h = leb-false 9 x.operator e in rw (ne_eqb x.operator 10 (λ i. omega (arith, h)), ne_eqb x.operator 9 (λ i. omega (arith, h)))
+    let h = leb-false 9 (operator_of x) e in rw (ne_eqb (operator_of x) 10 (λ i. omega (arith, h)), ne_eqb (operator_of x) 9 (λ i. omega (arith, h)))
 
 -- the rows of P that look along label l
 abbrev pub looks_along : List Row → ℕ → ℕ → Bool
-looks_along P l r = (looks (row_held (row P r)) l).along
+looks_along P l r = aims_along (row_held (row P r)) l
 
 -- row r, read as x, is entered where it looks along the label; no other need be
 module _ (P : List Row) (r : ℕ) (x : PropertyRow) (read : x ≡ row_held (row P r)) (l s : ℕ) (is : s ≡ mask (looks_along P l) r) where
-  here : looks_along P l r ≡ (looks x l).along
-  here = ap (λ (y : PropertyRow). (looks y l).along) (sym read)
+  here : looks_along P l r ≡ aims_along x l
+  here = ap (λ (y : PropertyRow). aims_along y l) (sym read)
 
-  pub boxed_with : cond (looks x l).along (bit_or s (2 ^ r)) s ≡ mask (looks_along P l) (r + 1)
-  boxed_with = go (looks x l).along here
+  pub boxed_with : cond (aims_along x l) (bit_or s (2 ^ r)) s ≡ mask (looks_along P l) (r + 1)
+  boxed_with = go (aims_along x l) here
     where
       go : (b : Bool) → looks_along P l r ≡ b → cond b (bit_or s (2 ^ r)) s ≡ mask (looks_along P l) (r + 1)
       go true e = mask_with (looks_along P l) r s (2 ^ r) is refl e
       go false e = mask_without (looks_along P l) r s is e
 
-  pub boxed_without : is_box x.operator ≡ false → s ≡ mask (looks_along P l) (r + 1)
+  pub boxed_without : is_box (operator_of x) ≡ false → s ≡ mask (looks_along P l) (r + 1)
   boxed_without e = mask_without (looks_along P l) r s is (here ∙ unboxed_looks x l e)
 
 -- ---- what a set asks for
@@ -222,10 +208,10 @@ obliged_lt n x l t = go (obliged x l) refl
     go (some b) e = pow-lt (obliged_named n x l b t e)
 
 -- a row that obliges looks along the label
-obliged_along : (x : Row) (l b : ℕ) → obliged x l ≡ some b → T (looks (row_held x) l).along
-obliged_along x l b e = go (looks (row_held x) l).along (sym (looks_obliged x l) ∙ e)
+obliged_along : (x : Row) (l b : ℕ) → obliged x l ≡ some b → T (aims_along (row_held x) l)
+obliged_along x l b e = go (aims_along (row_held x) l) (sym (looks_obliged x l) ∙ e)
   where
-    go : (c : Bool) → cond c (some (looks (row_held x) l).at) none ≡ some b → T c
+    go : (c : Bool) → cond c (some (looked_at (row_held x))) none ≡ some b → T c
     go true i = tt
     go false i = absurd (none-ne-some _ i)
 

@@ -1,7 +1,7 @@
--- For the code that enters a state: places looked at four in a turn, what storing a state and marking it in a row of bits changes, and the three ends of `enter`.
+-- For the code that enters a state: what storing a state and marking it in a row of bits changes, and the three ends of `enter`.
 use mathlib.Core.Path.{◌≡◌, refl, sym, ap, subst, ◌∙◌}
 use mathlib.Core.Logic.{◌⊎◌, inl, inr}
-use mathlib.Core.Bool.{Bool, true, false, not, ◌&&◌, ◌||◌}
+use mathlib.Core.Bool.{Bool, true, false, ◌&&◌, ◌||◌}
 use mathlib.Core.List.Memᴰ
 use mathlib.Core.List.{List, [], ◌∷◌, Memᴰ}
 use Prim.Native.Nat.{ℕ, ◌+◌, ◌*◌, ◌/◌, ◌≤◌, ◌<◌}
@@ -9,7 +9,6 @@ use native.Mathlib.Decide.{ℕ_discrete}
 use native.Mathlib.Omega.{arith}
 use lib.Dec.{T, T_not, not_T, eqb, eqb→eq, ltb, ltb→lt, lt→ltb}
 use lib.ListN.{length, get_or}
-use Rattle.files.specs.Basics.Below.{none_on}
 use Rattle.files.specs.Basics.Least.{least_before, least_hit, least_lt}
 use Rattle.files.specs.Basics.Tests.{T_eq, eq_eqb, and_l, and_r, and_i, or_l, or_r}
 use Rattle.files.specs.Cells.{put_cell, put_bit}
@@ -26,25 +25,6 @@ use Rattle.maximal.specs.Charting.Files.{rows_named}
 use Rattle.maximal.specs.Charting.Kept.{off, known_same, holds_same}
 use Rattle.maximal.proofs.Theorems.Charting.States.{crowded}
 use Rattle.maximal.specs.Charting.Entering.{admitted_unmarked, admitted_both}
-
--- ---- four places looked at in a turn
-
-all_off : (a b c d : Bool) → (((a || b) || c) || d) ≡ false → (a ≡ false) × (b ≡ false) × (c ≡ false) × (d ≡ false)
-all_off true b c d e = absurd (subst T e tt)
-all_off false true c d e = absurd (subst T e tt)
-all_off false false true d e = absurd (subst T e tt)
-all_off false false false true e = absurd (subst T e tt)
-all_off false false false false e = (refl, refl, refl, refl)
-
--- where none of the first i passes, and none of four more, none of the first i + 4 does
-pub none_of_four : (f : ℕ → Bool) (i : ℕ) → ((j : ℕ) → j < i → T (not (f j))) → (a b c d : Bool) → a ≡ f i → b ≡ f (i + 1) → c ≡ f (i + 2) → d ≡ f (i + 3) → (((a || b) || c) || d) ≡ false → (j : ℕ) → j < i + 4 → T (not (f j))
-none_of_four f i none a b c d ia ib ic id e =
-    let off = all_off a b c d e in
-    let one = none_on f i none (sym ia ∙ off.0) in
-    let two = none_on f (i + 1) one (sym ib ∙ off.1) in
-    let three = none_on f (i + 2) (λ j h. two j (omega arith)) (sym ic ∙ off.2) in
-    let four = none_on f (i + 3) (λ j h. three j (omega arith)) (sym id ∙ off.3) in
-    λ j h. four j (omega arith)
 
 -- ---- a state stored, and marked in a row
 

@@ -8,7 +8,7 @@ ghost use Rattle.maximal.specs.Collected.{inserted, listed};
 ghost use Rattle.maximal.specs.Places.{candidates_base, max_candidates, model_room};
 
 use crate::places::Places;
-use files::cells::{get32, put32};
+use files::cells::{get, put};
 
 // Every row of u is in s.
 fn is_within(u: u32, s: u32) -> bool
@@ -22,12 +22,10 @@ fn has_within(work: &[u8], count: usize, s: u32) -> bool
     requires { (count ≤ max_candidates) × (model_room ≤ length work.now) }
     ensures { result ≡ any (λ u. within u s) (listed work.now count) }
 {
-    let mut i = 0;
-    while i < count {
-        if is_within(get32(work, Places::CANDIDATES, i), s) {
+    for i in 0..count {
+        if is_within(get::<u32>(work, Places::CANDIDATES, i), s) {
             return true;
         }
-        i += 1;
     }
     false
 }
@@ -37,15 +35,13 @@ fn drop_above(work: &mut [u8], count: usize, s: u32) -> usize
     requires { (count ≤ max_candidates) × (model_room ≤ length work.old) }
     ensures { (listed work.new result ≡ keep (λ u. not (within s u)) (listed work.old count)) × ((result ≤ count) × (Outside candidates_base model_room work.old work.new)) }
 {
-    let mut i = 0;
     let mut left = 0;
-    while i < count {
-        let u = get32(work, Places::CANDIDATES, i);
+    for i in 0..count {
+        let u = get::<u32>(work, Places::CANDIDATES, i);
         if !is_within(s, u) {
-            put32(work, Places::CANDIDATES, left, u);
+            put(work, Places::CANDIDATES, left, u);
             left += 1;
         }
-        i += 1;
     }
     left
 }
@@ -59,6 +55,6 @@ pub(crate) fn insert(work: &mut [u8], count: usize, s: u32) -> usize
         return count;
     }
     let left = drop_above(work, count, s);
-    put32(work, Places::CANDIDATES, left, s);
+    put(work, Places::CANDIDATES, left, s);
     left + 1
 }

@@ -3,7 +3,7 @@ ghost use Rattle.std.specs.Prelude.{◌+◌, ◌≤◌, length};
 ghost use Rattle.maximal.specs.Bits.{NextBit};
 ghost use Rattle.maximal.specs.Places.{max_states};
 
-use files::cells::get32;
+use files::cells::get;
 
 // The first bit from bit t on that is one, below n; n or more where there is none. 32 bits that are zero are passed over at once.
 pub(crate) fn next_bit(bits: &[u8], base: usize, t: usize, n: usize) -> usize
@@ -11,8 +11,9 @@ pub(crate) fn next_bit(bits: &[u8], base: usize, t: usize, n: usize) -> usize
     ensures { NextBit bits.now base t n result }
 {
     let mut u = t;
+    // 32 bits are passed over at once, so the step is no count.
     while u < n {
-        let rest = get32(bits, base, u / 32) >> (u % 32);
+        let rest = get::<u32>(bits, base, u / 32) >> (u % 32);
         if rest != 0 {
             return u + (u32::trailing_zeros(rest) as usize);
         }

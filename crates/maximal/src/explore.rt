@@ -16,7 +16,7 @@ use crate::masks::{LABELS, asked, boxes_by_label};
 use crate::places::{Places, Scope};
 use crate::states::{admit, find_pair};
 use crate::supports::tabulate;
-use files::cells::{get8, get32, put8, put32};
+use files::cells::{clear, get, put};
 use files::encode::LINE;
 use files::interface::{provided_methods, provides, requires_method};
 
@@ -33,11 +33,8 @@ fn clear_row(work: &mut [u8], q: usize)
     requires { (q ≤ entries_slot) × (model_room ≤ length work.old) }
     ensures { ((t : ℕ) → t < max_states → target work.new q t ≡ false) × (Outside (targets_base + line_bytes * q) (targets_base + line_bytes * q + line_bytes) work.old work.new) }
 {
-    let mut k = 0;
-    while k < LINE {
-        put8(work, Places::TARGETS + LINE * q, k, 0);
-        k += 1;
-    }
+    let from = Places::TARGETS + LINE * q;
+    clear(&mut work[from..from + LINE]);
 }
 
 // Enters the entries of all provided methods.
@@ -46,16 +43,14 @@ fn enter_entries(interface: &[u8], property: &[u8], s: Scope, work: &mut [u8]) -
     ensures { (result ≤ s.states → (Charting (decode_interface interface.now) (decode_property property.now) result 0 work.new) × (Tables (decode_property property.now) work.new)) × ((result ≤ s.states + 1) × (s.states < result → Crowded (decode_interface interface.now) (decode_property property.now) s.states)) }
 {
     clear_row(work, Places::ENTRIES);
-    let mut kind = 2;
     let mut c = 0;
-    while kind < 18 {
+    for kind in 2..18 {
         if provides(interface, kind / 2) {
             c = admit(interface, property, s, work, Places::ENTRIES, c, kind, 1);
             if s.states < c {
                 return c;
             }
         }
-        kind += 1;
     }
     c
 }
@@ -65,11 +60,9 @@ fn copy_row(work: &mut [u8], p: usize, q: usize)
     requires { (p < q) × ((q < slots) × (model_room ≤ length work.old)) }
     ensures { ((t : ℕ) → t < max_states → target work.new q t ≡ target work.old p t) × (Outside (targets_base + line_bytes * q) (targets_base + line_bytes * q + line_bytes) work.old work.new) }
 {
-    let mut k = 0;
-    while k < LINE {
-        let byte = get8(work, Places::TARGETS + LINE * p, k);
-        put8(work, Places::TARGETS + LINE * q, k, byte);
-        k += 1;
+    for k in 0..LINE {
+        let byte = get::<u8>(work, Places::TARGETS + LINE * p, k);
+        put(work, Places::TARGETS + LINE * q, k, byte);
     }
 }
 
@@ -111,16 +104,16 @@ fn follow(
     let q = 9 * i + (label as usize);
     clear_row(work, q);
     if !is_label(interface, label) {
-        put8(work, Places::METHODS, q, 0);
+        put(work, Places::METHODS, q, 0u8);
         return c;
     }
-    let method = get8(work, Places::KINDS, i) / 2;
-    let among = get32(work, Places::SETS, i) & boxes[label as usize];
+    let method = get::<u8>(work, Places::KINDS, i) / 2;
+    let among = get::<u32>(work, Places::SETS, i) & boxes[label as usize];
     let set = asked(property, s.rows, among, label);
     // The first slot below q with this method that asks for this set, or q.
     let p = find_pair(work, Places::METHODS, Places::ASKED, q, method, set);
-    put8(work, Places::METHODS, q, method);
-    put32(work, Places::ASKED, q, set);
+    put(work, Places::METHODS, q, method);
+    put(work, Places::ASKED, q, set);
     if p < q {
         copy_row(work, p, q);
         return c;
@@ -141,14 +134,12 @@ fn expand(
     requires { (Boxes (decode_property property.now) boxes.now) × ((InterfaceFile interface.now) × ((Scoped s property.now) × ((i < c) × ((c ≤ s.states) × ((model_room ≤ length work.old) × ((Tables (decode_property property.now) work.old) × (Charting (decode_interface interface.now) (decode_property property.now) c (9 * i) work.old))))))) }
     ensures { (result ≤ s.states → (Charting (decode_interface interface.now) (decode_property property.now) result (9 * i + 9) work.new) × ((Tables (decode_property property.now) work.new) × (c ≤ result))) × ((result ≤ s.states + 1) × (s.states < result → Crowded (decode_interface interface.now) (decode_property property.now) s.states)) }
 {
-    let mut label = 0;
     let mut total = c;
-    while label < 9 {
+    for label in 0..9 {
         total = follow(interface, property, s, boxes, work, i, label, total);
         if s.states < total {
             return total;
         }
-        label += 1;
     }
     total
 }
@@ -168,6 +159,7 @@ pub(crate) fn explore(interface: &[u8], property: &[u8], s: Scope, work: &mut [u
         return c;
     }
     let mut i = 0;
+    // The body adds states, so no range is fixed beforehand.
     while i < c {
         c = expand(interface, property, s, &boxes, work, i, c);
         if s.states < c {

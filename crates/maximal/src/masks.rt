@@ -2,14 +2,13 @@
 // rows that are untrue at a method and flag; the boxes that look along a label; and what a state asks of its successors under it.
 ghost use Rattle.std.specs.Prelude.{◌≡◌, cond, ℕ, ◌+◌, ◌^◌, ◌≤◌, ◌<◌, T, get_or};
 ghost use Rattle.std.specs.Int.Bits.{bit_or};
-ghost use Rattle.files.specs.Access.{PropertyFile, looks};
+ghost use Rattle.files.specs.Access.{PropertyFile, aims_along};
 ghost use Rattle.files.specs.Decode.{decode_property};
 ghost use Rattle.files.specs.Property.{row, obliged};
 ghost use Rattle.files.specs.Record.{count};
 ghost use Rattle.maximal.specs.Masks.{operands_or, member, within, Taken, and_rows, completion, untrue_at, untrue, obliged_rows, asked_of, Boxes};
 
-use files::property::{PropertyRow, is_box, obliged, row_at};
-use files::record::Operator;
+use files::property::{PropertyRow, row_at};
 
 // Internal steps, and calls of eight methods.
 pub const LABELS: usize = 9;
@@ -46,16 +45,29 @@ pub(crate) fn next_row(set: u32, worked: u32) -> usize
     highest(set ^ worked)
 }
 
-// The operands of row r as a set where it is an "and", or up to operator `last`, also an "or"; otherwise the set given.
-pub(crate) fn operands_or(property: &[u8], n: usize, r: usize, last: u8, other: u32) -> u32
-    requires { (last ≤ 8) × ((PropertyFile property.now) × ((n ≡ count property.now) × ((n ≤ 32) × (r < n)))) }
-    ensures { result ≡ operands_or (row (decode_property property.now) r) last other }
+// The operands of row r as a set where it is an "and", or, if `ors`, an "or"; otherwise the set given.
+pub(crate) fn operands_or(property: &[u8], n: usize, r: usize, ors: bool, other: u32) -> u32
+    requires { (PropertyFile property.now) × ((n ≡ count property.now) × ((n ≤ 32) × (r < n))) }
+    ensures { result ≡ operands_or (row (decode_property property.now) r) (cond ors 8 7) other }
 {
-    let x = row_at(property, r);
-    if (Operator::AND <= x.operator) & (x.operator <= last) {
-        return one_row(x.a as usize) | one_row(x.b as usize);
+    match row_at(property, r) {
+        PropertyRow::And(a, b) => one_row(a as usize) | one_row(b as usize),
+        PropertyRow::Or(a, b) => {
+            if ors {
+                one_row(a as usize) | one_row(b as usize)
+            } else {
+                other
+            }
+        }
+        PropertyRow::True
+        | PropertyRow::False
+        | PropertyRow::InMethod(_)
+        | PropertyRow::NotInMethod(_)
+        | PropertyRow::Returns
+        | PropertyRow::NotReturns
+        | PropertyRow::Box { .. }
+        | PropertyRow::BoxAll(_) => other,
     }
-    other
 }
 
 // What row r asks for as an "and".
@@ -63,7 +75,7 @@ fn and_rows(property: &[u8], n: usize, r: usize) -> u32
     requires { (PropertyFile property.now) × ((n ≡ count property.now) × ((n ≤ 32) × (r < n))) }
     ensures { result ≡ and_rows (row (decode_property property.now) r) }
 {
-    operands_or(property, n, r, Operator::AND, 0)
+    operands_or(property, n, r, false, 0)
 }
 
 // The set and what its "and" rows ask for, and theirs, and so on: the highest row not yet worked is taken next.
@@ -73,6 +85,7 @@ pub(crate) fn complete(property: &[u8], n: usize, set: u32) -> u32
 {
     let mut all = set;
     let mut done = 0;
+    // A row taken adds rows to the set, so no range is fixed beforehand.
     while !(all == done) {
         let r = next_row(all, done);
         done = done | one_row(r);
@@ -86,28 +99,31 @@ fn is_untrue(property: &[u8], n: usize, r: usize, method: u8, flag: bool) -> boo
     requires { (PropertyFile property.now) × ((n ≡ count property.now) × ((n ≤ 32) × (r < n))) }
     ensures { result ≡ untrue_at (row (decode_property property.now) r) method flag }
 {
-    let x = row_at(property, r);
-    let here = method == x.a;
-    let never = x.operator == Operator::FALSE;
-    let elsewhere = (x.operator == Operator::IN_METHOD) & !here;
-    let shunned = (x.operator == Operator::NOT_IN_METHOD) & here;
-    let goes_on = (x.operator == Operator::RETURNS) & !flag;
-    let returns = (x.operator == Operator::NOT_RETURNS) & flag;
-    never | elsewhere | shunned | goes_on | returns
+    match row_at(property, r) {
+        PropertyRow::False => true,
+        PropertyRow::InMethod(a) => method != a,
+        PropertyRow::NotInMethod(a) => method == a,
+        PropertyRow::Returns => !flag,
+        PropertyRow::NotReturns => flag,
+        PropertyRow::True
+        | PropertyRow::And(..)
+        | PropertyRow::Or(..)
+        | PropertyRow::Box { .. }
+        | PropertyRow::BoxAll(_) => false,
+    }
 }
 
-// All rows that are.
+// All rows that are. (Inlined it would keep `admit` from being so, and modelling would take a tenth longer or more.)
+#[inline(never)]
 pub(crate) fn untrue(property: &[u8], n: usize, method: u8, flag: bool) -> u32
     requires { (PropertyFile property.now) × ((n ≡ count property.now) × (n ≤ 32)) }
     ensures { result ≡ untrue (decode_property property.now) method flag }
 {
-    let mut r = 0;
     let mut set = 0;
-    while r < n {
+    for r in 0..n {
         if is_untrue(property, n, r, method, flag) {
             set = set | one_row(r);
         }
-        r += 1;
     }
     set
 }
@@ -117,12 +133,10 @@ fn obliged_rows(property: &[u8], n: usize, r: usize, label: u8) -> u32
     requires { (PropertyFile property.now) × ((n ≡ count property.now) × ((n ≤ 32) × (r < n))) }
     ensures { result ≡ obliged_rows (obliged (row (decode_property property.now) r) label) }
 {
-    let x = row_at(property, r);
-    let on = obliged(x, label);
-    if on.along {
-        return one_row(on.at as usize);
+    match row_at(property, r).obliged(label) {
+        Some(row) => one_row(row as usize),
+        None => 0,
     }
-    0
 }
 
 // What all rows of a set do. The highest row not yet asked is taken next.
@@ -132,6 +146,7 @@ pub(crate) fn asked(property: &[u8], n: usize, set: u32, label: u8) -> u32
 {
     let mut done = 0;
     let mut rows = 0;
+    // Bits are taken from the highest down; an iterator of our own with its laws would be no plainer.
     while !(set == done) {
         let r = next_row(set, done);
         done = done | one_row(r);
@@ -143,16 +158,13 @@ pub(crate) fn asked(property: &[u8], n: usize, set: u32, label: u8) -> u32
 // Enters row r, read as x, under each label that it looks along.
 fn enter_box(boxes: [u32; LABELS], x: PropertyRow, r: usize) -> [u32; LABELS]
     requires { r < 32 }
-    ensures { (l : ℕ) → l < 9 → get_or result l 0 ≡ cond (looks x l).along (bit_or (get_or boxes l 0) (2 ^ r)) (get_or boxes l 0) }
+    ensures { (l : ℕ) → l < 9 → get_or result l 0 ≡ cond (aims_along x l) (bit_or (get_or boxes l 0) (2 ^ r)) (get_or boxes l 0) }
 {
     let mut all = boxes;
-    let mut label = 0;
-    while label < LABELS {
-        let on = obliged(x, label as u8);
-        if on.along {
+    for label in 0..LABELS {
+        if x.obliged(label as u8).is_some() {
             all[label] = all[label] | one_row(r);
         }
-        label += 1;
     }
     all
 }
@@ -163,14 +175,12 @@ pub(crate) fn boxes_by_label(property: &[u8], n: usize) -> [u32; LABELS]
     ensures { Boxes (decode_property property.now) result }
 {
     let mut boxes = [0u32; LABELS];
-    let mut r = 0;
-    while r < n {
+    for r in 0..n {
         let x = row_at(property, r);
-        if is_box(x.operator) {
+        if x.is_box() {
             let with = enter_box(boxes, x, r);
             boxes = with;
         }
-        r += 1;
     }
     boxes
 }

@@ -11,14 +11,14 @@ ghost use Rattle.maximal.specs.Places.{candidates_base, entries_slot, max_candid
 
 use crate::places::{Places, Scope};
 use crate::supports::supports;
-use files::cells::{get8, get32, put_bit, put8, put32};
+use files::cells::{get, put, put_bit};
 
 // Place i has this byte among those from `bytes` on and this set among those from `sets` on.
 fn is_pair(work: &[u8], bytes: usize, sets: usize, i: usize, byte: u8, set: u32) -> bool
     requires { (bytes + i + 1 ≤ length work.now) × (sets + 4 * i + 4 ≤ length work.now) }
     ensures { result ≡ is_pair work.now bytes sets byte set i }
 {
-    (get8(work, bytes, i) == byte) & (get32(work, sets, i) == set)
+    (get::<u8>(work, bytes, i) == byte) & (get::<u32>(work, sets, i) == set)
 }
 
 // The first of n places that is such a pair, or n, where none of the first `from` is.
@@ -34,14 +34,12 @@ fn pair_from(
     requires { (from ≤ n) × ((bytes + n ≤ length work.now) × ((sets + 4 * n ≤ length work.now) × ((j : ℕ) → j < from → T (not (is_pair work.now bytes sets byte set j))))) }
     ensures { result ≡ least (is_pair work.now bytes sets byte set) n }
 {
-    let mut i = from;
-    while i < n {
+    for i in from..n {
         if is_pair(work, bytes, sets, i, byte, set) {
             return i;
         }
-        i += 1;
     }
-    i
+    n
 }
 
 // The first of n places that has this byte among those from `bytes` on and this set among those from `sets` on, or n. Four places are looked at in a turn.
@@ -56,8 +54,8 @@ pub(crate) fn find_pair(
     requires { (bytes + n ≤ length work.now) × (sets + 4 * n ≤ length work.now) }
     ensures { result ≡ least (is_pair work.now bytes sets byte set) n }
 {
-    let mut i = 0;
-    while n - i >= 4 {
+    for turn in 0..n / 4 {
+        let i = 4 * turn;
         if is_pair(work, bytes, sets, i, byte, set)
             | is_pair(work, bytes, sets, i + 1, byte, set)
             | is_pair(work, bytes, sets, i + 2, byte, set)
@@ -65,9 +63,8 @@ pub(crate) fn find_pair(
         {
             return pair_from(work, bytes, sets, i, n, byte, set);
         }
-        i += 4;
     }
-    pair_from(work, bytes, sets, i, n, byte, set)
+    pair_from(work, bytes, sets, n / 4 * 4, n, byte, set)
 }
 
 // Enters a state, where it is new, and marks it in row q. How many states there are then; one more than there may be where there is no room.
@@ -92,8 +89,8 @@ fn enter(
     if c == s.states {
         return c + 1;
     }
-    put8(work, Places::KINDS, c, kind);
-    put32(work, Places::SETS, c, set);
+    put(work, Places::KINDS, c, kind);
+    put(work, Places::SETS, c, set);
     put_bit(work, Places::TARGETS, 256 * q + c);
     c + 1
 }
@@ -112,15 +109,13 @@ fn enter_listed(
     requires { (Scoped s property.now) × ((q ≤ entries_slot) × ((c ≤ s.states) × ((n ≤ max_candidates) × ((model_room ≤ length work.old) × ((Holds (decode_interface interface.now) (decode_property property.now) c work.old) × ((u : ℕ) → Memᴰ u (listed work.old n) → Known (decode_interface interface.now) (decode_property property.now) kind u)))))) }
     ensures { (result ≤ s.states → Admitted (decode_interface interface.now) (decode_property property.now) c result kind (listed work.old n) q work.old work.new) × ((result ≤ s.states + 1) × (s.states < result → Crowded (decode_interface interface.now) (decode_property property.now) s.states)) }
 {
-    let mut k = 0;
     let mut total = c;
-    while k < n {
-        let set = get32(work, Places::CANDIDATES, k);
+    for k in 0..n {
+        let set = get::<u32>(work, Places::CANDIDATES, k);
         total = enter(interface, property, s, work, q, total, kind, set);
         if s.states < total {
             return total;
         }
-        k += 1;
     }
     total
 }

@@ -13,7 +13,7 @@ ghost use Rattle.maximal.specs.Places.{model_room, targets_base, max_states};
 
 use crate::bits::next_bit;
 use crate::places::Places;
-use files::cells::{get8, has_bit, put_bit};
+use files::cells::{get, has_bit, put_bit};
 use files::encode::{LINE, put_record};
 use files::record::Record;
 
@@ -22,7 +22,7 @@ fn row_of(work: &[u8], i: usize, label: usize) -> usize
     requires { (i < max_states) × ((label < 9) × (model_room ≤ length work.now)) }
     ensures { (result ≡ targets_base + line_bytes * (9 * order_at work.now i + label)) × (result + 32 ≤ model_room) }
 {
-    let from = get8(work, Places::ORDER, i) as usize;
+    let from = get::<u8>(work, Places::ORDER, i) as usize;
     Places::TARGETS + LINE * (9 * from + label)
 }
 
@@ -34,6 +34,7 @@ fn count_under(work: &[u8], c: usize, i: usize, label: usize) -> usize
     let row = row_of(work, i, label);
     let mut t = next_bit(work, row, 0, c);
     let mut n = 0;
+    // The next bit is looked for from here on, not the next index; an iterator of our own with its laws would be no plainer.
     while t < c {
         n += 1;
         t = next_bit(work, row, t + 1, c);
@@ -46,11 +47,9 @@ fn count_from(work: &[u8], c: usize, i: usize) -> usize
     requires { (i < c) × ((c ≤ max_states) × ((model_room ≤ length work.now) × ((Ordered c work.now) × (Ranked c work.now)))) }
     ensures { result ≡ tally_from work.now c i 9 }
 {
-    let mut label = 0;
     let mut n = 0;
-    while label < 9 {
+    for label in 0..9 {
         n += count_under(work, c, i, label);
-        label += 1;
     }
     n
 }
@@ -60,14 +59,12 @@ pub(crate) fn count_edges(work: &[u8], c: usize, limit: usize) -> usize
     requires { (c ≤ max_states) × ((model_room ≤ length work.now) × ((Ordered c work.now) × (Ranked c work.now))) }
     ensures { result ≡ tally_upto work.now c limit c }
 {
-    let mut i = 0;
     let mut n = 0;
-    while i < c {
+    for i in 0..c {
         if limit < n {
             return n;
         }
         n += count_from(work, c, i);
-        i += 1;
     }
     n
 }
@@ -77,8 +74,8 @@ fn write_node(work: &[u8], out: &mut [u8], i: usize)
     requires { (i < max_states) × ((model_room ≤ length work.now) × (record_len * i + record_len ≤ length out.old)) }
     ensures { out.new ≡ put_at out.old (record_len * i) (node_bytes work.now i) }
 {
-    let state = get8(work, Places::ORDER, i) as usize;
-    let kind = get8(work, Places::KINDS, state);
+    let state = get::<u8>(work, Places::ORDER, i) as usize;
+    let kind = get::<u8>(work, Places::KINDS, state);
     let entry = has_bit(work, Places::TARGETS, 256 * Places::ENTRIES + state);
     put_record(out, i, Record::node(kind / 2, kind % 2 == 1, entry));
 }
@@ -88,10 +85,8 @@ fn write_nodes(work: &[u8], out: &mut [u8], c: usize)
     requires { (c ≤ max_states) × ((model_room ≤ length work.now) × (record_len * c ≤ length out.old)) }
     ensures { out.new ≡ put_at out.old 0 (each (node_bytes work.now) (span 0 c)) }
 {
-    let mut i = 0;
-    while i < c {
+    for i in 0..c {
         write_node(work, out, i);
-        i += 1;
     }
 }
 
@@ -101,8 +96,9 @@ fn order_row(work: &[u8], row: usize, c: usize, ordered: &mut [u8])
     ensures { (j : ℕ) → j < c → has_bit ordered.new 0 j ≡ has_bit work.now row (order_at work.now j) }
 {
     let mut t = next_bit(work, row, 0, c);
+    // The next bit is looked for from here on, not the next index; an iterator of our own with its laws would be no plainer.
     while t < c {
-        let place = get8(work, Places::RANKS, t);
+        let place = get::<u8>(work, Places::RANKS, t);
         put_bit(ordered, 0, place as usize);
         t = next_bit(work, row, t + 1, c);
     }
@@ -117,6 +113,7 @@ fn write_under(work: &[u8], out: &mut [u8], c: usize, i: usize, label: usize, at
     order_row(work, row_of(work, i, label), c, &mut ordered);
     let mut j = next_bit(&ordered, 0, 0, c);
     let mut end = at;
+    // The next bit is looked for from here on, not the next index; an iterator of our own with its laws would be no plainer.
     while j < c {
         put_record(out, end, Record::edge(i as u8, label as u8, j as u8));
         end += 1;
@@ -130,11 +127,9 @@ fn write_from(work: &[u8], out: &mut [u8], c: usize, i: usize, at: usize) -> usi
     requires { (i < c) × ((c ≤ max_states) × ((model_room ≤ length work.now) × ((record_len * (at + tally_from work.now c i 9) ≤ length out.old) × ((Ordered c work.now) × (Ranked c work.now))))) }
     ensures { (result ≡ at + tally_from work.now c i 9) × (out.new ≡ put_at out.old (record_len * at) (from_bytes work.now c i 9)) }
 {
-    let mut label = 0;
     let mut end = at;
-    while label < 9 {
+    for label in 0..9 {
         end = write_under(work, out, c, i, label, end);
-        label += 1;
     }
     end
 }
@@ -152,10 +147,8 @@ pub(crate) fn write_model(
     ensures { out.new ≡ graph_bytes (model (decode_interface interface.now) (decode_property property.now)) ++ drop (length (graph_bytes (model (decode_interface interface.now) (decode_property property.now)))) out.old }
 {
     write_nodes(work, out, c);
-    let mut i = 0;
     let mut end = c;
-    while i < c {
+    for i in 0..c {
         end = write_from(work, out, c, i, end);
-        i += 1;
     }
 }

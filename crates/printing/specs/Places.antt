@@ -1,5 +1,5 @@
--- The lengths of buffers, which src/stdout.rt and src/input.rt have as constants too, and what a number of a slice's first bytes is.
-use Rattle.std.specs.Prelude.{◌≡◌, ℕ, ◌≤◌, List, length, take}
+-- The lengths of buffers, which src/stdout.rt and src/input.rt have as constants too.
+use Rattle.std.specs.Prelude.{ℕ}
 
 -- bytes of standard output
 abbrev pub text_room : ℕ
@@ -12,7 +12,3 @@ argument_room = 4096
 -- bytes of a file or of a result
 abbrev pub large_room : ℕ
 large_room = 65536
-
--- `&xs[..n]` is in bounds and has n bytes. The second part follows from the first, and spares a caller's `&buf[..n]` a proof file.
-abbrev pub IsPrefixLen : ℕ → List ℕ → Type 0
-IsPrefixLen n xs = (n ≤ length xs) × (n ≡ length (take n xs))

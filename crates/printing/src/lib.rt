@@ -1,84 +1,77 @@
-// What the programs print on standard output: words, numbers, and bytes as decimals, a record or a relation's line to a line; and what they are given, arguments and files. What is
-// printed is tested, not proved; it is proved that nothing is read past its end and that every call returns.
+// What the programs print on standard output: words with numbers in them, and bytes as decimals, a record or a relation's line to a line; and what they are given, arguments and
+// files. What is printed is tested, not proved; it is proved that nothing is read past its end and that every call returns.
 #![tactic(auto)]
 
-ghost use Rattle.std.specs.Prelude.{◌≡◌, min};
-ghost use Rattle.printing.specs.Places.{IsPrefixLen};
+ghost use Rattle.std.specs.Prelude.{◌≡◌, ◌/◌, length, take};
+ghost use Rattle.files.specs.Places.{record_len};
 
 pub mod input;
-mod parts;
 pub mod stdout;
 
-use crate::parts::{say_line, say_record};
-use crate::stdout::{Buffered, put};
+use crate::stdout::Buffered;
 use files::encode::LINE;
 use files::record::Record;
-use itoa::Buffer;
 
-pub fn say(stdout: &mut Buffered, words: &[u8]) {
-    for b in words {
-        put(stdout, *b);
-    }
+// Prints a format on a `Buffered`, as `print!` does on standard output, with no failure to pass on.
+#[macro_export]
+macro_rules! say {
+    ($stdout:expr, $($format:tt)*) => {
+        $stdout.say(format_args!($($format)*))
+    };
 }
 
-pub fn say_decimal(stdout: &mut Buffered, n: u64) {
-    let mut digits = Buffer::new();
-    say(stdout, digits.format(n).as_bytes());
+// A buffer of N bytes. Where a long array of zeros stands in a function, its proof counts the zeros.
+pub fn zeros<const N: usize>() -> [u8; N]
+    ensures { N ≡ length result }
+{
+    [0; N]
 }
 
-// A number after a space.
-pub fn say_number(stdout: &mut Buffered, n: u64) {
-    say(stdout, b" ");
-    say_decimal(stdout, n);
+// The first n bytes, or all that there are.
+pub fn first(bytes: &[u8], n: usize) -> &[u8]
+    ensures { result.now ≡ take n bytes.now }
+{
+    &bytes[..n.min(bytes.len())]
 }
 
-fn say_byte(stdout: &mut Buffered, b: u8) {
-    say_number(stdout, b as u64);
+// The bytes of a record.
+pub type Fields = [u8; Record::LEN];
+
+// The whole records of these bytes.
+pub fn records(bytes: &[u8]) -> &[Fields]
+    ensures { length result.now ≡ length bytes.now / record_len }
+{
+    let (records, _) = bytes.as_chunks();
+    records
 }
 
 // Bytes as decimals, in a line.
 pub fn say_bytes(stdout: &mut Buffered, bytes: &[u8]) {
     if let [first, others @ ..] = bytes {
-        say_decimal(stdout, *first as u64);
+        say!(stdout, "{first}");
         for b in others {
-            say_byte(stdout, *b);
+            say!(stdout, " {b}");
         }
     }
-    say(stdout, b"\n");
-}
-
-pub fn at_most(n: usize, all: usize) -> usize
-    ensures { result ≡ min n all }
-{
-    if n < all { n } else { all }
-}
-
-// Where so many bytes end, or all that there are.
-pub fn end_of(out: &[u8], bytes: usize) -> usize
-    ensures { IsPrefixLen result out.now }
-{
-    at_most(bytes, out.len())
+    say!(stdout, "\n");
 }
 
 // The first n records of what a call wrote, or all that there are.
 pub fn say_records(stdout: &mut Buffered, out: &[u8], n: usize) {
-    let end = at_most(n, out.len() / Record::LEN);
-    for i in 0..end {
-        say_record(stdout, out, i);
+    for record in records(out).iter().take(n) {
+        say_bytes(stdout, record);
     }
 }
 
 // The records of so many nodes and edges.
 pub fn say_graph(stdout: &mut Buffered, out: &[u8], nodes: usize, edges: usize) {
-    let all = out.len() / Record::LEN;
-    let first = at_most(nodes, all);
-    say_records(stdout, out, first + at_most(edges, all - first));
+    say_records(stdout, out, nodes.saturating_add(edges));
 }
 
 // The lines of a relation.
 pub fn say_lines(stdout: &mut Buffered, out: &[u8]) {
-    let end = out.len() / LINE;
-    for g in 0..end {
-        say_line(stdout, out, g);
+    let (lines, _) = out.as_chunks::<LINE>();
+    for line in lines {
+        say_bytes(stdout, line);
     }
 }

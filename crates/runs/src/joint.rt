@@ -24,7 +24,7 @@ use files::sides::lacks_entry;
 use files::view::GraphView;
 use judging::sizes::Sizes;
 
-// What became of a join: it stands at the start of `work`; it would be past the limits; or it is not asked for, since nothing can be loaded where one of the graphs stands.
+// What became of a join, three ways, so no Option or Result: it stands at the start of `work`; it would be past the limits; or it is not asked for, since nothing can be loaded where one of the graphs stands.
 #[derive(Clone, Copy)]
 pub enum Joint {
     Written,
@@ -74,13 +74,13 @@ pub(crate) fn watch_joint(
     store: &mut [u8],
     work: &[u8],
     s: Sizes,
-) -> Verdict
+) -> Result<Verdict, Refusal>
     requires { (JointReady s work.now rules.now joint) × (watch_room ≤ length store.old) }
     ensures { Answers (joint_outcome (joint_graph s work.now) (watch (decode_rules rules.now)) start (length out.old) joint) out.old out.new (watched_answer result) }
 {
     match joint {
-        Joint::TooLarge => Verdict::Refused(Refusal::whole(11)),
-        Joint::Barred => Verdict::Impossible,
+        Joint::TooLarge => Err(Refusal::whole(11)),
+        Joint::Barred => Ok(Verdict::Impossible),
         Joint::Written => {
             let whole = GraphView {
                 nodes: s.first.nodes + s.second.nodes,

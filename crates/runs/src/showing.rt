@@ -1,72 +1,59 @@
 // Showing: the record of a joined node, as six bytes of the file it came from. `show_within` gives the part, empty where it is refused; `show_refusal_within` says why.
 // `find_place` says both at once, for a caller that has the files at hand.
-ghost use Rattle.std.specs.Prelude.{◌≡◌, ◌+◌, ◌*◌, ◌≤◌, length};
+ghost use Rattle.std.specs.Prelude.{◌≡◌, ◌+◌, ◌*◌, ◌≤◌, IfOk, length};
 ghost use Rattle.files.specs.Outcome.{answer, written_of};
 ghost use Rattle.files.specs.Places.{record_len};
 ghost use Rattle.files.specs.Record.{part};
-ghost use Rattle.files.specs.Settling.{Settles, WherePassed};
+ghost use Rattle.files.specs.Settling.{Settles};
 ghost use Rattle.files.specs.View.{Views};
-ghost use Rattle.runs.specs.Showing.{shown, shown_answer, show_first, found_place, place_of, part_ptr, shown_at};
+ghost use Rattle.runs.specs.Showing.{shown, shown_answer, show_first, found_place, place_of, part_ptr};
 
-use crate::answers::Shown;
 use files::record::{Limits, Record};
 use files::refusal::Refusal;
-use files::settle::{Settled, then_graph};
-use files::view::ViewedBoth;
+use files::settle::accept_graph;
+use judging::sizes::Sizes;
 
-// Where the record of a number stands: its place in the first file or in the second, or why nowhere.
+// Where the record of a number stands: its place in the first file or in the second.
 #[derive(Clone, Copy)]
 pub enum Place {
     First(usize),
     Second(usize),
-    Refused(Refusal),
 }
 
 // The numbers of both files, in argument order.
-fn check_show(graph1: &[u8], graph2: &[u8], limits: Limits) -> ViewedBoth
-    ensures { (Settles (show_first limits graph1.now graph2.now) result.settled) × (WherePassed result.settled ((Views result.first graph1.now) × (Views result.second graph2.now))) }
+fn check_show(graph1: &[u8], graph2: &[u8], limits: Limits) -> Result<Sizes, Refusal>
+    ensures settles { Settles (show_first limits graph1.now graph2.now) result }
+    ensures views { IfOk result (λ s. (Views s.first graph1.now) × (Views s.second graph2.now)) }
 {
-    let none = Settled::Passed;
-    let drawn1 = then_graph(none, graph1, 1, limits);
-    let first = drawn1.settled;
-    let view1 = drawn1.view;
-    let drawn2 = then_graph(first, graph2, 2, limits);
-    let settled = drawn2.settled;
-    let view2 = drawn2.view;
-    ViewedBoth {
-        settled: settled,
-        first: view1,
-        second: view2,
-    }
+    let first = accept_graph(graph1, 1, limits)?;
+    let second = accept_graph(graph2, 2, limits)?;
+    Ok(Sizes { first, second })
 }
 
 // Where a number stands in two graphs of so many nodes, or 7.
-fn place_of(number: usize, nodes1: usize, nodes2: usize) -> Place
+fn place_of(number: usize, nodes1: usize, nodes2: usize) -> Result<Place, Refusal>
     ensures { result ≡ place_of number nodes1 nodes2 }
 {
     if number < nodes1 {
-        return Place::First(number);
+        return Ok(Place::First(number));
     }
     if number - nodes1 < nodes2 {
-        return Place::Second(number - nodes1);
+        return Ok(Place::Second(number - nodes1));
     }
-    Place::Refused(Refusal::whole(7))
+    Err(Refusal::whole(7))
 }
 
 // Both graphs' refusals, in argument order, then the place.
-pub fn find_place(graph1: &[u8], graph2: &[u8], number: usize, limits: Limits) -> Place
+pub fn find_place(
+    graph1: &[u8],
+    graph2: &[u8],
+    number: usize,
+    limits: Limits,
+) -> Result<Place, Refusal>
     ensures { result ≡ found_place limits graph1.now graph2.now number }
 {
-    let checked = check_show(graph1, graph2, limits);
-    let settled = checked.settled;
-    match settled {
-        Settled::Refused(refusal) => Place::Refused(refusal),
-        Settled::Passed => {
-            let view1 = checked.first;
-            let view2 = checked.second;
-            place_of(number, view1.nodes, view2.nodes)
-        }
-    }
+    let s = check_show(graph1, graph2, limits)?;
+    place_of(number, s.first.nodes, s.second.nodes)
 }
 
 // Record i of a file.
@@ -87,20 +74,9 @@ pub(crate) fn show_within<'a>(
     ensures { (result.now ≡ written_of (shown limits graph1.now graph2.now number)) × (result.ref_ptr ≡ part_ptr graph1.entry.ref_ptr graph2.entry.ref_ptr (found_place limits graph1.now graph2.now number)) }
 {
     match find_place(graph1, graph2, number, limits) {
-        Place::First(i) => record_at(graph1, i),
-        Place::Second(i) => record_at(graph2, i),
-        Place::Refused(_) => &graph2[..0],
-    }
-}
-
-// That a record is shown, or why none is.
-fn shown_at(place: Place) -> Shown
-    ensures { result ≡ shown_at place }
-{
-    match place {
-        Place::First(_) => Shown::Part,
-        Place::Second(_) => Shown::Part,
-        Place::Refused(refusal) => Shown::Refused(refusal),
+        Ok(Place::First(i)) => record_at(graph1, i),
+        Ok(Place::Second(i)) => record_at(graph2, i),
+        Err(_) => &graph2[..0],
     }
 }
 
@@ -110,8 +86,9 @@ pub(crate) fn show_refusal_within(
     graph2: &[u8],
     number: usize,
     limits: Limits,
-) -> Shown
+) -> Result<(), Refusal>
     ensures { shown_answer result ≡ answer (shown limits graph1.now graph2.now number) }
 {
-    shown_at(find_place(graph1, graph2, number, limits))
+    find_place(graph1, graph2, number, limits)?;
+    Ok(())
 }

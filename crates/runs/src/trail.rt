@@ -8,7 +8,7 @@ ghost use Rattle.runs.specs.Searching.{Traced};
 ghost use Rattle.runs.specs.Summary.Trails.{trail, trail_bytes};
 
 use crate::regions::Regions;
-use files::cells::{copy_at, get16};
+use files::cells::{copy_at, get};
 use files::record::Record;
 
 // How many records the trail has that ends at item i.
@@ -18,8 +18,9 @@ pub(crate) fn count_records(graph: &[u8], rules: &[u8], work: &[u8], start: u8, 
 {
     let mut at = i;
     let mut n = 0;
+    // A chain's links are read as they are walked; an iterator of our own with its laws would be no plainer than this line.
     while at > 0 {
-        at = get16(work, Regions::PARENTS, at) as usize;
+        at = get::<u16>(work, Regions::PARENTS, at) as usize;
         n += 1;
     }
     n
@@ -40,10 +41,11 @@ pub(crate) fn write_trail(
 {
     let mut at = i;
     let mut k = n;
+    // A chain's links are read as they are walked; an iterator of our own with its laws would be no plainer than this line.
     while at > 0 {
         k -= 1;
         let from = Record::LEN * at;
         copy_at(out, Record::LEN * k, &work[from..from + Record::LEN]);
-        at = get16(work, Regions::PARENTS, at) as usize;
+        at = get::<u16>(work, Regions::PARENTS, at) as usize;
     }
 }

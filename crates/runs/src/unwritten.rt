@@ -22,14 +22,13 @@ use crate::answers::Verdict;
 use crate::joint::{Joint, bars, join_into, watch_joint};
 use crate::regions::Regions;
 use files::cells::clear;
+use files::check::check;
 use files::offence::FileKind;
 use files::record::{Limits, Record};
-use files::settle::{
-    Settled, clear_after, then_apart, then_file, then_united, then_whole, whole_settled,
-};
+use files::refusal::Refusal;
+use files::settle::{check_apart, check_united, clear_after, refuse_if};
 use files::view::GraphView;
 use judging::sizes::Sizes;
-use maximal::answers::Modelled;
 use maximal::build::model_within;
 use maximal::places::Places;
 
@@ -41,7 +40,7 @@ fn model_behind(
     at: usize,
     work: &mut [u8],
     limits: Limits,
-) -> Modelled
+) -> Result<GraphView, Refusal>
     requires { (Bounded limits) × (at ≤ length store.old) }
     ensures { (take at store.new ≡ take at store.old) × (Does (modelled limits interface.now property.now (length (drop at store.old)) (length work.old)) (drop at store.old) work.old (drop at store.new) work.new (modelled_answer result)) }
 {
@@ -75,7 +74,7 @@ fn watch_stored(
     limits: Limits,
     barred: bool,
     s: Sizes,
-) -> Verdict
+) -> Result<Verdict, Refusal>
     requires { (Both s (take (record_len * (s.first.nodes + s.first.edges)) store.old) (take (record_len * (s.second.nodes + s.second.edges)) (drop (record_len * (s.first.nodes + s.first.edges)) store.old))) × ((RulesFile rules.now) × ((Strides limits) × ((both_store ≤ length store.old) × (model_room ≤ length work.old)))) }
     ensures { Answers (answered (from_joined limits barred (decode_graph (take (record_len * (s.first.nodes + s.first.edges)) store.old)) (decode_graph (take (record_len * (s.second.nodes + s.second.edges)) (drop (record_len * (s.first.nodes + s.first.edges)) store.old))) (watch (decode_rules rules.now)) start (length out.old)) (joined_verdict limits barred (decode_graph (take (record_len * (s.first.nodes + s.first.edges)) store.old)) (decode_graph (take (record_len * (s.second.nodes + s.second.edges)) (drop (record_len * (s.first.nodes + s.first.edges)) store.old))) (watch (decode_rules rules.now)) start (length out.old))) out.old out.new (watched_answer result) }
 {
@@ -95,26 +94,15 @@ fn watch_second(
     limits: Limits,
     barred: bool,
     first: GraphView,
-) -> Verdict
+) -> Result<Verdict, Refusal>
     requires { (Held first (take (record_len * (first.nodes + first.edges)) store.old)) × ((OtherSide limits interface.now property.now) × ((RulesFile rules.now) × (PairRoom limits store.old work.old))) }
     ensures { Answers (answered (compose_last limits barred (take (record_len * (first.nodes + first.edges)) store.old) interface.now property.now rules.now start (length out.old)) (compose_said barred (take (record_len * (first.nodes + first.edges)) store.old) interface.now property.now rules.now start)) out.old out.new (watched_answer result) }
 {
     let at = Record::LEN * (first.nodes + first.edges);
-    match model_behind(interface, property, store, at, work, limits) {
-        Modelled::Refused(refusal) => Verdict::Refused(refusal),
-        Modelled::Written(nodes, edges) => {
-            let second = GraphView {
-                nodes: nodes,
-                edges: edges,
-            };
-            let s = Sizes {
-                first: first,
-                second: second,
-            };
-            let lacking = bars(interface, store, at, second);
-            watch_stored(rules, start, out, store, work, limits, barred | lacking, s)
-        }
-    }
+    let second = model_behind(interface, property, store, at, work, limits)?;
+    let s = Sizes { first, second };
+    let lacking = bars(interface, store, at, second);
+    watch_stored(rules, start, out, store, work, limits, barred | lacking, s)
 }
 
 // The first side's model goes to `store`, or is refused by 11; then the rest.
@@ -129,23 +117,15 @@ fn watch_models(
     store: &mut [u8],
     work: &mut [u8],
     limits: Limits,
-) -> Verdict
+) -> Result<Verdict, Refusal>
     requires { (OtherSide limits interface1.now property1.now) × ((OtherSide limits interface2.now property2.now) × ((RulesFile rules.now) × (PairRoom limits store.old work.old))) }
     ensures { Answers (answered (both_last limits interface1.now property1.now interface2.now property2.now rules.now start (length out.old)) (both_said interface1.now property1.now interface2.now property2.now rules.now start)) out.old out.new (watched_answer result) }
 {
-    match model_within(interface1, property1, store, work, limits) {
-        Modelled::Refused(refusal) => Verdict::Refused(refusal),
-        Modelled::Written(nodes, edges) => {
-            let first = GraphView {
-                nodes: nodes,
-                edges: edges,
-            };
-            let barred = bars(interface1, store, 0, first);
-            watch_second(
-                interface2, property2, rules, start, out, store, work, limits, barred, first,
-            )
-        }
-    }
+    let first = model_within(interface1, property1, store, work, limits)?;
+    let barred = bars(interface1, store, 0, first);
+    watch_second(
+        interface2, property2, rules, start, out, store, work, limits, barred, first,
+    )
 }
 
 // The numbers that come before the models, in the published order.
@@ -159,18 +139,18 @@ fn check_both(
     store: usize,
     work: usize,
     limits: Limits,
-) -> Settled
+) -> Result<(), Refusal>
     ensures { Settles (both_first limits interface1.now property1.now interface2.now property2.now rules.now start store work) result }
 {
-    let room = whole_settled(13, (store < Regions::TWO_GRAPHS) | (work < Places::ROOM));
-    let sided1 = then_file(room, FileKind::Interface, interface1, 1, limits);
-    let bound1 = then_file(sided1, FileKind::Property, property1, 2, limits);
-    let sided2 = then_file(bound1, FileKind::Interface, interface2, 3, limits);
-    let bound2 = then_file(sided2, FileKind::Property, property2, 4, limits);
-    let ruled = then_file(bound2, FileKind::Rules, rules, 5, limits);
-    let started = then_whole(ruled, 3, !((1 <= start) & (start <= 8)));
-    let apart = then_apart(started, interface1, interface2);
-    then_united(apart, interface1, interface2, start)
+    refuse_if(13, (store < Regions::TWO_GRAPHS) | (work < Places::ROOM))?;
+    check(FileKind::Interface, interface1, 1, limits)?;
+    check(FileKind::Property, property1, 2, limits)?;
+    check(FileKind::Interface, interface2, 3, limits)?;
+    check(FileKind::Property, property2, 4, limits)?;
+    check(FileKind::Rules, rules, 5, limits)?;
+    refuse_if(3, !((1 <= start) & (start <= 8)))?;
+    check_apart(interface1, interface2)?;
+    check_united(interface1, interface2, start)
 }
 
 // Composes within limits that the buffers allow.
@@ -185,7 +165,7 @@ pub(crate) fn compose_both_within(
     store: &mut [u8],
     work: &mut [u8],
     limits: Limits,
-) -> Verdict
+) -> Result<Verdict, Refusal>
     requires { (Strides limits) × (Bounded limits) }
     ensures { DoesBoth (composed_both limits interface1.now property1.now interface2.now property2.now rules.now start (length out.old) (length store.old) (length work.old)) out.old store.old work.old out.new store.new work.new (watched_answer result) }
 {
@@ -201,12 +181,12 @@ pub(crate) fn compose_both_within(
         limits,
     );
     match settled {
-        Settled::Refused(refusal) => {
+        Err(refusal) => {
             clear_after(refusal, store);
             clear_after(refusal, work);
-            Verdict::Refused(refusal)
+            Err(refusal)
         }
-        Settled::Passed => {
+        Ok(()) => {
             let answer = watch_models(
                 interface1, property1, interface2, property2, rules, start, out, store, work,
                 limits,

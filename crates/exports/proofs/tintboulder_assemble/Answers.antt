@@ -5,4 +5,4 @@ use Rattle.exports.proofs.tintboulder_assemble.Goals as goal
 pub returns : goal.returns
 returns c =
     let j = c.assemble in
-    record { numbers_are = c.assembled_answer.ensures ∙ ap answer_numbers j.ensures.answer_is; out_is = j.ensures.out_is }
+    record { numbers_are = c.graph_answer.ensures ∙ ap answer_numbers j.ensures.answer_is; out_is = j.ensures.out_is }

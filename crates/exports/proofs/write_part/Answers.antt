@@ -1,4 +1,3 @@
-use mathlib.Core.Path.{refl}
 use native.Mathlib.Omega.{arith}
 use Rattle.runs.specs.Showing.{part_said}
 use Rattle.exports.proofs.ShowLaws.{short_given, result_given}
@@ -14,4 +13,4 @@ pub returns : goal.returns
 returns c =
     let a = c.args in
     let x = c.copy_at in
-    result_given a.out.now (part_said a.part.now) x.new.dst _ (omega (arith, c.if-out-part.false)) x.ensures refl
+    result_given a.out.now (part_said a.part.now) x.new.dst _ (omega (arith, c.if-out-part.false)) x.ensures c.verdict.ensures

@@ -1,5 +1,5 @@
 -- What the six numbers of showing mean at the C boundary, where the part goes to an output of its own and 12 is one more line of the call's row.
-use Rattle.std.specs.Prelude.{◌≡◌, refl, ◌↔◌, Bool, true, false, cond, List, [], ◌∷◌, ◌++◌, ℕ, ◌≤◌, leb, ltb, length, take, drop}
+use Rattle.std.specs.Prelude.{◌≡◌, refl, ◌↔◌, Bool, true, false, cond, List, [], ◌∷◌, ◌++◌, ℕ, ◌≤◌, leb, ltb, length, take, drop, Ok, Err}
 use Rattle.std.proofs.Common.{sym, ap, subst, ◌∙◌, lit<}
 use Rattle.std.proofs.Math.Option.{Option, none, some}
 use Rattle.files.specs.Basics.First.{whole}
@@ -11,11 +11,9 @@ use Rattle.files.specs.Outcome.Laws.{files_match, whole_match, out_match, refuse
 use Rattle.files.specs.Outcome.Meaning.{Decided, Refuses, Wrote, Heard, only_verdict, outcome_case, said_iff, refuses_by, wrote_by}
 use Rattle.files.specs.Refusal.{graph, refusal}
 use Rattle.files.specs.declared.refusal.Refusal.{Refusal}
-use Rattle.runs.specs.Showing.{shown_answer, show_size, show_said, show_lines, shown}
+use Rattle.runs.specs.Showing.{Shown, Part, shown_answer, show_size, show_said, show_lines, shown}
 use Rattle.runs.specs.Showing.Laws.{show_accepted, show_says, shown_is}
 use Rattle.runs.specs.Showing.Meaning.{PartShown, shown_of, shown_enum}
-use Rattle.runs.specs.declared.answers.Shown.{Shown}
-use Rattle.runs.specs.declared.answers.Shown.TheVariants.{Part, Refused}
 use Rattle.exports.specs.Boundary.{answer_numbers, GivesOut, fitting}
 use Rattle.exports.specs.declared.Answer.{Answer}
 use Rattle.exports.specs.Meaning.{as_answer}
@@ -28,8 +26,8 @@ shown_heard : Heard shown_numbers
 shown_heard = record { hear = λ a. shown_of (as_answer a); hears = back }
   where
     back : (c : Shown) → shown_of (as_answer (shown_numbers c)) ≡ c
-    back Part = refl
-    back (Refused x) = refl
+    back (Ok u) = refl
+    back (Err x) = refl
 
 module _ (g1 g2 : List ℕ) (number out : ℕ) where
   abbrev said : Said
@@ -96,7 +94,7 @@ module _ (g1 g2 : List ℕ) (number out : ℕ) where
 
 -- Verdict 1 is given exactly where nothing is refused, and then the first six bytes are the node's record.
 pub record ShowExported (g1 g2 : List ℕ) (number : ℕ) (out out' : List ℕ) (a : Answer) : Type 0 where
-  pub refuses : Refuses (λ x. shown_numbers (Refused x)) (exported_lines g1 g2 number (length out)) out out' a
+  pub refuses : Refuses (λ x. shown_numbers (Err x)) (exported_lines g1 g2 number (length out)) out out' a
   pub shown_iff : (a ≡ shown_numbers Part) ↔ NoneOf (exported_lines g1 g2 number (length out))
   pub writes : a ≡ shown_numbers Part → PartShown g1 g2 number (take 6 out')
   pub past_unchanged : a ≡ shown_numbers Part → drop 6 out' ≡ drop 6 out

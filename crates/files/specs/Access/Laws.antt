@@ -1,6 +1,6 @@
 -- Laws of accepted files: each record holds what the decoded value has at its place; the edges of a node are those from its first edge to the next node's.
 -- Assumes nothing.
-use Rattle.std.specs.Prelude.{◌≡◌, Bool, true, false, cond, ◌&&◌, List, ℕ, suc, ◌+◌, ◌-◌, ◌≤◌, ◌<◌, eqb, get_or, drop}
+use Rattle.std.specs.Prelude.{◌≡◌, refl, Bool, true, false, cond, ◌&&◌, List, ℕ, suc, ◌+◌, ◌-◌, ◌≤◌, ◌<◌, eqb, get_or, drop}
 use Rattle.std.proofs.Common.{sym, ap, ◌∙◌, inl, inr, add-one, arith, drop_of_length-le, drop-cons, eqb-true}
 use Rattle.std.proofs.Math.Decide.{dec_lt}
 use Rattle.std.proofs.Math.Dec.{T, not_T, ltb, ltb→lt, lt→ltb}
@@ -9,7 +9,7 @@ use Rattle.std.proofs.lemmas.Bool.{eqb-false}
 use Rattle.files.specs.Basics.Tables.{tally_le, tally_down, tally_is}
 use Rattle.files.specs.Basics.Lexical.{Before, all_ascend}
 use Rattle.files.specs.Graph.{Graph, node, no_edge}
-use Rattle.files.specs.Property.{row}
+use Rattle.files.specs.Property.{Row, always, never, returns, not_returns, in_method, not_in_method, both, either, box, box_all, row}
 use Rattle.files.specs.Rules.{Event, Rule, no_rule, same_event, by_rule}
 use Rattle.files.specs.Interface.{Interface}
 use Rattle.files.specs.Record.{record_at, count}
@@ -20,7 +20,7 @@ use Rattle.files.specs.Decode.Properties.{is_row, right, decoded_row}
 use Rattle.files.specs.Decode.RuleFiles.{decoded_count, decoded_rule}
 use Rattle.files.specs.Decode.Interfaces.{one_record, decoded_interface}
 use Rattle.files.specs.Decode.Values.{row_same, of_kind_three}
-use Rattle.files.specs.Access.{AcceptedAs, node_held, edge_held, row_held, rule_held, first_edge}
+use Rattle.files.specs.Access.{AcceptedAs, node_held, edge_held, row_held, row_by, rule_held, first_edge}
 use Rattle.files.specs.declared.record.Limits.{Limits}
 use Rattle.files.specs.declared.record.Record.{Record}
 use Rattle.files.specs.declared.property.PropertyRow.{PropertyRow}
@@ -43,11 +43,23 @@ module _ (l : List ℕ) (a : AcceptedAs graph l) where
       ∙ ap edge_held (sym (decoded_edge a.limits l a.accepted j k))
 
 pub reads_row : (l : List ℕ) → AcceptedAs property l → (i : ℕ) → i < count l → (r : Record) → r ≡ record_at l i
-    → record { operator = r.first; a = r.second; b = r.third } ≡ row_held (row (decode_property l) i)
-reads_row l a i h r e = ap row_read (e ∙ sym same)
+    → row_by r.first r.second r.third ≡ row_held (row (decode_property l) i)
+reads_row l a i h r e = ap row_read (e ∙ sym same) ∙ held (row (decode_property l) i)
   where
     row_read : Record → PropertyRow
-    row_read x = record { operator = x.first; a = x.second; b = x.third }
+    row_read x = row_by x.first x.second x.third
+
+    held : (x : Row) → row_read (row_rec x) ≡ row_held x
+    held always = refl
+    held never = refl
+    held returns = refl
+    held not_returns = refl
+    held (in_method a) = refl
+    held (not_in_method a) = refl
+    held (both a b) = refl
+    held (either a b) = refl
+    held (box l b) = refl
+    held (box_all a) = refl
 
     same : row_rec (row (decode_property l) i) ≡ record_at l i
     same =

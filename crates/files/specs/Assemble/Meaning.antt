@@ -1,9 +1,9 @@
 -- What a returned value of assembling means, and what becomes of it where a delivery is appended. The only hypothesis is what the contract of `assemble` states.
-use Rattle.std.specs.Prelude.{◌≡◌, refl, ◌↔◌, cond, List, [], ◌∷◌, ◌++◌, ℕ, ◌+◌, ◌*◌, ◌≤◌, ◌<◌, eqb, length, get_or, take, drop}
+use Rattle.std.specs.Prelude.{◌≡◌, refl, ◌↔◌, Ok, Err, cond, List, [], ◌∷◌, ◌++◌, ℕ, ◌+◌, ◌*◌, ◌≤◌, ◌<◌, eqb, length, get_or, take, drop}
 use Rattle.std.proofs.Common.{sym, ap, ap₂, subst, ◌∙◌}
 use Rattle.std.proofs.Math.Option.{none}
 use Rattle.std.proofs.Math.Dec.{lit<}
-use Rattle.files.specs.Assemble.{standing_graph, Taken, assemble_said, assemble_checks, assemble_lines, assembled_outcome, assembled_answer}
+use Rattle.files.specs.Assemble.{standing_graph, Taken, assemble_said, assemble_checks, assemble_lines, assembled_outcome, Assembled, assembled_answer}
 use Rattle.files.specs.Assemble.Laws.{assemble_refused, assemble_accepted, assemble_says, appended}
 use Rattle.files.specs.Basics.Permuted.{Permuted}
 use Rattle.files.specs.Decode.{decode_graph, graph_bytes}
@@ -12,24 +12,22 @@ use Rattle.files.specs.Deliveries.{Delivery, decode_deliveries, deliveries_bytes
 use Rattle.files.specs.Deliveries.Blocks.{body_of}
 use Rattle.files.specs.Deliveries.Written.{Opened}
 use Rattle.files.specs.Graph.{Graph, size, node}
-use Rattle.files.specs.Outcome.{Said, Outcome, Answer, Answers, answer, out_after, refusal_at, NoneOf, Lines}
+use Rattle.files.specs.Outcome.{Written, Said, Outcome, Answer, Answers, answer, out_after, refusal_at, NoneOf, Lines}
 use Rattle.files.specs.Outcome.Meaning.{Decided, Refuses, Wrote, Enum, Heard, itself, heard_itself, only_verdict, outcome_case, said_iff, refuses_by, wrote_by}
 use Rattle.files.specs.Places.{record_len}
 use Rattle.files.specs.Refusal.{graph, refusal}
-use Rattle.files.specs.declared.answers.Assembled.{Assembled}
-use Rattle.files.specs.declared.answers.Assembled.TheVariants.{Written, Refused}
 use Rattle.files.specs.declared.record.Limits.{Limits}
 
 -- the case of a number and its values
 abbrev pub assembled_of : Answer → Assembled
-assembled_of a = cond (eqb a.verdict 1) (Written (get_or a.values 0 0) (get_or a.values 1 0)) (Refused (refusal_at a.number (get_or a.values 0 0) (get_or a.values 1 0)))
+assembled_of a = cond (eqb a.verdict 1) (Written (get_or a.values 0 0) (get_or a.values 1 0)) (Err (refusal_at a.number (get_or a.values 0 0) (get_or a.values 1 0)))
 
 pub assembled_back : (r : Assembled) → assembled_of (assembled_answer r) ≡ r
-assembled_back (Written n e) = refl
-assembled_back (Refused x) = refl
+assembled_back (Ok v) = refl
+assembled_back (Err x) = refl
 
 abbrev pub assembled_enum : Enum Assembled
-assembled_enum = record { code = assembled_answer; back = assembled_of; back_code = assembled_back; refused = Refused; code_refused = λ x. refl }
+assembled_enum = record { code = assembled_answer; back = assembled_of; back_code = assembled_back; refused = λ x. Err x; code_refused = λ x. refl }
 
 -- what bytes of n nodes and e edges are: a graph file whose methods ascend, and in which the part of each method is the delivery that stands for it, or nothing
 pub record WrittenStanding (L : Limits) (ds : List Delivery) (n e : ℕ) (bytes : List ℕ) : Type 0 where
@@ -42,7 +40,7 @@ pub record WrittenStanding (L : Limits) (ds : List Delivery) (n e : ℕ) (bytes 
 -- `Written` is returned exactly where nothing is refused, and then the first 6 (n + e) bytes are the standing graph's file. `tell` is how a case is returned: as itself, or in
 -- numbers.
 pub record AssembleMeans {R : Type 0} (tell : Assembled → R) (L : Limits) (l out out' : List ℕ) (r : R) : Type 0 where
-  pub refuses : Refuses (λ x. tell (Refused x)) (assemble_lines L l (length out)) out out' r
+  pub refuses : Refuses (λ x. tell (Err x)) (assemble_lines L l (length out)) out out' r
   pub written_iff : ((n : ℕ) × (e : ℕ) × (r ≡ tell (Written n e))) ↔ NoneOf (assemble_lines L l (length out))
   pub writes : (n e : ℕ) → r ≡ tell (Written n e) → WrittenStanding L (decode_deliveries l) n e (take (record_len * (n + e)) out')
   pub past_unchanged : (n e : ℕ) → r ≡ tell (Written n e) → drop (record_len * (n + e)) out' ≡ drop (record_len * (n + e)) out

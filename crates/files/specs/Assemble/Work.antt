@@ -5,12 +5,11 @@ use Rattle.files.specs.Assemble.{standing_graph, assemble_first, DeliveriesFile,
 use Rattle.files.specs.Deliveries.{decode_deliveries, repeated, Repeated}
 use Rattle.files.specs.Deliveries.Repeats.{says_repeated}
 use Rattle.files.specs.Graph.{size}
-use Rattle.files.specs.Outcome.{answered, whole_check}
+use Rattle.files.specs.Outcome.{answered, whole_check, Passed}
 use Rattle.files.specs.Places.{max_edges, max_nodes}
 use Rattle.files.specs.Settling.{Settles}
 use Rattle.files.specs.Settling.Laws.{delivery_known, whole_known}
 use Rattle.files.specs.declared.record.Limits.{Limits}
-use Rattle.files.specs.declared.settle.Settled.TheVariants.{Passed}
 use Rattle.files.specs.declared.view.GraphView.{GraphView}
 
 pub assembled_outcome_is : (L : Limits) (l : List ℕ) (out : ℕ) → assembled_outcome L l out ≡ answered (assemble_first L l (from_standing L l out)) (assemble_said L l out)

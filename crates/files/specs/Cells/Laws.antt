@@ -203,44 +203,77 @@ at_outside l p xs q (inr h) k =
 
 -- ---- the definitions as the code writes them
 
-pub cell_one : (l : List ℕ) (base i : ℕ) → cell l base 1 i ≡ get_or l (base + i) 0
-unfolding cell little
-cell_one l base i = omega (arith, ap (λ (n : ℕ). get_or l (base + n) 0) (one-mul i))
+-- a cell is the number of its bytes, from where it stands on
+pub cell_little : (l : List ℕ) (base w i : ℕ) → cell l base w i ≡ little l (base + w * i) w
+unfolding cell
+cell_little l base w i = refl
 
-pub cell_two : (l : List ℕ) (base i : ℕ) → cell l base 2 i ≡ get_or l (base + 2 * i) 0 + byte_end * get_or l (base + 2 * i + 1) 0
-unfolding cell little
-cell_two l base i = omega (arith, ap (λ (n : ℕ). get_or l n 0) (add-one (base + 2 * i)))
+pub put_cell_little : (l : List ℕ) (base w i v : ℕ) → put_cell l base w i v ≡ put_little l (base + w * i) w v
+unfolding put_cell
+put_cell_little l base w i v = refl
 
-pub cell_four : (l : List ℕ) (base i : ℕ)
-    → cell l base 4 i
-    ≡ get_or l (base + 4 * i) 0 + byte_end * get_or l (base + 4 * i + 1) 0 + two_bytes_end * get_or l (base + 4 * i + 2) 0 + three_bytes_end * get_or l (base + 4 * i + 3) 0
-unfolding cell little
-cell_four l base i =
-    let p : ℕ = base + 4 * i in
+pub little_one : (l : List ℕ) (p : ℕ) → little l p 1 ≡ get_or l p 0
+unfolding little
+little_one l p = omega arith
+
+pub little_two : (l : List ℕ) (p : ℕ) → little l p 2 ≡ get_or l p 0 + byte_end * get_or l (p + 1) 0
+unfolding little
+little_two l p = omega (arith, ap (λ (n : ℕ). get_or l n 0) (add-one p))
+
+pub little_four : (l : List ℕ) (p : ℕ)
+    → little l p 4 ≡ get_or l p 0 + byte_end * get_or l (p + 1) 0 + two_bytes_end * get_or l (p + 2) 0 + three_bytes_end * get_or l (p + 3) 0
+unfolding little
+little_four l p =
     let two : p + 2 ≡ suc (suc p) = omega arith in
     let three : p + 3 ≡ suc (suc (suc p)) = omega arith in
     let at : ℕ → ℕ = λ n. get_or l n 0 in
     omega (arith, ap at (add-one p), ap at two, ap at three)
 
-pub put_cell_one : (l : List ℕ) (base i v : ℕ) → v < 256 → put_cell l base 1 i v ≡ set l (base + i) v
-unfolding put_cell put_little
-put_cell_one l base i v h = ap₂ (λ (n x : ℕ). set l (base + n) x) (one-mul i) (mod-eq_of_lt h)
+pub put_little_one : (l : List ℕ) (p v : ℕ) → v < 256 → put_little l p 1 v ≡ set l p v
+unfolding put_little
+put_little_one l p v h = ap (set l p) (mod-eq_of_lt h)
 
-pub put_cell_two : (l : List ℕ) (base i v : ℕ) → put_cell l base 2 i v ≡ set (set l (base + 2 * i) (v % byte_end)) (base + 2 * i + 1) (v / byte_end % byte_end)
-unfolding put_cell put_little
-put_cell_two l base i v = rw add-one
+pub put_little_two : (l : List ℕ) (p v : ℕ) → put_little l p 2 v ≡ set (set l p (v % byte_end)) (p + 1) (v / byte_end % byte_end)
+unfolding put_little
+put_little_two l p v = rw add-one
 
-pub put_cell_four : (l : List ℕ) (base i v : ℕ)
-    → put_cell l base 4 i v
-    ≡ set (set (set (set l (base + 4 * i) (v % byte_end)) (base + 4 * i + 1) (v / byte_end % byte_end)) (base + 4 * i + 2) (v / two_bytes_end % byte_end)) (base + 4 * i + 3) (v / three_bytes_end % byte_end)
-unfolding put_cell put_little
-put_cell_four l base i v =
-    let p : ℕ = base + 4 * i in
+pub put_little_four : (l : List ℕ) (p v : ℕ)
+    → put_little l p 4 v ≡ set (set (set (set l p (v % byte_end)) (p + 1) (v / byte_end % byte_end)) (p + 2) (v / two_bytes_end % byte_end)) (p + 3) (v / three_bytes_end % byte_end)
+unfolding put_little
+put_little_four l p v =
     let two : p + 2 ≡ suc (suc p) = omega arith in
     let three : p + 3 ≡ suc (suc (suc p)) = omega arith in
     let a : v / two_bytes_end ≡ v / byte_end / byte_end = omega arith in
     let b : v / three_bytes_end ≡ v / byte_end / byte_end / byte_end = omega arith in
     rw (add-one, two, three, a, b)
+
+pub cell_one : (l : List ℕ) (base i : ℕ) → cell l base 1 i ≡ get_or l (base + i) 0
+unfolding cell
+cell_one l base i = little_one l (base + 1 * i) ∙ ap (λ (n : ℕ). get_or l (base + n) 0) (one-mul i)
+
+pub cell_two : (l : List ℕ) (base i : ℕ) → cell l base 2 i ≡ get_or l (base + 2 * i) 0 + byte_end * get_or l (base + 2 * i + 1) 0
+unfolding cell
+cell_two l base i = little_two l (base + 2 * i)
+
+pub cell_four : (l : List ℕ) (base i : ℕ)
+    → cell l base 4 i
+    ≡ get_or l (base + 4 * i) 0 + byte_end * get_or l (base + 4 * i + 1) 0 + two_bytes_end * get_or l (base + 4 * i + 2) 0 + three_bytes_end * get_or l (base + 4 * i + 3) 0
+unfolding cell
+cell_four l base i = little_four l (base + 4 * i)
+
+pub put_cell_one : (l : List ℕ) (base i v : ℕ) → v < 256 → put_cell l base 1 i v ≡ set l (base + i) v
+unfolding put_cell
+put_cell_one l base i v h = put_little_one l (base + 1 * i) v h ∙ ap (λ (n : ℕ). set l (base + n) v) (one-mul i)
+
+pub put_cell_two : (l : List ℕ) (base i v : ℕ) → put_cell l base 2 i v ≡ set (set l (base + 2 * i) (v % byte_end)) (base + 2 * i + 1) (v / byte_end % byte_end)
+unfolding put_cell
+put_cell_two l base i v = put_little_two l (base + 2 * i) v
+
+pub put_cell_four : (l : List ℕ) (base i v : ℕ)
+    → put_cell l base 4 i v
+    ≡ set (set (set (set l (base + 4 * i) (v % byte_end)) (base + 4 * i + 1) (v / byte_end % byte_end)) (base + 4 * i + 2) (v / two_bytes_end % byte_end)) (base + 4 * i + 3) (v / three_bytes_end % byte_end)
+unfolding put_cell
+put_cell_four l base i v = put_little_four l (base + 4 * i) v
 
 pub has_bit_is : (l : List ℕ) (base h : ℕ) → has_bit l base h ≡ eqb (get_or l (base + h / 8) 0 / 2 ^ (h % 8) % 2) 1
 unfolding has_bit

@@ -1,5 +1,5 @@
 -- The steps that the code takes come to the file's refusal; each step's equation; what an accepted file answers. Assumes nothing.
-use Rattle.std.specs.Prelude.{◌≡◌, Bool, true, false, not, cond, eqb, length}
+use Rattle.std.specs.Prelude.{◌≡◌, Bool, true, false, not, cond, eqb, length, Ok, Err}
 use Rattle.std.proofs.Math.Path.{refl, ap, subst}
 use Rattle.std.proofs.Common.{sym, ◌∙◌, zero-add, arith, lt-ltb, le-ltb}
 use mathlib.Core.List.{List, [], ◌∷◌}
@@ -9,19 +9,15 @@ use Rattle.files.specs.Basics.First.{first_where, or_else, whole, pick}
 use Rattle.files.specs.Basics.Tables.{tally}
 use Rattle.files.specs.Checking.{nodes_in, checked_by, checked, test, found_at, lower, lowest, Sound, unless, counts, counted, over, from_one, from_two, from_five, from_seven}
 use Rattle.files.specs.Checking.Reads.{five_agrees}
-use Rattle.files.specs.Outcome.{refusal_at}
+use Rattle.files.specs.Outcome.{refusal_at, Accepted, Checked, Passed, Settled}
 use Rattle.files.specs.Record.{record_at, count, wrong}
 use Rattle.files.specs.Refusal.{Kind, misplaced, disordered, passed, missing, past, crossing, findings, refusal}
 use Rattle.files.specs.Refusal.Laws.{refusal_is, findings_are}
-use Rattle.files.specs.declared.check.Checked.{Checked}
-use Rattle.files.specs.declared.check.Checked.TheVariants.{Accepted, Refused}
-use Rattle.files.specs.declared.offence.Found.{Found}
-use Rattle.files.specs.declared.offence.Found.TheVariants.{Nothing, At}
 use Rattle.files.specs.declared.record.Limits.{Limits}
 
 -- ---- the equation of each step
 
-pub from_one_is : (L : Limits) (k : Kind) (l : List ℕ) (position : ℕ) → from_one L k l position ≡ cond (not (eqb (length l % 6) 0)) (Refused (refusal_at 1 position 0)) (from_two L k l 0 position)
+pub from_one_is : (L : Limits) (k : Kind) (l : List ℕ) (position : ℕ) → from_one L k l position ≡ cond (not (eqb (length l % 6) 0)) (Err (refusal_at 1 position 0)) (from_two L k l 0 position)
 unfolding from_one
 from_one_is L k l position = refl
 
@@ -31,7 +27,7 @@ unfolding from_two
 from_two_is L k l first position = refl
 
 pub from_five_is : (L : Limits) (k : Kind) (l : List ℕ) (first position : ℕ)
-    → from_five L k l first position ≡ cond (over L k l) (Refused (refusal_at 5 position 0)) (cond (missing k l) (Refused (refusal_at 6 position 0)) (from_seven k l first position))
+    → from_five L k l first position ≡ cond (over L k l) (Err (refusal_at 5 position 0)) (cond (missing k l) (Err (refusal_at 6 position 0)) (from_seven k l first position))
 unfolding from_five
 from_five_is L k l first position = refl
 
@@ -43,28 +39,28 @@ from_seven_is k l first position = refl
 -- three numbers from 2 on, and two from 7 on, of any test
 pub found_of_three : (t : ℕ → ℕ → Bool) (first position i : ℕ)
     → found_at 3 2 t first position i
-    ≡ cond (t 2 i) (At (refusal_at 2 position (first + i))) (cond (t 3 i) (At (refusal_at 3 position (first + i))) (cond (t 4 i) (At (refusal_at 4 position (first + i))) Nothing))
+    ≡ cond (t 2 i) (Err (refusal_at 2 position (first + i))) (cond (t 3 i) (Err (refusal_at 3 position (first + i))) (cond (t 4 i) (Err (refusal_at 4 position (first + i))) Passed))
 unfolding found_at
 found_of_three t first position i = refl
 
 pub found_of_two : (t : ℕ → ℕ → Bool) (first position i : ℕ)
-    → found_at 2 7 t first position i ≡ cond (t 7 i) (At (refusal_at 7 position (first + i))) (cond (t 8 i) (At (refusal_at 8 position (first + i))) Nothing)
+    → found_at 2 7 t first position i ≡ cond (t 7 i) (Err (refusal_at 7 position (first + i))) (cond (t 8 i) (Err (refusal_at 8 position (first + i))) Passed)
 unfolding found_at
 found_of_two t first position i = refl
 
 pub looked_is : (k : Kind) (l : List ℕ) (first position i : ℕ)
     → found_at 3 2 (test k l) first position i
-    ≡ cond (misplaced k l i) (At (refusal_at 2 position (first + i)))
-    (cond (wrong (record_at l i)) (At (refusal_at 3 position (first + i))) (cond (disordered k l i) (At (refusal_at 4 position (first + i))) Nothing))
+    ≡ cond (misplaced k l i) (Err (refusal_at 2 position (first + i)))
+    (cond (wrong (record_at l i)) (Err (refusal_at 3 position (first + i))) (cond (disordered k l i) (Err (refusal_at 4 position (first + i))) Passed))
 unfolding test
 looked_is k l first position i = found_of_three (test k l) first position i
 
 pub named_is : (k : Kind) (l : List ℕ) (first position i : ℕ)
-    → found_at 2 7 (test k l) first position i ≡ cond (past k l i) (At (refusal_at 7 position (first + i))) (cond (crossing k l i) (At (refusal_at 8 position (first + i))) Nothing)
+    → found_at 2 7 (test k l) first position i ≡ cond (past k l i) (Err (refusal_at 7 position (first + i))) (cond (crossing k l i) (Err (refusal_at 8 position (first + i))) Passed)
 unfolding test
 named_is k l first position i = found_of_two (test k l) first position i
 
-pub lowest_none : (many n : ℕ) (t : ℕ → ℕ → Bool) (first position : ℕ) → lowest many n t first position 0 ≡ Nothing
+pub lowest_none : (many n : ℕ) (t : ℕ → ℕ → Bool) (first position : ℕ) → lowest many n t first position 0 ≡ Passed
 unfolding lowest
 lowest_none many n t first position = refl
 
@@ -88,55 +84,63 @@ pub accepted_counts : (L : Limits) (k : Kind) (l : List ℕ) (position n c : ℕ
 unfolding checked
 accepted_counts L k l position n c e = go (refusal L k l) e
   where
+    nodes_told : Checked → ℕ
+    nodes_told (Ok x) = x.nodes
+    nodes_told (Err r) = 0
+
+    records_told : Checked → ℕ
+    records_told (Ok x) = x.records
+    records_told (Err r) = 0
+
     go : (o : Option (ℕ × ℕ)) → checked_by k l position o ≡ Accepted n c → (o ≡ none) × (n ≡ nodes_in k l) × (c ≡ count l)
-    go none q = (refl, cc, cc)
+    go none q = (refl, sym (ap nodes_told q), sym (ap records_told q))
     go (some x) q = let z : ◌≡◌ {A = ℕ} 0 1 = cc in absurd (omega arith)
 
 -- ---- the lowest of several numbers is the first of them that finds a record, there
 
 -- what a number finds first, or what the rest finds
-abbrev pub found_first : ℕ → ℕ → ℕ → Option ℕ → Found → Found
+abbrev pub found_first : ℕ → ℕ → ℕ → Option ℕ → Settled → Settled
 found_first n first position none rest = rest
-found_first n first position (some i) rest = At (refusal_at n position (first + i))
+found_first n first position (some i) rest = Err (refusal_at n position (first + i))
 
 -- nothing, or a number from n on
-abbrev AtLeast : ℕ → Found → Type 0
-AtLeast n Nothing = Unit {0}
-AtLeast n (At r) = n ≤ r.number
+abbrev AtLeast : ℕ → Settled → Type 0
+AtLeast n (Ok u) = Unit {0}
+AtLeast n (Err r) = n ≤ r.number
 
-least_less : (n : ℕ) (x : Found) → AtLeast (suc n) x → AtLeast n x
-least_less n Nothing a = tt
-least_less n (At r) a = omega (arith, a)
+least_less : (n : ℕ) (x : Settled) → AtLeast (suc n) x → AtLeast n x
+least_less n (Ok u) a = tt
+least_less n (Err r) a = omega (arith, a)
 
 -- the lower number stays, whichever comes first
-keeps_first : (n position i : ℕ) (y : Found) → AtLeast n y → lower (At (refusal_at n position i)) y ≡ At (refusal_at n position i)
-keeps_first n position i Nothing a = refl
-keeps_first n position i (At s) a = rw (le-ltb s.number n a) refl
+keeps_first : (n position i : ℕ) (y : Settled) → AtLeast n y → lower (Err (refusal_at n position i)) y ≡ Err (refusal_at n position i)
+keeps_first n position i (Ok u) a = refl
+keeps_first n position i (Err s) a = rw (le-ltb s.number n a) refl
 
-takes_later : (n position i : ℕ) (x : Found) → AtLeast (suc n) x → lower x (At (refusal_at n position i)) ≡ At (refusal_at n position i)
-takes_later n position i Nothing a = refl
-takes_later n position i (At r) a = rw (lt-ltb n r.number a) refl
+takes_later : (n position i : ℕ) (x : Settled) → AtLeast (suc n) x → lower x (Err (refusal_at n position i)) ≡ Err (refusal_at n position i)
+takes_later n position i (Ok u) a = refl
+takes_later n position i (Err r) a = rw (lt-ltb n r.number a) refl
 
-found_first_least : (n first position : ℕ) (m : Option ℕ) (rest : Found) → AtLeast (suc n) rest → AtLeast n (found_first n first position m rest)
+found_first_least : (n first position : ℕ) (m : Option ℕ) (rest : Settled) → AtLeast (suc n) rest → AtLeast n (found_first n first position m rest)
 found_first_least n first position none rest a = least_less n rest a
 found_first_least n first position (some i) rest a = omega arith
 
-cond_least : (n : ℕ) (b : Bool) (position i : ℕ) (rest : Found) → AtLeast (suc n) rest → AtLeast n (cond b (At (refusal_at n position i)) rest)
+cond_least : (n : ℕ) (b : Bool) (position i : ℕ) (rest : Settled) → AtLeast (suc n) rest → AtLeast n (cond b (Err (refusal_at n position i)) rest)
 cond_least n true position i rest a = omega arith
 cond_least n false position i rest a = least_less n rest a
 
 -- number n finds a record before N, or at N, or the later numbers have their say: x with N, y before it, z at it
-first_or_later : (n first position N : ℕ) (m : Option ℕ) (b : Bool) (x y z : Found) → AtLeast (suc n) y → AtLeast (suc n) z → x ≡ lower y z
-    → found_first n first position (or_else m b N) x ≡ lower (found_first n first position m y) (cond b (At (refusal_at n position (first + N))) z)
-first_or_later n first position N (some i) true x y z a c e = sym (keeps_first n position (first + i) (At (refusal_at n position (first + N))) (omega arith))
+first_or_later : (n first position N : ℕ) (m : Option ℕ) (b : Bool) (x y z : Settled) → AtLeast (suc n) y → AtLeast (suc n) z → x ≡ lower y z
+    → found_first n first position (or_else m b N) x ≡ lower (found_first n first position m y) (cond b (Err (refusal_at n position (first + N))) z)
+first_or_later n first position N (some i) true x y z a c e = sym (keeps_first n position (first + i) (Err (refusal_at n position (first + N))) (omega arith))
 first_or_later n first position N (some i) false x y z a c e = sym (keeps_first n position (first + i) z (least_less n z c))
 first_or_later n first position N none true x y z a c e = sym (takes_later n position (first + N) y a)
 first_or_later n first position N none false x y z a c e = e
 
 module _ (t : ℕ → ℕ → Bool) (first position : ℕ) where
   -- of `many` numbers from n on, the first that finds one of N records, there
-  scanned : ℕ → ℕ → ℕ → Found
-  scanned zero n N = Nothing
+  scanned : ℕ → ℕ → ℕ → Settled
+  scanned zero n N = Passed
   scanned (suc many) n N = found_first n first position (first_where (t n) N) (scanned many (suc n) N)
 
   scanned_least : (many n N : ℕ) → AtLeast n (scanned many n N)
@@ -156,7 +160,7 @@ module _ (t : ℕ → ℕ → Bool) (first position : ℕ) where
       first_or_later n first position N (first_where (t n) N) (t n N) (scanned many (suc n) (suc N)) (scanned many (suc n) N)
       (found_at many (suc n) t first position N) (scanned_least many (suc n) N) (found_least many (suc n) N) (scanned_step many (suc n) N)
 
-  nothing_scanned : (many n : ℕ) → scanned many n 0 ≡ Nothing
+  nothing_scanned : (many n : ℕ) → scanned many n 0 ≡ Passed
   unfolding scanned
   nothing_scanned zero n = refl
   nothing_scanned (suc many) n = nothing_scanned many (suc n)
@@ -165,35 +169,35 @@ module _ (t : ℕ → ℕ → Bool) (first position : ℕ) where
   lowest_scanned many n zero = lowest_none many n t first position ∙ sym (nothing_scanned many n)
   lowest_scanned many n (suc N) =
       lowest_more many n t first position N
-      ∙ ap (λ (x : Found). lower x (found_at many n t first position N)) (lowest_scanned many n N)
+      ∙ ap (λ (x : Settled). lower x (found_at many n t first position N)) (lowest_scanned many n N)
       ∙ sym (scanned_step many n N)
 
   -- of 2 to 4, and of 7 and 8
   pub lowest_of_three : (N : ℕ) → lowest 3 2 t first position N
-      ≡ found_first 2 first position (first_where (t 2) N) (found_first 3 first position (first_where (t 3) N) (found_first 4 first position (first_where (t 4) N) Nothing))
+      ≡ found_first 2 first position (first_where (t 2) N) (found_first 3 first position (first_where (t 3) N) (found_first 4 first position (first_where (t 4) N) Passed))
   unfolding scanned
   lowest_of_three N = lowest_scanned 3 2 N
 
   pub lowest_of_two : (N : ℕ) → lowest 2 7 t first position N
-      ≡ found_first 7 first position (first_where (t 7) N) (found_first 8 first position (first_where (t 8) N) Nothing)
+      ≡ found_first 7 first position (first_where (t 7) N) (found_first 8 first position (first_where (t 8) N) Passed)
   unfolding scanned
   lowest_of_two N = lowest_scanned 2 7 N
 
 module _ (k : Kind) (l : List ℕ) (first position : ℕ) where
   -- where 2 to 4 find nothing, neither 2 nor 3 does
-  pub unfound_sound : lowest 3 2 (test k l) first position (count l) ≡ Nothing → Sound k l
+  pub unfound_sound : lowest 3 2 (test k l) first position (count l) ≡ Passed → Sound k l
   unfolding test
   unfound_sound e = go (first_where (misplaced k l) (count l)) (first_where (λ i. wrong (record_at l i)) (count l)) refl refl (sym (lowest_of_three (test k l) first position (count l)) ∙ e)
     where
-      no_find : (n i : ℕ) → At (refusal_at n position (first + i)) ≡ Nothing → ⊥
+      no_find : (n i : ℕ) → Err (refusal_at n position (first + i)) ≡ Passed → ⊥
       no_find n i q = subst is_found q tt
         where
-          is_found : Found → Type 0
-          is_found Nothing = ⊥
-          is_found (At r) = Unit {0}
+          is_found : Settled → Type 0
+          is_found (Ok u) = ⊥
+          is_found (Err r) = Unit {0}
 
       go : (a b : Option ℕ) → first_where (misplaced k l) (count l) ≡ a → first_where (λ i. wrong (record_at l i)) (count l) ≡ b
-          → found_first 2 first position a (found_first 3 first position b (found_first 4 first position (first_where (disordered k l) (count l)) Nothing)) ≡ Nothing → Sound k l
+          → found_first 2 first position a (found_first 3 first position b (found_first 4 first position (first_where (disordered k l) (count l)) Passed)) ≡ Passed → Sound k l
       go (some i) b d f q = absurd (no_find 2 i q)
       go none (some i) d f q = absurd (no_find 3 i q)
       go none none d f q = record { none_misplaced = d; none_wrong = f }
@@ -216,19 +220,19 @@ from_fourth L k l = first_where (disordered k l) (count l) ∷ from_fifth L k l
 -- what is answered by a file's refusal, where an accepted file is answered so
 abbrev pub answered_by : Checked → ℕ → Option (ℕ × ℕ) → Checked
 answered_by a position none = a
-answered_by a position (some x) = Refused (refusal_at x.0 position x.1)
+answered_by a position (some x) = Err (refusal_at x.0 position x.1)
 
 module _ (a : Checked) (position n : ℕ) (ms : List (Option ℕ)) (rest : Checked) where
   -- a step of the whole file, and one that looks at each record
   pub whole_step : (b : Bool) → (b ≡ false → rest ≡ answered_by a position (pick (suc n) ms))
-      → cond b (Refused (refusal_at n position 0)) rest ≡ answered_by a position (pick n (whole b ∷ ms))
+      → cond b (Err (refusal_at n position 0)) rest ≡ answered_by a position (pick n (whole b ∷ ms))
   whole_step true f = refl
   whole_step false f = f refl
 
-  pub scan_step : (x : Found) (m : Option ℕ) → (m ≡ none → unless x rest ≡ answered_by a position (pick (suc n) ms))
+  pub scan_step : (x : Settled) (m : Option ℕ) → (m ≡ none → unless x rest ≡ answered_by a position (pick (suc n) ms))
       → unless (found_first n 0 position m x) rest ≡ answered_by a position (pick n (m ∷ ms))
   scan_step x none f = f refl
-  scan_step x (some i) f = ap (λ (j : ℕ). Refused (refusal_at n position j)) (zero-add i)
+  scan_step x (some i) f = ap (λ (j : ℕ). Err (refusal_at n position j)) (zero-add i)
 
 pub by_same : (k : Kind) (l : List ℕ) (position : ℕ) (o : Option (ℕ × ℕ)) → answered_by (Accepted (nodes_in k l) (count l)) position o ≡ checked_by k l position o
 by_same k l position none = refl
@@ -246,18 +250,18 @@ module _ (k : Kind) (l : List ℕ) (position : ℕ) where
   unfolding test
   seven_on =
       from_seven_is k l 0 position
-      ∙ ap (λ (x : Found). unless x accepted) (lowest_of_two (test k l) 0 position (count l))
-      ∙ scan_step accepted position 7 (from_eighth k l) accepted (found_first 8 0 position (first_where (crossing k l) (count l)) Nothing) (first_where (past k l) (count l))
-      (λ e. scan_step accepted position 8 [] accepted Nothing (first_where (crossing k l) (count l)) (λ f. refl))
+      ∙ ap (λ (x : Settled). unless x accepted) (lowest_of_two (test k l) 0 position (count l))
+      ∙ scan_step accepted position 7 (from_eighth k l) accepted (found_first 8 0 position (first_where (crossing k l) (count l)) Passed) (first_where (past k l) (count l))
+      (λ e. scan_step accepted position 8 [] accepted Passed (first_where (crossing k l) (count l)) (λ f. refl))
 
   five_on : (L : Limits) → Sound k l → from_five L k l 0 position ≡ by (pick 5 (from_fifth L k l))
   five_on L sound =
-      from_five_is L k l 0 position ∙ ap (λ (b : Bool). cond b (Refused (refusal_at 5 position 0)) six) (five_agrees L k l sound)
+      from_five_is L k l 0 position ∙ ap (λ (b : Bool). cond b (Err (refusal_at 5 position 0)) six) (five_agrees L k l sound)
       ∙ whole_step accepted position 5 (whole (missing k l) ∷ from_seventh k l) six (passed L k l)
       (λ e. whole_step accepted position 6 (from_seventh k l) (from_seven k l 0 position) (missing k l) (λ f. seven_on))
     where
       six : Checked
-      six = cond (missing k l) (Refused (refusal_at 6 position 0)) (from_seven k l 0 position)
+      six = cond (missing k l) (Err (refusal_at 6 position 0)) (from_seven k l 0 position)
 
 -- the steps that the code takes come to the file's refusal
 pub checked_steps : (L : Limits) (k : Kind) (l : List ℕ) (position : ℕ) → from_one L k l position ≡ checked L k l position
@@ -281,11 +285,11 @@ checked_steps L k l position =
     two_on : from_two L k l 0 position ≡ by k l position (pick 2 (first_where (misplaced k l) (count l) ∷ thirds))
     two_on =
         from_two_is L k l 0 position
-        ∙ ap (λ (x : Found). unless x rest) (lowest_of_three (test k l) 0 position (count l))
-        ∙ scan_step yes_so position 2 thirds rest (found_first 3 0 position (first_where (λ i. wrong (record_at l i)) (count l)) (found_first 4 0 position (first_where (disordered k l) (count l)) Nothing))
+        ∙ ap (λ (x : Settled). unless x rest) (lowest_of_three (test k l) 0 position (count l))
+        ∙ scan_step yes_so position 2 thirds rest (found_first 3 0 position (first_where (λ i. wrong (record_at l i)) (count l)) (found_first 4 0 position (first_where (disordered k l) (count l)) Passed))
         (first_where (misplaced k l) (count l))
-        (λ two. scan_step yes_so position 3 (from_fourth L k l) rest (found_first 4 0 position (first_where (disordered k l) (count l)) Nothing) (first_where (λ i. wrong (record_at l i)) (count l))
-        (λ three. scan_step yes_so position 4 (from_fifth L k l) rest Nothing (first_where (disordered k l) (count l))
+        (λ two. scan_step yes_so position 3 (from_fourth L k l) rest (found_first 4 0 position (first_where (disordered k l) (count l)) Passed) (first_where (λ i. wrong (record_at l i)) (count l))
+        (λ three. scan_step yes_so position 4 (from_fifth L k l) rest Passed (first_where (disordered k l) (count l))
         (λ four. five_on k l position L (record { none_misplaced = two; none_wrong = three }))))
 
     one_on : from_one L k l position ≡ by k l position (pick 1 (whole (not (eqb (length l % 6) 0)) ∷ first_where (misplaced k l) (count l) ∷ thirds))

@@ -1,5 +1,5 @@
 -- What the checks of a record of deliveries find: an opening by its fields; any other record as a record of the graph that starts behind its opening.
-use Rattle.std.specs.Prelude.{◌≡◌, ◌⊎◌, Bool, cond, ◌&&◌, ◌||◌, List, ℕ, zero, suc, ◌+◌, ◌-◌, ◌≤◌, ◌<◌, eqb}
+use Rattle.std.specs.Prelude.{◌≡◌, ◌⊎◌, Bool, cond, ◌&&◌, ◌||◌, List, ℕ, zero, suc, ◌+◌, ◌-◌, ◌≤◌, ◌<◌, eqb, Err, Option, Some, None, is_some}
 use Rattle.std.proofs.Math.Path.{refl, ap}
 use Rattle.std.proofs.Common.{sym, ap₂, subst, ◌∙◌, inl, inr, zero-add, arith, ne_eqb}
 use Rattle.std.proofs.Math.Bool.{true, false, not, or-false}
@@ -9,39 +9,34 @@ use Rattle.files.specs.Checking.Laws.{looked_is}
 use Rattle.files.specs.Deliveries.{opens, own_start, own_end, opened, own_part, own_number, Unopened, delivery_misplaced, opening_wrong, delivery_wrong, delivery_disordered}
 use Rattle.files.specs.Deliveries.Parts.{opened_record, owned, Owned, start_is}
 use Rattle.files.specs.Deliveries.Steps.{delivery_test, delivery_looked_is}
-use Rattle.files.specs.Outcome.{refusal_at}
+use Rattle.files.specs.Outcome.{refusal_at, Passed, Settled}
 use Rattle.files.specs.Record.{record_at, count, kind_at, wrong}
 use Rattle.files.specs.Refusal.{graph, misplaced, disordered, edge_key}
 use Rattle.files.specs.declared.deliveries.Opening.{Opening}
-use Rattle.files.specs.declared.deliveries.Opening.TheVariants.{Of, Wrong}
-use Rattle.files.specs.declared.offence.Found.{Found}
-use Rattle.files.specs.declared.offence.Found.TheVariants.{Nothing, At}
 use Rattle.files.specs.declared.record.Record.{Record}
 use Rattle.files.specs.declared.refusal.Refusal.{Refusal}
 
--- what an opening reads as
-abbrev pub opening_read : Record → Opening
-opening_read r = cond (opening_wrong r) Wrong (Of r.first r.second)
+-- what an opening reads as: none, where a field is wrong
+abbrev pub opened_by : Record → Opening
+opened_by r = record { method = r.first; revision = r.second }
+
+abbrev pub opening_read : Record → Option Opening
+opening_read r = cond (opening_wrong r) None (Some (opened_by r))
 
 -- a record that was read, by the test of its fields
 module _ (r s : Record) (e : r ≡ s) where
-  pub opening_bad : opening_wrong r ≡ true → Wrong ≡ opening_read s
-  opening_bad w = sym (ap (λ (b : Bool). cond b Wrong (Of r.first r.second)) w) ∙ ap opening_read e
+  pub opening_bad : opening_wrong r ≡ true → None ≡ opening_read s
+  opening_bad w = sym (ap (λ (b : Bool). cond b None (Some (opened_by r))) w) ∙ ap opening_read e
 
-  pub opening_of : opening_wrong r ≡ false → Of r.first r.second ≡ opening_read s
-  opening_of w = sym (ap (λ (b : Bool). cond b Wrong (Of r.first r.second)) w) ∙ ap opening_read e
+  pub opening_of : opening_wrong r ≡ false → Some (opened_by r) ≡ opening_read s
+  opening_of w = sym (ap (λ (b : Bool). cond b None (Some (opened_by r))) w) ∙ ap opening_read e
 
 -- what it reads as tells whether a field is wrong
-is_of : Opening → Bool
-is_of (Of m v) = true
-is_of Wrong = false
-
 module _ (r : Record) where
-  of_right : is_of (opening_read r) ≡ not (opening_wrong r)
-  unfolding is_of
+  of_right : is_some (opening_read r) ≡ not (opening_wrong r)
   of_right = go (opening_wrong r)
     where
-      go : (b : Bool) → is_of (cond b Wrong (Of r.first r.second)) ≡ not b
+      go : (b : Bool) → is_some (cond b None (Some (opened_by r))) ≡ not b
       go true = refl
       go false = refl
 
@@ -49,28 +44,26 @@ module _ (r : Record) where
   flip true c e = ap not e
   flip false c e = ap not e
 
-  pub wrong_read : opening_read r ≡ Wrong → opening_wrong r ≡ true
-  unfolding is_of
-  wrong_read e = flip (opening_wrong r) false (sym of_right ∙ ap is_of e)
+  pub wrong_read : is_some (opening_read r) ≡ false → opening_wrong r ≡ true
+  wrong_read e = flip (opening_wrong r) false (sym of_right ∙ e)
 
-  pub right_read : (m v : ℕ) → opening_read r ≡ Of m v → opening_wrong r ≡ false
-  unfolding is_of
-  right_read m v e = flip (opening_wrong r) true (sym of_right ∙ ap is_of e)
+  pub right_read : is_some (opening_read r) ≡ true → opening_wrong r ≡ false
+  right_read e = flip (opening_wrong r) true (sym of_right ∙ e)
 
 -- ---- an opening
 
 module _ (l : List ℕ) (position i : ℕ) (six_i : kind_at l i ≡ 6) where
-  pub opening_refused : opening_wrong (record_at l i) ≡ true → (x : Refusal) → x ≡ refusal_at 3 position i → At x ≡ found_at 3 2 (delivery_test l) 0 position i
-  opening_refused w x e = rw (delivery_looked_is l position i, six_i, w, zero-add i) (ap At e)
+  pub opening_refused : opening_wrong (record_at l i) ≡ true → (x : Refusal) → x ≡ refusal_at 3 position i → Err x ≡ found_at 3 2 (delivery_test l) 0 position i
+  opening_refused w x e = rw (delivery_looked_is l position i, six_i, w, zero-add i) (ap Err e)
 
-  pub opening_right : opening_wrong (record_at l i) ≡ false → Nothing ≡ found_at 3 2 (delivery_test l) 0 position i
+  pub opening_right : opening_wrong (record_at l i) ≡ false → Passed ≡ found_at 3 2 (delivery_test l) 0 position i
   opening_right w = rw (delivery_looked_is l position i, six_i, w) refl
 
 -- ---- a record that opens nothing
 
 pub unopened_refused : (l : List ℕ) (position i : ℕ) → (kind_at l i ≡ 6 → ⊥) → own_start l i ≡ 0 → (x : Refusal) → x ≡ refusal_at 2 position i
-    → At x ≡ found_at 3 2 (delivery_test l) 0 position i
-unopened_refused l position i c z x e = rw (delivery_looked_is l position i, ne_eqb (kind_at l i) 6 c, z, zero-add i) (ap At e)
+    → Err x ≡ found_at 3 2 (delivery_test l) 0 position i
+unopened_refused l position i c z x e = rw (delivery_looked_is l position i, ne_eqb (kind_at l i) 6 c, z, zero-add i) (ap Err e)
 
 -- files whose records up to j agree
 module _ (A B : List ℕ) where
@@ -113,8 +106,8 @@ module _ (l T : List ℕ) (position i a j : ℕ) (inside : i < count l) (closed 
       ∙ ap (λ (b : Bool). told (0 + i) (delivery_misplaced l i) b (delivery_disordered l i)) wrong_is
       ∙ sym (delivery_looked_is l position i)
     where
-      told : ℕ → Bool → Bool → Bool → Found
-      told n b c d = cond b (At (refusal_at 2 position n)) (cond c (At (refusal_at 3 position n)) (cond d (At (refusal_at 4 position n)) Nothing))
+      told : ℕ → Bool → Bool → Bool → Settled
+      told n b c d = cond b (Err (refusal_at 2 position n)) (cond c (Err (refusal_at 3 position n)) (cond d (Err (refusal_at 4 position n)) Passed))
 
       shut : opens l i ≡ false
       shut = ne_eqb (kind_at l i) 6 closed

@@ -1,5 +1,5 @@
 -- A file of deliveries in which 2 and 3 find nothing: each of its parts is a graph file in which they find nothing; what a part is, and what 5, 7 and 8 find of it.
-use Rattle.std.specs.Prelude.{◌≡◌, refl, ◌⊎◌, Bool, true, false, not, cond, ◌&&◌, ◌||◌, List, ℕ, suc, ◌+◌, ◌-◌, ◌*◌, ◌≤◌, ◌<◌, T, leb, ltb, eqb, take, drop}
+use Rattle.std.specs.Prelude.{◌≡◌, refl, ◌⊎◌, Bool, true, false, not, cond, ◌&&◌, ◌||◌, List, ℕ, suc, ◌+◌, ◌-◌, ◌*◌, ◌≤◌, ◌<◌, T, leb, ltb, eqb, take, drop, Ok, Err}
 use Rattle.std.proofs.Common.{sym, ap, ap₂, subst, subst₂, ◌∙◌, inl, inr, zero-add, add-one, arith, eq-eqb, ne_eqb}
 use Rattle.std.proofs.Math.Bool.{or-false}
 use Rattle.std.proofs.Math.Option.{Option, none, some}
@@ -14,12 +14,10 @@ use Rattle.files.specs.Checking.Reads.{five_agrees}
 use Rattle.files.specs.Deliveries.{opens, own_start, own_end, opened, own_part, own_number, own_method, Unopened, delivery_misplaced, delivery_wrong, delivery_disordered, delivery_past, foreign_node, delivery_crossing}
 use Rattle.files.specs.Deliveries.Parts.{open_e, open_i, part_is, number_is, closed_is, end_to, end_from, opened_count, opened_record, owned, Owned, start_is, start_opens, start_stays}
 use Rattle.files.specs.Deliveries.Steps.{delivery_test, delivery_named_is, delivery_lowest_is}
-use Rattle.files.specs.Outcome.{refusal_at}
+use Rattle.files.specs.Outcome.{refusal_at, Passed, Settled}
 use Rattle.files.specs.Places.{record_len}
 use Rattle.files.specs.Record.{record_at, count, kind_at, wrong}
 use Rattle.files.specs.Refusal.{graph, nodes_of, method_at, misplaced, passed, past, crossing}
-use Rattle.files.specs.declared.offence.Found.{Found}
-use Rattle.files.specs.declared.offence.Found.TheVariants.{Nothing, At}
 use Rattle.files.specs.declared.parts.Part.{Part}
 use Rattle.files.specs.declared.record.Limits.{Limits}
 use Rattle.files.specs.declared.record.Record.{Record}
@@ -201,11 +199,11 @@ module _ (l : List ℕ) (sound : SoundParts l) (i : ℕ) (h : i < count l) (clos
         ∙ ap (λ (c : Bool). c && not (eqb (record_at l i).first (own_method l i))) (eq-eqb (kind_at l i) 1 one)
         ∙ ap₂ (λ (x y : ℕ). not (eqb x y)) (sym a_is) (sym b_is)
 
-    pub node_own : a ≡ b → Nothing ≡ found_at 2 7 (delivery_test l) 0 position i
+    pub node_own : a ≡ b → Passed ≡ found_at 2 7 (delivery_test l) 0 position i
     node_own e = rw (delivery_named_is l position i, node_past, node_crossing, eq-eqb a b e) refl
 
-    pub node_foreign : (a ≡ b → ⊥) → (x : Refusal) → x ≡ refusal_at 8 position i → At x ≡ found_at 2 7 (delivery_test l) 0 position i
-    node_foreign e x d = rw (delivery_named_is l position i, node_past, node_crossing, ne_eqb a b e, zero-add i) (ap At d)
+    pub node_foreign : (a ≡ b → ⊥) → (x : Refusal) → x ≡ refusal_at 8 position i → Err x ≡ found_at 2 7 (delivery_test l) 0 position i
+    node_foreign e x d = rw (delivery_named_is l position i, node_past, node_crossing, ne_eqb a b e, zero-add i) (ap Err d)
 
   -- an edge is named in the graph that its delivery is
   module _ (other : kind_at l i ≡ 1 → ⊥) (position : ℕ) where
@@ -219,8 +217,8 @@ module _ (l : List ℕ) (sound : SoundParts l) (i : ℕ) (h : i < count l) (clos
         ∙ ap₂ (told (0 + i)) past_is crossing_is
         ∙ sym (delivery_named_is l position i)
       where
-        told : ℕ → Bool → Bool → Found
-        told n b c = cond b (At (refusal_at 7 position n)) (cond c (At (refusal_at 8 position n)) Nothing)
+        told : ℕ → Bool → Bool → Settled
+        told n b c = cond b (Err (refusal_at 7 position n)) (cond c (Err (refusal_at 8 position n)) Passed)
 
         place : own_start l i + own_number l i ≡ 0 + i
         place = let e : own_start l i + own_number l i ≡ i = omega (arith, start_before) in e ∙ sym (zero-add i)
@@ -243,7 +241,7 @@ module _ (l : List ℕ) (sound : SoundParts l) (i : ℕ) (h : i < count l) (clos
 
 -- ---- an opening names nothing
 
-pub opening_names_none : (l : List ℕ) (position i : ℕ) → kind_at l i ≡ 6 → Nothing ≡ found_at 2 7 (delivery_test l) 0 position i
+pub opening_names_none : (l : List ℕ) (position i : ℕ) → kind_at l i ≡ 6 → Passed ≡ found_at 2 7 (delivery_test l) 0 position i
 opening_names_none l position i e = rw (delivery_named_is l position i, e) refl
 
 -- ---- the part of the next record
@@ -263,19 +261,19 @@ held_stays l i c p held =
 
 -- ---- where 2 to 4 find nothing
 
-is_found : Found → Bool
-is_found Nothing = false
-is_found (At r) = true
+is_found : Settled → Bool
+is_found (Ok u) = false
+is_found (Err r) = true
 
-pub unfound_parts : (l : List ℕ) (position : ℕ) → lowest 3 2 (delivery_test l) 0 position (count l) ≡ Nothing → SoundParts l
+pub unfound_parts : (l : List ℕ) (position : ℕ) → lowest 3 2 (delivery_test l) 0 position (count l) ≡ Passed → SoundParts l
 unfolding is_found
 unfound_parts l position e = go (first_where (delivery_misplaced l) (count l)) (first_where (λ i. delivery_wrong (record_at l i)) (count l)) refl refl (sym (delivery_lowest_is l position (count l)) ∙ e)
   where
-    no_find : (n i : ℕ) → At (refusal_at n position (0 + i)) ≡ Nothing → ⊥
+    no_find : (n i : ℕ) → Err (refusal_at n position (0 + i)) ≡ Passed → ⊥
     no_find n i q = subst T (ap is_found q) tt
 
     go : (a b : Option ℕ) → first_where (delivery_misplaced l) (count l) ≡ a → first_where (λ i. delivery_wrong (record_at l i)) (count l) ≡ b
-        → found_first 2 0 position a (found_first 3 0 position b (found_first 4 0 position (first_where (delivery_disordered l) (count l)) Nothing)) ≡ Nothing → SoundParts l
+        → found_first 2 0 position a (found_first 3 0 position b (found_first 4 0 position (first_where (delivery_disordered l) (count l)) Passed)) ≡ Passed → SoundParts l
     go (some i) b d f q = absurd (no_find 2 i q)
     go none (some i) d f q = absurd (no_find 3 i q)
     go none none d f q = record { none_misplaced = d; none_wrong = f }

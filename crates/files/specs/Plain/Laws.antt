@@ -16,9 +16,9 @@ use Rattle.files.specs.Record.{record_at, kind_at, count, node_wrong, edge_wrong
 use Rattle.files.specs.Refusal.{graph, of_kind, nodes_of, edges_of, edge_key}
 use Rattle.files.specs.Refusal.Laws.{accepted_iff, says_wrong}
 use Rattle.files.specs.Table.{Applies, Misplaced, Wrong, Disordered}
-use Rattle.files.specs.declared.check.Checked.TheVariants.{Accepted}
 use Rattle.files.specs.declared.record.Limits.{Limits}
 use Rattle.files.specs.declared.record.Record.{Record}
+use Rattle.files.specs.Outcome.{Accepted}
 
 -- a lower number comes before, as fields are bytes
 pub number_before : (r s : Record) → r.second < 256 → r.third < 256 → s.second < 256 → s.third < 256 → edge_number r < edge_number s

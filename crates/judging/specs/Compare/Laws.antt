@@ -1,5 +1,5 @@
 -- Comparing is refused by the first line of its published order that applies, and otherwise says what `Compares` says.
-use Rattle.std.specs.Prelude.{◌≡◌, ◌↔◌, Bool, true, false, not, cond, List, [], ◌∷◌, ℕ, ◌≤◌, ◌<◌, ◌+◌, ◌*◌, ◌/◌, ◌%◌, T, length, get_or}
+use Rattle.std.specs.Prelude.{◌≡◌, ◌↔◌, Bool, true, false, not, cond, List, [], ◌∷◌, ℕ, ◌≤◌, ◌<◌, ◌+◌, ◌*◌, ◌/◌, ◌%◌, T, length, get_or, Ok, Err}
 use Rattle.std.proofs.Math.Path.{refl}
 use Rattle.std.proofs.Common.{sym, ap, ap₂, subst, ◌∙◌, arith, T_not}
 use Rattle.std.proofs.Math.Option.{none}
@@ -21,7 +21,7 @@ use Rattle.files.specs.Outcome.{published}
 use Rattle.files.specs.Basics.Tests.{one}
 use Rattle.files.specs.Basics.Binary.{bit}
 use Rattle.files.specs.declared.refusal.Refusal.{Refusal}
-use Rattle.judging.specs.declared.answers.Compared.TheVariants.{Yes, No, Refused}
+use Rattle.judging.specs.declared.answers.Compared.TheVariants.{Yes, No}
 
 module _ (L : Limits) (g h : List ℕ) (out work : ℕ) where
   compare_match : Matches (compare_checks L g h out work) (compare_lines L g h out work)
@@ -144,6 +144,6 @@ no_said G H e = ap (λ (b : Bool). cond b (record { verdict = 1; values = []; wr
 -- ---- the answer enum
 
 -- each case answers what its outcome says
-pub compare_answers : (g : ℕ) (ws : List ℕ) (r : Refusal) → (compared_answer Yes ≡ answer (says (record { verdict = 1; values = []; written = ws })))
-    × (compared_answer (No g) ≡ answer (says (record { verdict = 2; values = g ∷ []; written = ws }))) × (compared_answer (Refused r) ≡ answer (refuses r))
+pub compare_answers : (g : ℕ) (ws : List ℕ) (r : Refusal) → (compared_answer (Ok Yes) ≡ answer (says (record { verdict = 1; values = []; written = ws })))
+    × (compared_answer (Ok (No g)) ≡ answer (says (record { verdict = 2; values = g ∷ []; written = ws }))) × (compared_answer (Err r) ≡ answer (refuses r))
 compare_answers g ws r = (refl, refl, refl)

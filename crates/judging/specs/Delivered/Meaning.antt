@@ -1,6 +1,7 @@
 -- What a returned value of judging deliveries means, and what becomes of it where a delivery is appended. The only hypothesis is what the contract of `judge_deliveries` states.
 -- Its theorems that rest on a definition which a must-fail edit turns stand in proofs/Theorems/Delivered/Meaning.
-use Rattle.std.specs.Prelude.{◌≡◌, List, ◌++◌, ℕ, length}
+use Rattle.files.specs.declared.refusal.Refusal.{Refusal}
+use Rattle.std.specs.Prelude.{◌≡◌, List, ◌++◌, ℕ, length, Result, Err}
 use Rattle.std.proofs.Common.{sym, ap, ◌∙◌}
 use Rattle.files.specs.Assemble.{standing_graph, Taken}
 use Rattle.files.specs.Basics.Permuted.{Permuted}
@@ -15,13 +16,12 @@ use Rattle.judging.specs.Delivered.Laws.{delivered_refused, delivered_accepted, 
 use Rattle.judging.specs.Judge.{judged_answer}
 use Rattle.judging.specs.Judge.Meaning.{judged_enum, judged_of, judged_back, judge_numbered, judge_told, VerdictMeans}
 use Rattle.judging.specs.declared.answers.Judged.{Judged}
-use Rattle.judging.specs.declared.answers.Judged.TheVariants.{Refused}
 
 -- a verdict on the standing graph, in its numbers; both buffers are cleared as one
-pub record DeliveredMeans {R : Type 0} (tell : Judged → R) (L : Limits) (l p out store work out' store' work' : List ℕ) (r : R) : Type 1 where
+pub record DeliveredMeans {R : Type 0} (tell : Result Judged Refusal → R) (L : Limits) (l p out store work out' store' work' : List ℕ) (r : R) : Type 1 where
   pub verdict : VerdictMeans tell (standing_graph l) (decode_property p) (delivered_lines L l p (length out) (length store) (length work)) out out' r
-  pub clears_store : Clears (λ x. tell (Refused x)) store store' r
-  pub clears_work : Clears (λ x. tell (Refused x)) work work' r
+  pub clears_store : Clears (λ x. tell (Err x)) store store' r
+  pub clears_work : Clears (λ x. tell (Err x)) work work' r
 
 -- ---- the outcome
 
@@ -36,12 +36,12 @@ module _ (L : Limits) (l p : List ℕ) (out store work : ℕ) where
   }
 
   -- every outcome is a case of the enum
-  pub delivered_case : (c : Judged) × (judged_answer c ≡ answer (delivered L l p out store work))
+  pub delivered_case : (c : Result Judged Refusal) × (judged_answer c ≡ answer (delivered L l p out store work))
   delivered_case = let x = judge_told (standing_graph l) (decode_property p) in outcome_case judged_enum _ _ _ delivered_decided x.0 x.1
 
 -- ---- what the contract gives, and so what is told of it
 
-module _ {R : Type 0} (tell : Judged → R) (heard : Heard tell) (L : Limits) (l p out store work out' store' work' : List ℕ) (c : Judged)
+module _ {R : Type 0} (tell : Result Judged Refusal → R) (heard : Heard tell) (L : Limits) (l p out store work out' store' work' : List ℕ) (c : Result Judged Refusal)
     (does : DoesBoth (delivered L l p (length out) (length store) (length work)) out store work out' store' work' (judged_answer c)) where
   abbrev pub ls : Lines
   ls = delivered_lines L l p (length out) (length store) (length work)
@@ -52,7 +52,7 @@ module _ {R : Type 0} (tell : Judged → R) (heard : Heard tell) (L : Limits) (l
 -- "When a delivery appended to an accepted file leaves it accepted, .. judgement equal those of the standing deliveries alone in any order": of returned values and output
 -- bytes, for every property, output and lengths of the buffers.
 pub judgement_returned : (L : Limits) (l d p : List ℕ) → Taken L l → Opened d → Taken L (l ++ d) → (es : List Delivery) → Permuted (standing (decode_deliveries l ++ decode_deliveries d)) es
-    → (out store work out₁ out₂ store₁ store₂ work₁ work₂ : List ℕ) (r₁ r₂ : Judged)
+    → (out store work out₁ out₂ store₁ store₂ work₁ work₂ : List ℕ) (r₁ r₂ : Result Judged Refusal)
     → DoesBoth (delivered L (l ++ d) p (length out) (length store) (length work)) out store work out₁ store₁ work₁ (judged_answer r₁)
     → DoesBoth (delivered L (deliveries_bytes es) p (length out) (length store) (length work)) out store work out₂ store₂ work₂ (judged_answer r₂) → (r₁ ≡ r₂) × (out₁ ≡ out₂)
 judgement_returned L l d p before begins after es order out store work out₁ out₂ store₁ store₂ work₁ work₂ r₁ r₂ a b =

@@ -13,7 +13,7 @@ use Rattle.files.specs.Deliveries.Assembled.{assembled_filed}
 use Rattle.files.specs.Deliveries.Decoded.{decoded_supplied}
 use Rattle.files.specs.Deliveries.Latest.{Latest}
 use Rattle.files.specs.Graph.{Graph}
-use Rattle.files.specs.Outcome.{Answer, Answers, answered, short}
+use Rattle.files.specs.Outcome.{Answer, Answers, answered, short, Passed}
 use Rattle.files.specs.Outcome.Counted.{over_limits, counted_small, verdict_told}
 use Rattle.files.specs.Places.{graph_room, record_len}
 use Rattle.files.specs.Record.{count}
@@ -22,7 +22,6 @@ use Rattle.files.specs.Settling.{Settles, told}
 use Rattle.files.specs.Settling.Laws.{delivery_known, file_known, whole_known}
 use Rattle.files.specs.View.Stored.{stored_graph}
 use Rattle.files.specs.declared.record.Limits.{Limits}
-use Rattle.files.specs.declared.settle.Settled.TheVariants.{Passed}
 use Rattle.files.specs.declared.view.GraphView.{GraphView}
 use Rattle.judging.specs.Delivered.{deliveries_store, delivered_verdict, delivered_first, delivered_last, delivered}
 use Rattle.judging.specs.Judge.{judge_said, Strides}

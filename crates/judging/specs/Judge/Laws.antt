@@ -1,6 +1,6 @@
 -- Judging is refused by the first line of its published order that applies, and otherwise says what `Judges` says.
 -- Its theorems that rest on a definition which a must-fail edit turns stand in proofs/Theorems/Judge/Laws.
-use Rattle.std.specs.Prelude.{◌≡◌, ◌↔◌, Bool, true, false, cond, List, [], ◌∷◌, ℕ, ◌≤◌, length}
+use Rattle.std.specs.Prelude.{◌≡◌, ◌↔◌, Bool, true, false, cond, List, [], ◌∷◌, ℕ, ◌≤◌, length, Ok, Err}
 use Rattle.std.proofs.Common.{ap, ap₂, ◌∙◌, subst, sym, arith}
 use Rattle.std.proofs.Math.Path.{refl}
 use Rattle.std.proofs.Math.Option.{none}
@@ -20,7 +20,7 @@ use Rattle.judging.specs.Levels.{satisfies}
 use Rattle.judging.specs.Levels.Sheet.{sheet, sheet_bytes}
 use Rattle.files.specs.Outcome.{published}
 use Rattle.files.specs.declared.refusal.Refusal.{Refusal}
-use Rattle.judging.specs.declared.answers.Judged.TheVariants.{Holds, Fails, Refused}
+use Rattle.judging.specs.declared.answers.Judged.TheVariants.{Holds, Fails}
 
 module _ (L : Limits) (g p : List ℕ) (out work : ℕ) where
   judge_match : Matches (judge_checks L g p out work) (judge_lines L g p out work)
@@ -77,8 +77,8 @@ fails_said G P e = ap (λ (b : Bool). cond b (record { verdict = 1; values = [];
 -- ---- the answer enum
 
 -- each case answers what its outcome says
-pub judge_answers : (n : ℕ) (ws : List ℕ) (r : Refusal) → (judged_answer Holds ≡ answer (says (record { verdict = 1; values = []; written = [] })))
-    × (judged_answer (Fails n) ≡ answer (says (record { verdict = 2; values = n ∷ []; written = ws }))) × (judged_answer (Refused r) ≡ answer (refuses r))
+pub judge_answers : (n : ℕ) (ws : List ℕ) (r : Refusal) → (judged_answer (Ok Holds) ≡ answer (says (record { verdict = 1; values = []; written = [] })))
+    × (judged_answer (Ok (Fails n)) ≡ answer (says (record { verdict = 2; values = n ∷ []; written = ws }))) × (judged_answer (Err r) ≡ answer (refuses r))
 judge_answers n ws r = (refl, refl, refl)
 
 -- ---- the limits of the desk

@@ -1,6 +1,6 @@
 -- Modelling is refused by the first line of its published order that applies, and otherwise says what `Models` says.
 -- Its theorems that rest on a definition which a must-fail edit turns stand in proofs/Theorems/Modelling/Laws.
-use Rattle.std.specs.Prelude.{◌≡◌, ◌↔◌, List, [], ◌∷◌, ℕ, ◌≤◌, ◌<◌, length, true}
+use Rattle.std.specs.Prelude.{◌≡◌, ◌↔◌, List, [], ◌∷◌, ℕ, ◌≤◌, ◌<◌, length, true, Err}
 use Rattle.std.proofs.Common.{sym, ap, ap₂, subst, ◌∙◌, arith}
 use Rattle.std.proofs.Math.Path.{refl}
 use Rattle.std.proofs.Math.Option.{none}
@@ -9,7 +9,7 @@ use Rattle.files.specs.Decode.{decode_property, decode_interface, graph_bytes}
 use Rattle.files.specs.Graph.{Graph, size}
 use Rattle.files.specs.Interface.{Interface}
 use Rattle.files.specs.Limits.{desk}
-use Rattle.files.specs.Outcome.{Said, refuses, says, refusal_at, NoneOf, FirstOf, Matches, TooLarge, graph_said, answer, answered}
+use Rattle.files.specs.Outcome.{Said, refuses, says, refusal_at, NoneOf, FirstOf, Matches, TooLarge, graph_said, answer, answered, Written}
 use Rattle.files.specs.Outcome.Calls as calls
 use Rattle.files.specs.Outcome.Laws.{whole_match, files_match, out_match, refused_by, accepted_by, verdict_is, file_accepted, whole_none, says_too_large, whole_none_i, file_none, none_end}
 use Rattle.files.specs.Property.{Row}
@@ -20,7 +20,6 @@ use Rattle.maximal.specs.Modelling.{model_first, model_graph, model_last, model_
 use Rattle.files.specs.Outcome.{published}
 use Rattle.files.specs.declared.refusal.Refusal.{Refusal}
 use Rattle.maximal.specs.Places.{model_room}
-use Rattle.maximal.specs.declared.answers.Modelled.TheVariants.{Written, Refused}
 
 module _ (L : Limits) (i p : List ℕ) (out work : ℕ) where
   abbrev said : Said
@@ -81,7 +80,7 @@ model_on L i p out work I P G a b c d e small o w =
 -- ---- the answer enum
 
 -- each case answers what its outcome says
-pub model_answers : (G : Graph) (r : Refusal) → (modelled_answer (Written (size G) (length G.edges)) ≡ answer (says (graph_said G []))) × (modelled_answer (Refused r) ≡ answer (refuses r))
+pub model_answers : (G : Graph) (r : Refusal) → (modelled_answer (Written (size G) (length G.edges)) ≡ answer (says (graph_said G []))) × (modelled_answer (Err r) ≡ answer (refuses r))
 model_answers G r = (refl, refl)
 
 -- ---- the limits of the desk

@@ -1,6 +1,6 @@
 -- What a returned value of modelling means. The only hypothesis is what the contract of `model` states.
 -- Its theorems that rest on a definition which a must-fail edit turns stand in proofs/Theorems/Modelling/Meaning.
-use Rattle.std.specs.Prelude.{◌≡◌, refl, ◌↔◌, cond, List, [], ◌∷◌, ℕ, ◌+◌, ◌*◌, ◌<◌, eqb, length, get_or, take, drop}
+use Rattle.std.specs.Prelude.{◌≡◌, refl, ◌↔◌, cond, List, [], ◌∷◌, ℕ, ◌+◌, ◌*◌, ◌<◌, eqb, length, get_or, take, drop, Err, Ok}
 use Rattle.std.proofs.Common.{ap, ap₂, ◌∙◌}
 use Rattle.std.proofs.Math.Option.{none}
 use Rattle.std.proofs.Math.Dec.{lit<}
@@ -8,7 +8,7 @@ use Rattle.files.specs.Decode.{decode_graph, decode_property, decode_interface, 
 use Rattle.files.specs.Decode.Written.{graph_length}
 use Rattle.files.specs.Graph.{Graph, size, Flow}
 use Rattle.files.specs.Interface.{Interface, Of}
-use Rattle.files.specs.Outcome.{Said, Outcome, Answer, Does, answer, refusal_at, NoneOf, Lines, graph_said}
+use Rattle.files.specs.Outcome.{Said, Outcome, Answer, Does, answer, refusal_at, NoneOf, Lines, graph_said, Written}
 use Rattle.files.specs.Outcome.Meaning.{Decided, Refuses, Clears, Wrote, Enum, Heard, only_verdict, outcome_case, said_iff, wrote_by}
 use Rattle.files.specs.Places.{record_len}
 use Rattle.files.specs.Property.{Row}
@@ -16,23 +16,21 @@ use Rattle.files.specs.Refusal.{graph, refusal}
 use Rattle.files.specs.declared.record.Limits.{Limits}
 use Rattle.judging.specs.Levels.{Satisfies}
 use Rattle.judging.specs.Simulation.{Simulates}
-use Rattle.maximal.specs.declared.answers.Modelled.{Modelled}
-use Rattle.maximal.specs.declared.answers.Modelled.TheVariants.{Written, Refused}
 use Rattle.maximal.specs.Model.{IsModel, state_at, model}
 use Rattle.maximal.specs.Model.Ordered.{Earlier}
-use Rattle.maximal.specs.Modelling.{modelled_answer, model_graph, model_checks, model_lines, modelled}
+use Rattle.maximal.specs.Modelling.{modelled_answer, model_graph, model_checks, model_lines, modelled, Modelled}
 use Rattle.maximal.specs.Modelling.Laws.{model_refused, model_accepted}
 
 -- the case of a number and its values
 abbrev pub modelled_of : Answer → Modelled
-modelled_of a = cond (eqb a.verdict 1) (Written (get_or a.values 0 0) (get_or a.values 1 0)) (Refused (refusal_at a.number (get_or a.values 0 0) (get_or a.values 1 0)))
+modelled_of a = cond (eqb a.verdict 1) (Written (get_or a.values 0 0) (get_or a.values 1 0)) (Err (refusal_at a.number (get_or a.values 0 0) (get_or a.values 1 0)))
 
 pub modelled_back : (r : Modelled) → modelled_of (modelled_answer r) ≡ r
-modelled_back (Written n e) = refl
-modelled_back (Refused x) = refl
+modelled_back (Ok v) = refl
+modelled_back (Err x) = refl
 
 abbrev pub modelled_enum : Enum Modelled
-modelled_enum = record { code = modelled_answer; back = modelled_of; back_code = modelled_back; refused = Refused; code_refused = λ x. refl }
+modelled_enum = record { code = modelled_answer; back = modelled_of; back_code = modelled_back; refused = Err; code_refused = λ x. refl }
 
 -- "the model written simulates each finite flow graph of that interface, however large, exactly when that graph satisfies the property": what bytes of n nodes
 -- and e edges hold
@@ -50,8 +48,8 @@ pub record WrittenModel (L : Limits) (I : Interface) (P : List Row) (n e : ℕ) 
 -- `Written n e` is returned exactly where nothing is refused, and then the first 6 (n + e) bytes are the model. `tell` is how a case is returned: as itself, or in
 -- numbers.
 pub record ModelMeans {R : Type 0} (tell : Modelled → R) (L : Limits) (i p out work out' work' : List ℕ) (r : R) : Type 1 where
-  pub refuses : Refuses (λ x. tell (Refused x)) (model_lines L i p (length out) (length work)) out out' r
-  pub clears : Clears (λ x. tell (Refused x)) work work' r
+  pub refuses : Refuses (λ x. tell (Err x)) (model_lines L i p (length out) (length work)) out out' r
+  pub clears : Clears (λ x. tell (Err x)) work work' r
   pub written_iff : ((n : ℕ) × (e : ℕ) × (r ≡ tell (Written n e))) ↔ NoneOf (model_lines L i p (length out) (length work))
   pub writes : (n e : ℕ) → r ≡ tell (Written n e) → WrittenModel L (decode_interface i) (decode_property p) n e (take (record_len * (n + e)) out')
   pub past_unchanged : (n e : ℕ) → r ≡ tell (Written n e) → drop (record_len * (n + e)) out' ≡ drop (record_len * (n + e)) out

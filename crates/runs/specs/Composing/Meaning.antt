@@ -1,6 +1,7 @@
 -- What a returned value of the composed verdict means. The only hypothesis is what the contract of `compose` states.
 -- Its theorems that rest on a definition which a must-fail edit turns stand in proofs/Theorems/Composing/Meaning.
-use Rattle.std.specs.Prelude.{◌≡◌, refl, ◌⊎◌, ◌↔◌, List, ℕ, length}
+use Rattle.files.specs.declared.refusal.Refusal.{Refusal}
+use Rattle.std.specs.Prelude.{◌≡◌, refl, ◌⊎◌, ◌↔◌, List, ℕ, length, Result, Ok, Err}
 use Rattle.std.proofs.Common.{inl, inr}
 use Rattle.files.specs.Decode.{decode_graph, decode_property, decode_interface, decode_rules}
 use Rattle.files.specs.Graph.{Graph}
@@ -17,25 +18,25 @@ use Rattle.runs.specs.Composing.Returned.{SidesMeans, sides_numbered, sides_told
 use Rattle.files.specs.Join.{join}
 use Rattle.runs.specs.Runs.{Bad as BadRun, Clean as CleanRuns}
 use Rattle.runs.specs.declared.answers.Verdict.{Verdict}
-use Rattle.runs.specs.declared.answers.Verdict.TheVariants.{Clean, Bad, Refused, Impossible}
+use Rattle.runs.specs.declared.answers.Verdict.TheVariants.{Clean, Bad, Impossible}
 
 -- Wish 6 and demand 3, of what is returned, where nothing is refused: `Impossible` exactly where no finite graph of the interface with all its entries satisfies the property;
 -- `Clean` exactly where some such graph exists and each one, of any size, is clean beside the known graph; `Bad n` exactly where some is bad beside it. `sides` has the rest: the
 -- bytes written, and that "clean" holds of modules without all their entries too. A known graph that is of its interface is never refused by 9. `tell` is how a case is
 -- returned: as itself, or in numbers.
-pub record ComposeMeans {R : Type 0} (tell : Verdict → R) (L : Limits) (ki kg oi p r : List ℕ) (m : ℕ) (out store work out' store' work' : List ℕ) (v : R) : Type 0 where
-  pub impossible_iff : (v ≡ tell Impossible) ↔ (NoneOf (compose_lines L ki kg oi p r m (length out) (length store) (length work))
+pub record ComposeMeans {R : Type 0} (tell : Result Verdict Refusal → R) (L : Limits) (ki kg oi p r : List ℕ) (m : ℕ) (out store work out' store' work' : List ℕ) (v : R) : Type 0 where
+  pub impossible_iff : (v ≡ tell (Ok Impossible)) ↔ (NoneOf (compose_lines L ki kg oi p r m (length out) (length store) (length work))
       × ((G : Graph) → Loads (decode_interface oi) (decode_property p) G → ⊥))
-  pub clean_iff : (v ≡ tell Clean) ↔ (NoneOf (compose_lines L ki kg oi p r m (length out) (length store) (length work))
+  pub clean_iff : (v ≡ tell (Ok Clean)) ↔ (NoneOf (compose_lines L ki kg oi p r m (length out) (length store) (length work))
       × (((G : Graph) × Loads (decode_interface oi) (decode_property p) G)
       × ((G : Graph) → Loads (decode_interface oi) (decode_property p) G → CleanRuns (join (decode_graph kg) G) (watch (decode_rules r)) m)))
-  pub bad_iff : ((n : ℕ) × (v ≡ tell (Bad n))) ↔ (NoneOf (compose_lines L ki kg oi p r m (length out) (length store) (length work))
+  pub bad_iff : ((n : ℕ) × (v ≡ tell (Ok (Bad n)))) ↔ (NoneOf (compose_lines L ki kg oi p r m (length out) (length store) (length work))
       × ((G : Graph) × Loads (decode_interface oi) (decode_property p) G × BadRun (join (decode_graph kg) G) (watch (decode_rules r)) m))
   pub sides : SidesMeans tell (compose_lines L ki kg oi p r m (length out) (length store) (length work)) (known (decode_graph kg)) (unwritten (decode_interface oi) (decode_property p))
       (watch (decode_rules r)) m out out' v
-  pub clears_store : Clears (λ x. tell (Refused x)) store store' v
-  pub clears_work : Clears (λ x. tell (Refused x)) work work' v
-  pub own_graph : Of (decode_interface ki) (decode_graph kg) → (k : ℕ) → v ≡ tell (Refused (refusal_at 9 2 k)) → ⊥
+  pub clears_store : Clears (λ x. tell (Err x)) store store' v
+  pub clears_work : Clears (λ x. tell (Err x)) work work' v
+  pub own_graph : Of (decode_interface ki) (decode_graph kg) → (k : ℕ) → v ≡ tell (Err (refusal_at 9 2 k)) → ⊥
 
 module _ (L : Limits) (ki kg oi p r : List ℕ) (m out store work : ℕ) where
   compose_decided : Decided (composed L ki kg oi p r m out store work) (compose_verdict L ki kg oi p r m out) (compose_lines L ki kg oi p r m out store work)
@@ -48,14 +49,14 @@ module _ (L : Limits) (ki kg oi p r : List ℕ) (m out store work : ℕ) where
   }
 
   -- every outcome is a case of the enum
-  pub compose_case : (c : Verdict) × (watched_answer c ≡ answer (composed L ki kg oi p r m out store work))
+  pub compose_case : (c : Result Verdict Refusal) × (watched_answer c ≡ answer (composed L ki kg oi p r m out store work))
   compose_case =
       let x = sides_told (known_side L ki kg oi p r m out) (other_side L ki kg oi p r m out) (watch (decode_rules r)) m in
       outcome_case verdict_enum _ _ _ compose_decided x.0 x.1
 
 -- ---- what the contract gives, and so what is told of it
 
-module _ {R : Type 0} (tell : Verdict → R) (heard : Heard tell) (L : Limits) (ki kg oi p r : List ℕ) (m : ℕ) (out store work out' store' work' : List ℕ) (c : Verdict)
+module _ {R : Type 0} (tell : Result Verdict Refusal → R) (heard : Heard tell) (L : Limits) (ki kg oi p r : List ℕ) (m : ℕ) (out store work out' store' work' : List ℕ) (c : Result Verdict Refusal)
     (does : DoesBoth (composed L ki kg oi p r m (length out) (length store) (length work)) out store work out' store' work' (watched_answer c)) where
   abbrev pub K : Graph
   K = decode_graph kg

@@ -1,6 +1,7 @@
 -- What a returned verdict on two sides means, each a graph that is known or one that is not written yet. The verdicts with a known graph and with two unwritten sides are cases of
 -- it.
-use Rattle.std.specs.Prelude.{◌≡◌, refl, ◌⊎◌, ◌↔◌, ◌||◌, List, [], ◌∷◌, ℕ, ◌*◌, ◌<◌, length, take, drop}
+use Rattle.files.specs.declared.refusal.Refusal.{Refusal}
+use Rattle.std.specs.Prelude.{◌≡◌, refl, ◌⊎◌, ◌↔◌, ◌||◌, List, [], ◌∷◌, ℕ, ◌*◌, ◌<◌, length, take, drop, Result, Ok, Err}
 use Rattle.std.proofs.Common.{ap, arith, lit<}
 use Rattle.files.specs.Graph.{Graph}
 use Rattle.files.specs.Join.{join}
@@ -16,46 +17,46 @@ use Rattle.runs.specs.Summary.Trails.{trail}
 use Rattle.runs.specs.Watching.{Watches}
 use Rattle.runs.specs.Watching.Meaning.{WrittenTrail, is_clean, is_bad, wrote, writes, leaves, watch_numbered, watch_told}
 use Rattle.runs.specs.declared.answers.Verdict.{Verdict}
-use Rattle.runs.specs.declared.answers.Verdict.TheVariants.{Clean, Bad, Refused, Impossible}
+use Rattle.runs.specs.declared.answers.Verdict.TheVariants.{Clean, Bad, Impossible}
 
 -- `Impossible` is returned exactly where nothing is refused and nothing loads on one of the sides; `Clean` exactly where something loads on each and all that does, of any size, is
 -- clean joined; `Bad n` exactly where something that loads is bad joined. The trail written is one of what the sides give, which load; "impossible" and "clean" write nothing.
 -- "Clean" holds of modules without all their entries too. `tell` is how a case is returned: as itself, or in numbers.
-pub record SidesMeans {R : Type 0} (tell : Verdict → R) (ls : Lines) (A B : Side) (mon : Monitor) (m : ℕ) (out out' : List ℕ) (v : R) : Type 0 where
-  pub refuses : Refuses (λ x. tell (Refused x)) ls out out' v
-  pub impossible_iff : (v ≡ tell Impossible) ↔ (NoneOf ls × (NoneLoads A ⊎ NoneLoads B))
-  pub clean_iff : (v ≡ tell Clean) ↔ (NoneOf ls × (SomeLoads A × (SomeLoads B × AllClean A B mon m)))
-  pub bad_iff : ((n : ℕ) × (v ≡ tell (Bad n))) ↔ (NoneOf ls × SomeBad A B mon m)
-  pub clean_without_entries : v ≡ tell Clean → (G H : Graph) → Admits A G → Admits B H → CleanRuns (join G H) mon m
-  pub given : (n : ℕ) → v ≡ tell (Bad n) → LoadsOn A (gives A) × LoadsOn B (gives B)
-  pub impossible_leaves : v ≡ tell Impossible → out' ≡ out
-  pub clean_leaves : v ≡ tell Clean → out' ≡ out
-  pub bad_writes : (n : ℕ) → v ≡ tell (Bad n) → WrittenTrail (join (gives A) (gives B)) mon m n (take (record_len * n) out')
-  pub past_unchanged : (n : ℕ) → v ≡ tell (Bad n) → drop (record_len * n) out' ≡ drop (record_len * n) out
+pub record SidesMeans {R : Type 0} (tell : Result Verdict Refusal → R) (ls : Lines) (A B : Side) (mon : Monitor) (m : ℕ) (out out' : List ℕ) (v : R) : Type 0 where
+  pub refuses : Refuses (λ x. tell (Err x)) ls out out' v
+  pub impossible_iff : (v ≡ tell (Ok Impossible)) ↔ (NoneOf ls × (NoneLoads A ⊎ NoneLoads B))
+  pub clean_iff : (v ≡ tell (Ok Clean)) ↔ (NoneOf ls × (SomeLoads A × (SomeLoads B × AllClean A B mon m)))
+  pub bad_iff : ((n : ℕ) × (v ≡ tell (Ok (Bad n)))) ↔ (NoneOf ls × SomeBad A B mon m)
+  pub clean_without_entries : v ≡ tell (Ok Clean) → (G H : Graph) → Admits A G → Admits B H → CleanRuns (join G H) mon m
+  pub given : (n : ℕ) → v ≡ tell (Ok (Bad n)) → LoadsOn A (gives A) × LoadsOn B (gives B)
+  pub impossible_leaves : v ≡ tell (Ok Impossible) → out' ≡ out
+  pub clean_leaves : v ≡ tell (Ok Clean) → out' ≡ out
+  pub bad_writes : (n : ℕ) → v ≡ tell (Ok (Bad n)) → WrittenTrail (join (gives A) (gives B)) mon m n (take (record_len * n) out')
+  pub past_unchanged : (n : ℕ) → v ≡ tell (Ok (Bad n)) → drop (record_len * n) out' ≡ drop (record_len * n) out
 
 module _ (A B : Side) (mon : Monitor) (m : ℕ) where
   pub sides_numbered : 0 < (sides_said A B mon m).verdict
   sides_numbered = numbered_cond (impossible A || impossible B) _ _ (lit< tt) (watch_numbered (join (gives A) (gives B)) mon m)
 
   -- a verdict on two sides is a case of the enum
-  pub sides_told : (c : Verdict) × (watched_answer c ≡ answer (says (sides_said A B mon m)))
-  sides_told = let x = watch_told (join (gives A) (gives B)) mon m in case_cond verdict_enum (impossible A || impossible B) _ _ Impossible x.0 refl x.1
+  pub sides_told : (c : Result Verdict Refusal) × (watched_answer c ≡ answer (says (sides_said A B mon m)))
+  sides_told = let x = watch_told (join (gives A) (gives B)) mon m in case_cond verdict_enum (impossible A || impossible B) _ _ (Ok Impossible) x.0 refl x.1
 
-module _ {R : Type 0} (tell : Verdict → R) (heard : Heard tell) (o : Outcome) (said : Said) (ls : Lines) (d : Decided o said ls) (A B : Side) (mon : Monitor) (m : ℕ)
-    (means : NoneOf ls → SidesSay A B mon m said) (out out' : List ℕ) (c : Verdict) (answers : Answers o out out' (watched_answer c)) where
+module _ {R : Type 0} (tell : Result Verdict Refusal → R) (heard : Heard tell) (o : Outcome) (said : Said) (ls : Lines) (d : Decided o said ls) (A B : Side) (mon : Monitor) (m : ℕ)
+    (means : NoneOf ls → SidesSay A B mon m said) (out out' : List ℕ) (c : Result Verdict Refusal) (answers : Answers o out out' (watched_answer c)) where
   abbrev J : Graph
   J = join (gives A) (gives B)
 
   watches : NoneOf ls → (said.verdict ≡ 3 → ⊥) → Watches J mon m said
   watches t = (means t).on_given
 
-  is_impossible : (tell c ≡ tell Impossible) ↔ (NoneOf ls × (said.verdict ≡ 3) × (said.values ≡ []))
-  is_impossible = said_iff verdict_enum tell heard o said ls d c answers.answer_is Impossible 3 [] (lit< tt) refl
+  is_impossible : (tell c ≡ tell (Ok Impossible)) ↔ (NoneOf ls × (said.verdict ≡ 3) × (said.values ≡ []))
+  is_impossible = said_iff verdict_enum tell heard o said ls d c answers.answer_is (Ok Impossible) 3 [] (lit< tt) refl
 
-  cleans : (tell c ≡ tell Clean) ↔ (NoneOf ls × (said.verdict ≡ 1) × (said.values ≡ []))
+  cleans : (tell c ≡ tell (Ok Clean)) ↔ (NoneOf ls × (said.verdict ≡ 1) × (said.values ≡ []))
   cleans = is_clean tell heard o said ls d J mon m watches out out' c answers
 
-  bads : (n : ℕ) → (tell c ≡ tell (Bad n)) ↔ (NoneOf ls × (said.verdict ≡ 2) × (said.values ≡ n ∷ []))
+  bads : (n : ℕ) → (tell c ≡ tell (Ok (Bad n))) ↔ (NoneOf ls × (said.verdict ≡ 2) × (said.values ≡ n ∷ []))
   bads = is_bad tell heard o said ls d J mon m watches out out' c answers
 
   clean_values : NoneOf ls → said.verdict ≡ 1 → said.values ≡ []

@@ -1,5 +1,5 @@
 -- Joining is refused by the first line of its published order that applies, and otherwise says what `Joins` says.
-use Rattle.std.specs.Prelude.{◌≡◌, refl, ◌↔◌, List, [], ◌∷◌, ℕ, ◌<◌, true, length}
+use Rattle.std.specs.Prelude.{◌≡◌, refl, ◌↔◌, List, [], ◌∷◌, ℕ, ◌<◌, true, length, Err}
 use Rattle.std.proofs.Common.{sym, ◌∙◌, arith}
 use Rattle.std.proofs.Math.Path.{ap, subst}
 use Rattle.std.proofs.Math.Option.{none}
@@ -17,10 +17,9 @@ use Rattle.files.specs.Sides.Laws.{foreign_finds, says_shares, none_foreign}
 use Rattle.files.specs.Sides.OfInterface.{of_foreign}
 use Rattle.files.specs.declared.record.Limits.{Limits}
 use Rattle.files.specs.Join.Laws.{join_filed, join_of}
-use Rattle.runs.specs.Joining.{join_graph, join_sides, join_said, join_checks, join_lines, joined, Joins, joined_answer}
+use Rattle.runs.specs.Joining.{Written, join_graph, join_sides, join_said, join_checks, join_lines, joined, Joins, joined_answer}
 use Rattle.files.specs.Outcome.{published}
 use Rattle.files.specs.declared.refusal.Refusal.{Refusal}
-use Rattle.runs.specs.declared.answers.Joined.TheVariants.{Written, Refused}
 use Rattle.files.specs.Graph.{size, Graph}
 
 module _ (L : Limits) (i1 g1 i2 g2 : List ℕ) (out : ℕ) where
@@ -119,5 +118,5 @@ module _ (L : Limits) (i1 g1 i2 g2 : List ℕ) (out : ℕ) where
 
 -- each case answers what its outcome says
 pub join_answers : (G : Graph) (p q : ℕ) (r : Refusal)
-    → (joined_answer (Written (size G) (length G.edges) p q) ≡ answer (says (graph_said G (p ∷ q ∷ [])))) × (joined_answer (Refused r) ≡ answer (refuses r))
+    → (joined_answer (Written (size G) (length G.edges) p q) ≡ answer (says (graph_said G (p ∷ q ∷ [])))) × (joined_answer (Err r) ≡ answer (refuses r))
 join_answers G p q r = (refl, refl)

@@ -1,5 +1,6 @@
 -- What a returned value of joining means. The only hypothesis is what the contract of `join` states.
-use Rattle.std.specs.Prelude.{◌≡◌, refl, ◌↔◌, cond, List, [], ◌∷◌, ℕ, ◌+◌, ◌*◌, eqb, length, get_or, take, drop}
+use Rattle.files.specs.declared.refusal.Refusal.{Refusal}
+use Rattle.std.specs.Prelude.{◌≡◌, refl, ◌↔◌, cond, List, [], ◌∷◌, ℕ, ◌+◌, ◌*◌, eqb, length, get_or, take, drop, Result, Ok, Err}
 use Rattle.std.proofs.Common.{sym, ap, ap₂, subst, ◌∙◌}
 use Rattle.std.proofs.Math.Option.{none}
 use Rattle.std.proofs.Math.Dec.{lit<}
@@ -13,23 +14,22 @@ use Rattle.files.specs.Places.{record_len}
 use Rattle.files.specs.Refusal.{graph, refusal}
 use Rattle.files.specs.declared.record.Limits.{Limits}
 use Rattle.files.specs.Join.{join}
-use Rattle.runs.specs.Joining.{joined_answer, join_graph, join_sides, join_said, join_checks, join_lines, joined}
+use Rattle.runs.specs.Joining.{Written, joined_answer, join_graph, join_sides, join_said, join_checks, join_lines, joined}
 use Rattle.runs.specs.Joining.Laws.{join_refused, join_own, join_own_second, join_accepted, join_says}
 use Rattle.runs.specs.declared.answers.Joined.{Joined}
-use Rattle.runs.specs.declared.answers.Joined.TheVariants.{Written, Refused}
 
 -- the case of a number and its values
-abbrev pub joined_of : Answer → Joined
+abbrev pub joined_of : Answer → Result Joined Refusal
 joined_of a =
     cond (eqb a.verdict 1) (Written (get_or a.values 0 0) (get_or a.values 1 0) (get_or a.values 2 0) (get_or a.values 3 0))
-    (Refused (refusal_at a.number (get_or a.values 0 0) (get_or a.values 1 0)))
+    (Err (refusal_at a.number (get_or a.values 0 0) (get_or a.values 1 0)))
 
-pub joined_back : (r : Joined) → joined_of (joined_answer r) ≡ r
-joined_back (Written n e p q) = refl
-joined_back (Refused x) = refl
+pub joined_back : (r : Result Joined Refusal) → joined_of (joined_answer r) ≡ r
+joined_back (Ok v) = refl
+joined_back (Err x) = refl
 
-abbrev pub joined_enum : Enum Joined
-joined_enum = record { code = joined_answer; back = joined_of; back_code = joined_back; refused = Refused; code_refused = λ x. refl }
+abbrev pub joined_enum : Enum (Result Joined Refusal)
+joined_enum = record { code = joined_answer; back = joined_of; back_code = joined_back; refused = Err; code_refused = λ x. refl }
 
 -- "provided and required sets are united and returned beside the graph as an interface's two bytes": what bytes of n nodes and e edges, and the two numbers, are
 pub record WrittenJoin (L : Limits) (I J : Interface) (K G : Graph) (n e p q : ℕ) (bytes : List ℕ) : Type 0 where
@@ -43,14 +43,14 @@ pub record WrittenJoin (L : Limits) (I J : Interface) (K G : Graph) (n e p q : �
 
 -- `Written` is returned exactly where nothing is refused, and then the first 6 (n + e) bytes are the two graphs joined. A graph that is of its interface is never
 -- refused by 9. `tell` is how a case is returned: as itself, or in numbers.
-pub record JoinMeans {R : Type 0} (tell : Joined → R) (L : Limits) (i1 g1 i2 g2 out out' : List ℕ) (r : R) : Type 0 where
-  pub refuses : Refuses (λ x. tell (Refused x)) (join_lines L i1 g1 i2 g2 (length out)) out out' r
+pub record JoinMeans {R : Type 0} (tell : Result Joined Refusal → R) (L : Limits) (i1 g1 i2 g2 out out' : List ℕ) (r : R) : Type 0 where
+  pub refuses : Refuses (λ x. tell (Err x)) (join_lines L i1 g1 i2 g2 (length out)) out out' r
   pub written_iff : ((n : ℕ) × (e : ℕ) × (p : ℕ) × (q : ℕ) × (r ≡ tell (Written n e p q))) ↔ NoneOf (join_lines L i1 g1 i2 g2 (length out))
   pub writes : (n e p q : ℕ) → r ≡ tell (Written n e p q)
       → WrittenJoin L (decode_interface i1) (decode_interface i2) (decode_graph g1) (decode_graph g2) n e p q (take (record_len * (n + e)) out')
   pub past_unchanged : (n e p q : ℕ) → r ≡ tell (Written n e p q) → drop (record_len * (n + e)) out' ≡ drop (record_len * (n + e)) out
-  pub own_first : Of (decode_interface i1) (decode_graph g1) → (k : ℕ) → r ≡ tell (Refused (refusal_at 9 2 k)) → ⊥
-  pub own_second : Of (decode_interface i2) (decode_graph g2) → (k : ℕ) → r ≡ tell (Refused (refusal_at 9 4 k)) → ⊥
+  pub own_first : Of (decode_interface i1) (decode_graph g1) → (k : ℕ) → r ≡ tell (Err (refusal_at 9 2 k)) → ⊥
+  pub own_second : Of (decode_interface i2) (decode_graph g2) → (k : ℕ) → r ≡ tell (Err (refusal_at 9 4 k)) → ⊥
 
 -- ---- the outcome
 
@@ -65,7 +65,7 @@ module _ (L : Limits) (i1 g1 i2 g2 : List ℕ) (out : ℕ) where
   }
 
   -- every outcome is a case of the enum
-  pub join_case : (c : Joined) × (joined_answer c ≡ answer (joined L i1 g1 i2 g2 out))
+  pub join_case : (c : Result Joined Refusal) × (joined_answer c ≡ answer (joined L i1 g1 i2 g2 out))
   join_case =
       let G = join_graph L i1 g1 i2 g2 out in
       let I = join_sides L i1 g1 i2 g2 out in
@@ -73,7 +73,7 @@ module _ (L : Limits) (i1 g1 i2 g2 : List ℕ) (out : ℕ) where
 
 -- ---- what the contract gives, and so what is told of it
 
-module _ {R : Type 0} (tell : Joined → R) (heard : Heard tell) (L : Limits) (i1 g1 i2 g2 out out' : List ℕ) (c : Joined)
+module _ {R : Type 0} (tell : Result Joined Refusal → R) (heard : Heard tell) (L : Limits) (i1 g1 i2 g2 out out' : List ℕ) (c : Result Joined Refusal)
     (answers : Answers (joined L i1 g1 i2 g2 (length out)) out out' (joined_answer c)) where
   abbrev G : Graph
   G = join_graph L i1 g1 i2 g2 (length out)
@@ -118,7 +118,7 @@ module _ {R : Type 0} (tell : Joined → R) (heard : Heard tell) (L : Limits) (i
         of_united = m.of_united;
       })
 
-  refusing : Refuses (λ x. tell (Refused x)) ls out out' (tell c)
+  refusing : Refuses (λ x. tell (Err x)) ls out out' (tell c)
   refusing = refuses_by joined_enum tell heard o said ls d c answers.answer_is out out' answers.out_is
 
   pub join_tells : JoinMeans tell L i1 g1 i2 g2 out out' (tell c)
@@ -135,6 +135,6 @@ module _ {R : Type 0} (tell : Joined → R) (heard : Heard tell) (L : Limits) (i
   }
 
 -- The returned value, from what the contract states of it.
-pub join_means : (L : Limits) (i1 g1 i2 g2 out out' : List ℕ) (r : Joined)
+pub join_means : (L : Limits) (i1 g1 i2 g2 out out' : List ℕ) (r : Result Joined Refusal)
     → Answers (joined L i1 g1 i2 g2 (length out)) out out' (joined_answer r) → JoinMeans itself L i1 g1 i2 g2 out out' r
 join_means L i1 g1 i2 g2 out out' r answers = join_tells itself heard_itself L i1 g1 i2 g2 out out' r answers

@@ -7,7 +7,7 @@ use Rattle.files.specs.Cells.{put_at}
 use Rattle.files.specs.Decode.{decode_graph, decode_interface, graph_bytes}
 use Rattle.files.specs.Graph.{Graph}
 use Rattle.files.specs.Interface.{Interface}
-use Rattle.files.specs.Outcome.{Said, Answers, refused_answer, verdict_answer, Check, whole_check, scan_check, file_checks, answered, refusal_at}
+use Rattle.files.specs.Outcome.{Said, Answers, refused_answer, verdict_answer, Check, whole_check, scan_check, file_checks, answered, refusal_at, Passed}
 use Rattle.files.specs.Outcome.Counted as counted
 use Rattle.files.specs.Places.{record_len}
 use Rattle.files.specs.Refusal.{graph, interface}
@@ -16,7 +16,6 @@ use Rattle.files.specs.Settling.Laws.{file_known}
 use Rattle.files.specs.Sides.{first_foreign, shares}
 use Rattle.files.specs.declared.record.Limits.{Limits}
 use Rattle.files.specs.declared.refusal.Refusal.{Refusal}
-use Rattle.files.specs.declared.settle.Settled.TheVariants.{Passed}
 use Rattle.judging.specs.Judge.{GraphWithin}
 use Rattle.judging.specs.Refinement.{Both}
 use Rattle.judging.specs.declared.sizes.Sizes.{Sizes}

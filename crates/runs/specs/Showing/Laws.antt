@@ -1,5 +1,5 @@
 -- Showing is refused by the first line of its published order that applies, and otherwise says what `Shows` says.
-use Rattle.std.specs.Prelude.{◌≡◌, ◌↔◌, Bool, not, List, [], ◌∷◌, ℕ, ◌+◌, ◌-◌, ◌≤◌, ◌<◌}
+use Rattle.std.specs.Prelude.{◌≡◌, ◌↔◌, Bool, not, List, [], ◌∷◌, ℕ, ◌+◌, ◌-◌, ◌≤◌, ◌<◌, Err}
 use Rattle.std.proofs.Math.Path.{refl, ap, subst}
 use Rattle.std.proofs.Common.{sym, ◌∙◌}
 use Rattle.std.proofs.Math.Bool.{true, false, cond}
@@ -18,11 +18,10 @@ use Rattle.files.specs.Refusal.{graph, refusal}
 use Rattle.files.specs.declared.record.Limits.{Limits}
 use Rattle.files.specs.Join.{join}
 use Rattle.files.specs.Join.Laws.{join_first, join_second, join_size}
-use Rattle.runs.specs.Showing.{part_said, show_size, show_said, show_checks, show_lines, shown, Shows, shown_answer}
+use Rattle.runs.specs.Showing.{Part, part_said, show_size, show_said, show_checks, show_lines, shown, Shows, shown_answer}
 use Rattle.files.specs.Basics.Tests.{below}
 use Rattle.files.specs.Outcome.{published}
 use Rattle.files.specs.declared.refusal.Refusal.{Refusal}
-use Rattle.runs.specs.declared.answers.Shown.TheVariants.{Part, Refused}
 
 module _ (L : Limits) (g1 g2 : List ℕ) (number : ℕ) where
   abbrev said : Said
@@ -83,5 +82,5 @@ module _ (L : Limits) (g1 g2 : List ℕ) (number : ℕ) where
 -- ---- the answer enum
 
 -- each case answers what its outcome says
-pub show_answers : (ws : List ℕ) (r : Refusal) → (shown_answer Part ≡ answer (says (part_said ws))) × (shown_answer (Refused r) ≡ answer (refuses r))
+pub show_answers : (ws : List ℕ) (r : Refusal) → (shown_answer Part ≡ answer (says (part_said ws))) × (shown_answer (Err r) ≡ answer (refuses r))
 show_answers ws r = (refl, refl)

@@ -1,5 +1,5 @@
 -- What the part shown and the value of the companion call mean. The only hypotheses are what the contracts of `show` and `show_refusal` state.
-use Rattle.std.specs.Prelude.{◌≡◌, refl, ◌↔◌, cond, List, [], ℕ, ◌<◌, eqb, get_or}
+use Rattle.std.specs.Prelude.{◌≡◌, refl, ◌↔◌, cond, List, [], ℕ, ◌<◌, eqb, get_or, Ok, Err}
 use Rattle.std.proofs.Common.{ap, ◌∙◌}
 use Rattle.std.proofs.Math.Dec.{lit<}
 use Rattle.files.specs.Decode.{decode_graph, node_rec}
@@ -10,21 +10,19 @@ use Rattle.files.specs.Record.{six}
 use Rattle.files.specs.declared.record.Limits.{Limits}
 use Rattle.files.specs.declared.refusal.Refusal.{Refusal}
 use Rattle.files.specs.Join.{join}
-use Rattle.runs.specs.Showing.{shown_answer, show_said, show_checks, show_lines, shown}
+use Rattle.runs.specs.Showing.{Shown, Part, shown_answer, show_said, show_checks, show_lines, shown}
 use Rattle.runs.specs.Showing.Laws.{show_refused, show_accepted, show_says}
-use Rattle.runs.specs.declared.answers.Shown.{Shown}
-use Rattle.runs.specs.declared.answers.Shown.TheVariants.{Part, Refused}
 
 -- the case of a number and its values
 abbrev pub shown_of : Answer → Shown
-shown_of a = cond (eqb a.verdict 1) Part (Refused (refusal_at a.number (get_or a.values 0 0) (get_or a.values 1 0)))
+shown_of a = cond (eqb a.verdict 1) Part (Err (refusal_at a.number (get_or a.values 0 0) (get_or a.values 1 0)))
 
 pub shown_back : (r : Shown) → shown_of (shown_answer r) ≡ r
-shown_back Part = refl
-shown_back (Refused x) = refl
+shown_back (Ok u) = refl
+shown_back (Err x) = refl
 
 abbrev pub shown_enum : Enum Shown
-shown_enum = record { code = shown_answer; back = shown_of; back_code = shown_back; refused = Refused; code_refused = λ x. refl }
+shown_enum = record { code = shown_answer; back = shown_of; back_code = shown_back; refused = Err; code_refused = λ x. refl }
 
 -- "The record of a joined node is shown in the file it came from, as six bytes of that file."
 pub record PartShown (g1 g2 : List ℕ) (number : ℕ) (part : List ℕ) : Type 0 where
@@ -33,11 +31,11 @@ pub record PartShown (g1 g2 : List ℕ) (number : ℕ) (part : List ℕ) : Type 
 
 -- `Part` is returned exactly where nothing is refused, and then the part is the node's record; "the part is then empty and a companion call gives the refusal"
 pub record ShowMeans (L : Limits) (g1 g2 : List ℕ) (number : ℕ) (part : List ℕ) (r : Shown) : Type 0 where
-  pub accepted_iff : ((x : Refusal) → r ≡ Refused x → ⊥) ↔ NoneOf (show_lines L g1 g2 number)
+  pub accepted_iff : ((x : Refusal) → r ≡ Err x → ⊥) ↔ NoneOf (show_lines L g1 g2 number)
   pub part_iff : (r ≡ Part) ↔ NoneOf (show_lines L g1 g2 number)
-  pub refused_iff : (x : Refusal) → (r ≡ Refused x) ↔ FirstOf (show_lines L g1 g2 number) x.number x.file x.«record»
+  pub refused_iff : (x : Refusal) → (r ≡ Err x) ↔ FirstOf (show_lines L g1 g2 number) x.number x.file x.«record»
   pub shows : r ≡ Part → PartShown g1 g2 number part
-  pub empty : (x : Refusal) → r ≡ Refused x → part ≡ []
+  pub empty : (x : Refusal) → r ≡ Err x → part ≡ []
 
 module _ (L : Limits) (g1 g2 : List ℕ) (number : ℕ) where
   pub show_decided : Decided (shown L g1 g2 number) (show_said L g1 g2 number) (show_lines L g1 g2 number)
@@ -64,7 +62,7 @@ module _ (L : Limits) (g1 g2 : List ℕ) (number : ℕ) where
     is_part =
         said_iff shown_enum itself heard_itself (shown L g1 g2 number) (show_said L g1 g2 number) (show_lines L g1 g2 number) show_decided r tells Part 1 [] (lit< tt) refl
 
-    refusing : Refuses Refused (show_lines L g1 g2 number) [] (out_after (shown L g1 g2 number) []) r
+    refusing : Refuses Err (show_lines L g1 g2 number) [] (out_after (shown L g1 g2 number) []) r
     refusing =
         refuses_by shown_enum itself heard_itself (shown L g1 g2 number) (show_said L g1 g2 number) (show_lines L g1 g2 number) show_decided r tells
         [] (out_after (shown L g1 g2 number) []) refl

@@ -9,7 +9,7 @@ use Rattle.files.specs.Access.{InterfaceFile}
 use Rattle.files.specs.Decode.{decode_interface, decode_rules}
 use Rattle.files.specs.Graph.{Graph}
 use Rattle.files.specs.Join.{join}
-use Rattle.files.specs.Outcome.{Said, Outcome, refuses, Answers, refused_answer, Check, whole_check, file_checks, out_check, answered, refusal_at, no_start, short, too_large}
+use Rattle.files.specs.Outcome.{Said, Outcome, refuses, Answers, refused_answer, Check, whole_check, file_checks, out_check, answered, refusal_at, no_start, short, too_large, Passed}
 use Rattle.files.specs.Outcome.Ends.{whole_refuses, answers_refused}
 use Rattle.files.specs.Refusal.{property, rules, interface, refusal}
 use Rattle.files.specs.Rules.{watch}
@@ -18,7 +18,6 @@ use Rattle.files.specs.Settling.Laws.{whole_known, file_known}
 use Rattle.files.specs.Sides.{shares, lacks_entry, unprovided}
 use Rattle.files.specs.declared.record.Limits.{Limits}
 use Rattle.files.specs.declared.refusal.Refusal.{Refusal}
-use Rattle.files.specs.declared.settle.Settled.TheVariants.{Passed}
 use Rattle.judging.specs.Judge.{Strides}
 use Rattle.maximal.specs.Modelling.{Bounded}
 use Rattle.maximal.specs.Places.{model_room}

@@ -1,5 +1,5 @@
-use Rattle.std.proofs.Common.{◌≤◌}
+use Rattle.std.proofs.Common.{◌*◌, ◌≤◌}
 use Rattle.checker.proofs.ranges.members.Given as goal
 
-abbrev pub invariant-loop-h : goal.invariant-loop-h
-invariant-loop-h l = l.n ≤ l.h
+abbrev pub invariant-loop-row : goal.invariant-loop-row
+invariant-loop-row l = l.n ≤ 8 * l.row-index

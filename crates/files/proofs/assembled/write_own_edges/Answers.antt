@@ -17,7 +17,8 @@ write_all_moved-requires c =
     let l = c.args.file.now in
     let ds = decode_deliveries l in
     let m = c.args.method in
-    let part = c.standing_part-part in (
+    let part = c.standing_part-part in
+    rw c.records_in.ensures (
       body_views l m part.result part.ensures,
       (omega (arith, c.requires.1.1.1.0, node_count part.ensures, node_recs_count ds m), omega (arith, c.requires.1.1.1.1, edge_count part.ensures, edge_recs_count ds m)),
     )
@@ -31,6 +32,6 @@ returns c =
       node_count part.ensures ∙ sym (node_recs_count ds a.method),
       (
         edge_count part.ensures ∙ sym (edge_recs_count ds a.method),
-        c.write_all_moved.ensures ∙ ap (put_at a.out.now (record_len * a.at)) (body_moved l a.method part.result part.ensures a.before c.requires.1.1.0),
+        (rw c.records_in.ensures at c.write_all_moved.ensures) ∙ ap (put_at a.out.now (record_len * a.at)) (body_moved l a.method part.result part.ensures a.before c.requires.1.1.0),
       ),
     )

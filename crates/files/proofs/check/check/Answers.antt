@@ -1,26 +1,16 @@
-use mathlib.Core.Path.{sym, ap, ◌∙◌}
-use borrow.Author.Tests.{eqb-true, not-true, not-false}
-use Rattle.files.specs.Checking.{checked}
+use Rattle.std.specs.Prelude.{Err}
+use mathlib.Core.Path.{ap, ◌∙◌}
+use borrow.Author.Tests.{not-true, not-false}
 use Rattle.files.specs.FileKind.{kind_of}
-use Rattle.files.specs.declared.check.Checked.TheVariants.{Refused}
-use Rattle.files.specs.declared.offence.FileKind.{FileKind}
 use Rattle.files.proofs.CheckLaws.{one_ragged, one_whole}
 use Rattle.files.proofs.check.check.Goals as goal
 
 pub returns-then-not-file : goal.returns-then-not-file
 returns-then-not-file c =
     let a = c.args in
-    ap Refused c.at.ensures ∙ one_ragged a.limits (kind_of a.kind) a.file.now 0 a.position (not-true _ c.if-not-file.true-raw)
+    ap Err c.at.ensures ∙ one_ragged a.limits (kind_of a.kind) a.file.now 0 a.position (not-true _ c.if-not-file.true-raw)
 
 pub returns-in_default : goal.returns-in_default
 returns-in_default c =
     let a = c.args in
     c.from_two.ensures ∙ one_whole a.limits (kind_of a.kind) a.file.now 0 a.position (not-false _ c.if-not-file.false-raw)
-
-pub check_records-requires : goal.check_records-requires
-check_records-requires c = eqb-true _ _ (not-false _ c.if-not-file.false-raw)
-
-pub returns : goal.returns
-returns c =
-    let a = c.args in
-    c.check_records.ensures ∙ ap (λ (k : FileKind). checked a.limits (kind_of k) a.file.now a.position) (sym c.in-Graph.is)

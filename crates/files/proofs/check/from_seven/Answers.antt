@@ -1,32 +1,20 @@
 -- what the scan found decides the steps from number 7 on
-use mathlib.Core.Path.{◌≡◌, ap, ◌∙◌}
-use Prim.Native.Nat.{ℕ}
+use Rattle.std.proofs.Common.{ℕ, ap, ◌∙◌}
 use Rattle.files.specs.FileKind.{kind_of}
 use Rattle.files.specs.Record.{count}
-use Rattle.files.specs.Checking.{nodes_with, unless, from_seven}
-use Rattle.files.specs.declared.check.Checked.TheVariants.{Accepted}
-use Rattle.files.proofs.CheckLaws.{bound_is, seven_scan}
+use Rattle.files.specs.Outcome.{Accepted}
+use Rattle.files.specs.Settling.Laws.{handed_on}
+use Rattle.files.proofs.CheckLaws.{seven_scan}
 use Rattle.files.proofs.check.from_seven.Goals as goal
-use Rattle.files.proofs.check.from_seven.Goals.{After-name_through}
 
-abbrev Said : After-name_through → Type 0
-Said c =
+pub returns-in_err-name_through : goal.returns-in_err-name_through
+returns-in_err-name_through c =
     let a = c.args in
-    unless c.name_through.result (Accepted (nodes_with (kind_of a.kind) a.apart) (count a.records.now))
-    ≡ from_seven (kind_of a.kind) a.records.now a.first a.position
+    handed_on c.from_residual.result c.from_residual.ensures.1
+    ∙ seven_scan (kind_of a.kind) a.records.now a.first a.position a.apart _ c.requires.1.0 c.in_err-name_through.ensures
 
-scan-said : (c : After-name_through) → Said c
-scan-said c =
+pub returns : goal.returns
+returns c =
     let a = c.args in
-    seven_scan (kind_of a.kind) a.records.now a.first a.position a.apart c.name_through.result c.requires.1.0 c.name_through.ensures
-
-pub name_through-requires : goal.name_through-requires
-name_through-requires c =
-    let a = c.args in
-    (c.requires.0, (c.bound-most.ensures ∙ bound_is (kind_of a.kind) a.records.now a.apart c.requires.1.0, c.requires.1.1))
-
-pub returns-in-At : goal.returns-in-At
-returns-in-At c = rw c.in-At.is at (scan-said (goal.at.returns-in-At c).After-name_through)
-
-pub returns-in-Nothing : goal.returns-in-Nothing
-returns-in-Nothing c = ap (λ (n : ℕ). Accepted n (count c.args.records.now)) c.nodes.ensures ∙ (rw c.in-Nothing.is at (scan-said (goal.at.returns-in-Nothing c).After-name_through))
+    ap (λ (n : ℕ). Accepted n (count a.records.now)) c.nodes.ensures
+    ∙ seven_scan (kind_of a.kind) a.records.now a.first a.position a.apart _ c.requires.1.0 c.in_ok-name_through.ensures

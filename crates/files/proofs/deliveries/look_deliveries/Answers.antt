@@ -1,39 +1,17 @@
-use mathlib.Core.Path.{◌≡◌, refl, sym, ap, ◌∙◌}
-use native.Mathlib.Omega.{arith}
-use Rattle.files.specs.Record.{count}
-use Rattle.files.specs.Checking.{lowest}
+use mathlib.Core.Path.{refl, sym}
 use Rattle.files.specs.Checking.Laws.{lowest_none}
 use Rattle.files.specs.Deliveries.Steps.{delivery_test}
 use Rattle.files.proofs.CheckLaws.{lowest_on}
 use Rattle.files.proofs.deliveries.look_deliveries.Goals as goal
 
 pub loop-i-init : goal.loop-i-init
-loop-i-init c = let a = c.args in (omega arith, refl, sym (lowest_none 3 2 (delivery_test a.file.now) 0 a.position))
-
-pub look_delivery-next-requires : goal.look_delivery-next-requires
-look_delivery-next-requires c = (c.loop-i-test.true, c.loop-i.invariant.1)
-
-pub next_start-start-requires : goal.next_start-start-requires
-next_start-start-requires c = (c.loop-i-test.true, c.loop-i.invariant.1)
-
-pub overflow_add-i : goal.overflow_add-i
-overflow_add-i c = omega arith
-
-pub loop-i-smaller : goal.loop-i-smaller
-loop-i-smaller c = omega arith
+loop-i-init c = let a = c.args in (refl, sym (lowest_none 3 2 (delivery_test a.file.now) 0 a.position))
 
 pub loop-i-preserved : goal.loop-i-preserved
 loop-i-preserved c =
     let a = c.args in
     let loop = c.loop-i in (
-      omega arith,
       c.next_start-start.ensures,
-      lowest_on 3 2 (delivery_test a.file.now) 0 a.position loop.i loop.found c.look_delivery-next.result c.lower-found.result loop.invariant.2
+      lowest_on 3 2 (delivery_test a.file.now) 0 a.position loop.i loop.found c.look_delivery-next.result c.lower-found.result loop.invariant.1
           c.look_delivery-next.ensures c.lower-found.ensures,
     )
-
-pub returns : goal.returns
-returns c =
-    let a = c.args in
-    let e : c.loop-i.i ≡ count a.file.now = omega arith in
-    c.loop-i.invariant.2 ∙ ap (lowest 3 2 (delivery_test a.file.now) 0 a.position) e

@@ -16,37 +16,21 @@ pub loop-j-init : goal.loop-j-init
 loop-j-init c =
     let a = c.args in
     let e : a.first ≡ a.first + 0 = omega arith in
-    (omega arith, subst (λ (n : ℕ). Wrote a.out.now a.out.now a.first n []) e (wrote_none a.out.now a.first))
-
-pub overflow_add-first : goal.overflow_add-first
-overflow_add-first c = omega (arith, c.loop-j-test.true, c.requires.1.1)
-
-pub write_moved-requires : goal.write_moved-requires
-write_moved-requires c =
-    let p = c.requires in
-    (p.0, (p.1.0, (c.loop-j-test.true, omega (arith, c.loop-j-test.true, p.1.1, c.loop-j.invariant.1.as_long))))
-
-pub overflow_add-j : goal.overflow_add-j
-overflow_add-j c = omega (arith, c.loop-j-test.true, c.requires.1.1)
-
-pub loop-j-smaller : goal.loop-j-smaller
-loop-j-smaller c = omega (arith, c.loop-j-test.true)
+    subst (λ (n : ℕ). Wrote a.out.now a.out.now a.first n []) e (wrote_none a.out.now a.first)
 
 pub loop-j-preserved : goal.loop-j-preserved
 loop-j-preserved c =
     let a = c.args in
     let l = c.loop-j in
     let w = c.write_moved in
-    let f : ℕ → List ℕ = moved_bytes a.before (decode_graph a.graph.now) in (
-      omega (arith, c.loop-j-test.true),
-      wrote_more a.out.now l.out w.new.out a.first (a.first + l.j) (a.first + (l.j + 1)) (each f (span 0 l.j)) (f l.j) (each f (span 0 (l.j + 1)))
-          (omega (arith, c.requires.1.1)) (ap (λ (n : ℕ). each f (span 0 n)) (add-one l.j) ∙ each_more f l.j) l.invariant.1 w.ensures w.auto.out (omega arith),
-    )
+    let f : ℕ → List ℕ = moved_bytes a.before (decode_graph a.graph.now) in
+    wrote_more a.out.now l.out w.new.out a.first (a.first + l.j) (a.first + (l.j + 1)) (each f (span 0 l.j)) (f l.j) (each f (span 0 (l.j + 1)))
+    (omega (arith, c.requires.1.1)) (ap (λ (n : ℕ). each f (span 0 n)) (add-one l.j) ∙ each_more f l.j) l.invariant w.ensures w.auto.out (omega arith)
 
 pub returns : goal.returns
 returns c =
     let a = c.args in
     let l = c.loop-j in
     let G = decode_graph a.graph.now in
-    let e : l.j ≡ a.view.edges = omega (arith, c.loop-j-test.false, l.invariant.0) in
-    l.invariant.1.bytes ∙ ap (put_at a.out.now (record_len * a.first)) (ap (λ (n : ℕ). each (moved_bytes a.before G) (span 0 n)) (e ∙ sym (view_edges c.requires.0)) ∙ moved_all a.before G)
+    let e : l.j ≡ a.view.edges = omega arith in
+    l.invariant.bytes ∙ ap (put_at a.out.now (record_len * a.first)) (ap (λ (n : ℕ). each (moved_bytes a.before G) (span 0 n)) (e ∙ sym (view_edges c.requires.0)) ∙ moved_all a.before G)

@@ -9,7 +9,7 @@ use Rattle.files.proofs.naming.name_nodes.Goals as goal
 pub returns-in_default : goal.returns-in_default
 returns-in_default c =
     let a = c.args in
-    let p = c.parse_edge in
+    let p = c.parse_as in
     node_names_none a.records.now c.requires.0 a.first a.position a.i c.requires.1.1.0 p.result p.ensures (not_edge p.result c.in_default.not-Edge)
 
 pub node_named-requires : goal.node_named-requires
@@ -18,7 +18,7 @@ node_named-requires c = omega (arith, c.requires.1.0, tally_le (of_kind c.args.r
 pub returns-in_default-node_named : goal.returns-in_default-node_named
 returns-in_default-node_named c =
     let a = c.args in
-    let p = c.parse_edge in
+    let p = c.parse_as in
     let q = c.node_named in
     from_past a.records.now c.requires.0 a.first a.position a.i c.requires.1.1.0 a.nodes _ _ _ c.requires.1.0 p.result p.ensures c.in-Edge.is
     q.result q.ensures (not_node q.result c.in_default-node_named.not-Node) c.at.result c.at.ensures
@@ -29,7 +29,7 @@ node_beside-beside-requires c = omega (arith, c.requires.1.0, tally_le (of_kind 
 pub returns-in_default-beside : goal.returns-in_default-beside
 returns-in_default-beside c =
     let a = c.args in
-    let p = c.parse_edge in
+    let p = c.parse_as in
     let edge = c.in-Edge.is in
     let q = c.node_named in
     let b = c.node_beside-beside in
@@ -41,7 +41,7 @@ returns-in_default-beside c =
 pub returns : goal.returns
 returns c =
     let a = c.args in
-    let p = c.parse_edge in
+    let p = c.parse_as in
     let edge = c.in-Edge.is in
     let q = c.node_named in
     let b = c.node_beside-beside in

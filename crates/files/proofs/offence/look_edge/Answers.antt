@@ -9,22 +9,22 @@ use Rattle.files.proofs.offence.look_edge.Goals as goal
 pub returns-in_default : goal.returns-in_default
 returns-in_default c =
     let a = c.args in
-    let p = c.parse_edge-p in
+    let p = c.parse_as-p in
     unread_found graph a.records.now a.first a.position a.i 2 (omega arith) (omega arith) (edge_place a.records.now a.i c.requires.1.1) p.result p.ensures (not_edge p.result c.in_default.not-Edge) c.unread.result
     c.unread.ensures
 
-pub returns-then-edge_disordered : goal.returns-then-edge_disordered
-returns-then-edge_disordered c =
+pub returns-then-disordered : goal.returns-then-disordered
+returns-then-disordered c =
     let a = c.args in
-    let p = c.parse_edge-p in
+    let p = c.parse_as-p in
     four_found graph a.records.now a.first a.position a.i c.at.result
     (read_found graph a.records.now a.first a.position a.i 2 (omega arith) (omega arith) (edge_place a.records.now a.i c.requires.1.1) p.result p.ensures (ap kind_read c.in-Edge.is))
-    (sym c.edge_disordered.ensures ∙ c.if-edge_disordered.true) c.at.ensures
+    (sym c.disordered.ensures ∙ c.if-disordered.true) c.at.ensures
 
 pub returns : goal.returns
 returns c =
     let a = c.args in
-    let p = c.parse_edge-p in
+    let p = c.parse_as-p in
     nothing_found graph a.records.now a.first a.position a.i
     (read_found graph a.records.now a.first a.position a.i 2 (omega arith) (omega arith) (edge_place a.records.now a.i c.requires.1.1) p.result p.ensures (ap kind_read c.in-Edge.is))
-    (sym c.edge_disordered.ensures ∙ c.if-edge_disordered.false)
+    (sym c.disordered.ensures ∙ c.if-disordered.false)

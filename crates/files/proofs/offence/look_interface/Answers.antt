@@ -14,14 +14,14 @@ returns-then-i-ge1 c =
 pub returns-in_default : goal.returns-in_default
 returns-in_default c =
     let a = c.args in
-    let p = c.parse_interface-p in
+    let p = c.parse_as-p in
     let place = interface_place a.records.now a.i c.if-i-ge1.false in
     unread_found interface a.records.now a.first a.position a.i 5 (omega arith) (omega arith) place p.result p.ensures (not_interface p.result c.in_default.not-Interface) c.unread.result c.unread.ensures
 
 pub returns : goal.returns
 returns c =
     let a = c.args in
-    let p = c.parse_interface-p in
+    let p = c.parse_as-p in
     let place = interface_place a.records.now a.i c.if-i-ge1.false in
     nothing_found interface a.records.now a.first a.position a.i
     (read_found interface a.records.now a.first a.position a.i 5 (omega arith) (omega arith) place p.result p.ensures (ap kind_read c.in-Interface.is)) refl

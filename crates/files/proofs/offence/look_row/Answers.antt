@@ -9,12 +9,12 @@ use Rattle.files.proofs.offence.look_row.Goals as goal
 pub returns-in_default : goal.returns-in_default
 returns-in_default c =
     let a = c.args in
-    let p = c.parse_row-p in
+    let p = c.parse_as-p in
     unread_found property a.records.now a.first a.position a.i 3 (omega arith) (omega arith) refl p.result p.ensures (not_row p.result c.in_default.not-Row) c.unread.result c.unread.ensures
 
 pub returns : goal.returns
 returns c =
     let a = c.args in
-    let p = c.parse_row-p in
+    let p = c.parse_as-p in
     nothing_found property a.records.now a.first a.position a.i
     (read_found property a.records.now a.first a.position a.i 3 (omega arith) (omega arith) refl p.result p.ensures (ap kind_read c.in-Row.is)) refl

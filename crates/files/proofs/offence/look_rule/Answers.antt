@@ -9,21 +9,21 @@ use Rattle.files.proofs.offence.look_rule.Goals as goal
 pub returns-in_default : goal.returns-in_default
 returns-in_default c =
     let a = c.args in
-    let p = c.parse_rule-p in
+    let p = c.parse_as-p in
     unread_found rules a.records.now a.first a.position a.i 4 (omega arith) (omega arith) refl p.result p.ensures (not_rule p.result c.in_default.not-Rule) c.unread.result c.unread.ensures
 
-pub returns-then-rule_disordered : goal.returns-then-rule_disordered
-returns-then-rule_disordered c =
+pub returns-then-disordered : goal.returns-then-disordered
+returns-then-disordered c =
     let a = c.args in
-    let p = c.parse_rule-p in
+    let p = c.parse_as-p in
     four_found rules a.records.now a.first a.position a.i c.at.result
     (read_found rules a.records.now a.first a.position a.i 4 (omega arith) (omega arith) refl p.result p.ensures (ap kind_read c.in-Rule.is))
-    (sym c.rule_disordered.ensures ∙ c.if-rule_disordered.true) c.at.ensures
+    (sym c.disordered.ensures ∙ c.if-disordered.true) c.at.ensures
 
 pub returns : goal.returns
 returns c =
     let a = c.args in
-    let p = c.parse_rule-p in
+    let p = c.parse_as-p in
     nothing_found rules a.records.now a.first a.position a.i
     (read_found rules a.records.now a.first a.position a.i 4 (omega arith) (omega arith) refl p.result p.ensures (ap kind_read c.in-Rule.is))
-    (sym c.rule_disordered.ensures ∙ c.if-rule_disordered.false)
+    (sym c.disordered.ensures ∙ c.if-disordered.false)

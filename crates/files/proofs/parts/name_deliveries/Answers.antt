@@ -1,7 +1,4 @@
-use mathlib.Core.Path.{◌≡◌, refl, sym, ap, ◌∙◌}
-use native.Mathlib.Omega.{arith}
-use Rattle.files.specs.Record.{count}
-use Rattle.files.specs.Checking.{lowest}
+use mathlib.Core.Path.{refl, sym}
 use Rattle.files.specs.Checking.Laws.{lowest_none}
 use Rattle.files.specs.Deliveries.Names.{held_none}
 use Rattle.files.specs.Deliveries.Steps.{delivery_test}
@@ -9,32 +6,13 @@ use Rattle.files.proofs.CheckLaws.{lowest_on}
 use Rattle.files.proofs.parts.name_deliveries.Goals as goal
 
 pub loop-i-init : goal.loop-i-init
-loop-i-init c = let a = c.args in (omega arith, held_none a.file.now _ refl, sym (lowest_none 2 7 (delivery_test a.file.now) 0 a.position))
-
-pub name_delivery-next-requires : goal.name_delivery-next-requires
-name_delivery-next-requires c = (c.requires, (c.loop-i-test.true, c.loop-i.invariant.1))
-
-pub next_part-part-requires : goal.next_part-part-requires
-next_part-part-requires c = (c.loop-i-test.true, c.loop-i.invariant.1)
-
-pub overflow_add-i : goal.overflow_add-i
-overflow_add-i c = omega arith
-
-pub loop-i-smaller : goal.loop-i-smaller
-loop-i-smaller c = omega arith
+loop-i-init c = let a = c.args in (held_none a.file.now _ refl, sym (lowest_none 2 7 (delivery_test a.file.now) 0 a.position))
 
 pub loop-i-preserved : goal.loop-i-preserved
 loop-i-preserved c =
     let a = c.args in
     let loop = c.loop-i in (
-      omega arith,
       c.next_part-part.ensures,
-      lowest_on 2 7 (delivery_test a.file.now) 0 a.position loop.i loop.found c.name_delivery-next.result c.lower-found.result loop.invariant.2
+      lowest_on 2 7 (delivery_test a.file.now) 0 a.position loop.i loop.found c.name_delivery-next.result c.lower-found.result loop.invariant.1
           c.name_delivery-next.ensures c.lower-found.ensures,
     )
-
-pub returns : goal.returns
-returns c =
-    let a = c.args in
-    let e : c.loop-i.i ≡ count a.file.now = omega arith in
-    c.loop-i.invariant.2 ∙ ap (lowest 2 7 (delivery_test a.file.now) 0 a.position) e

@@ -8,50 +8,27 @@ use Rattle.files.specs.Checking.{Sound}
 use Rattle.files.specs.Deliveries.Names.{held_within, edge_held}
 use Rattle.files.proofs.parts.name_edge.Goals as goal
 
-pub overflow_mul-from : goal.overflow_mul-from
-overflow_mul-from c =
+pub records_in-requires : goal.records_in-requires
+records_in-requires c =
     let a = c.args in
     let w = held_within a.file.now c.requires.0 a.i c.requires.1.0 c.requires.1.1.1.1 a.part c.requires.1.1.0 in
-    omega (arith, c.requires.1.0, w.from_start, w.to_end, w.end_in)
-
-pub overflow_mul-to : goal.overflow_mul-to
-overflow_mul-to c =
-    let a = c.args in
-    let w = held_within a.file.now c.requires.0 a.i c.requires.1.0 c.requires.1.1.1.1 a.part c.requires.1.1.0 in
-    omega (arith, c.requires.1.0, w.from_start, w.to_end, w.end_in)
-
-pub slice_bounds-name_nodes-count : goal.slice_bounds-name_nodes-count
-slice_bounds-name_nodes-count c =
-    let a = c.args in
-    let w = held_within a.file.now c.requires.0 a.i c.requires.1.0 c.requires.1.1.1.1 a.part c.requires.1.1.0 in
-    omega (arith, c.requires.1.0, w.from_start, w.to_end, w.end_in)
-
-pub slice_bounds-name_nodes-start : goal.slice_bounds-name_nodes-start
-slice_bounds-name_nodes-start c =
-    let a = c.args in
-    let w = held_within a.file.now c.requires.0 a.i c.requires.1.0 c.requires.1.1.1.1 a.part c.requires.1.1.0 in
-    omega (arith, c.requires.1.0, w.from_start, w.to_end, w.end_in)
-
-pub slice_bounds-name_nodes-end : goal.slice_bounds-name_nodes-end
-slice_bounds-name_nodes-end c =
-    let a = c.args in
-    let w = held_within a.file.now c.requires.0 a.i c.requires.1.0 c.requires.1.1.1.1 a.part c.requires.1.1.0 in
-    omega (arith, c.requires.1.0, w.from_start, w.to_end, w.end_in)
+    (omega (arith, w.from_start, w.to_end), w.end_in)
 
 pub overflow_sub-i : goal.overflow_sub-i
 overflow_sub-i c =
     let a = c.args in
     let w = held_within a.file.now c.requires.0 a.i c.requires.1.0 c.requires.1.1.1.1 a.part c.requires.1.1.0 in
-    omega (arith, c.requires.1.0, w.from_start, w.to_end, w.end_in)
+    w.from_start
 
 pub name_nodes-requires : goal.name_nodes-requires
 name_nodes-requires c =
     let a = c.args in
-    let w = held_within a.file.now c.requires.0 a.i c.requires.1.0 c.requires.1.1.1.1 a.part c.requires.1.1.0 in (
-      subst (Sound graph) (sym w.is_part) w.part_is_sound,
+    let w = held_within a.file.now c.requires.0 a.i c.requires.1.0 c.requires.1.1.1.1 a.part c.requires.1.1.0 in
+    let e = c.records_in.ensures ∙ w.is_part in (
+      subst (Sound graph) (sym e) w.part_is_sound,
       (
-        w.nodes_are ∙ ap nodes_of (sym w.is_part),
-        (subst (λ (m : List ℕ). a.i - a.part.start < count m) (sym w.is_part) w.number_within, omega (arith, w.from_start)),
+        w.nodes_are ∙ ap nodes_of (sym e),
+        (subst (λ (m : List ℕ). a.i - a.part.start < count m) (sym e) w.number_within, omega (arith, w.from_start)),
       ),
     )
 
@@ -59,4 +36,4 @@ pub returns : goal.returns
 returns c =
     let a = c.args in
     let w = held_within a.file.now c.requires.0 a.i c.requires.1.0 c.requires.1.1.1.1 a.part c.requires.1.1.0 in
-    c.name_nodes.ensures ∙ edge_held a.file.now c.requires.0 a.i c.requires.1.0 c.requires.1.1.1.1 c.requires.1.1.1.0 a.position a.part c.requires.1.1.0 _ w.is_part
+    c.name_nodes.ensures ∙ edge_held a.file.now c.requires.0 a.i c.requires.1.0 c.requires.1.1.1.1 c.requires.1.1.1.0 a.position a.part c.requires.1.1.0 _ (c.records_in.ensures ∙ w.is_part)

@@ -1,34 +1,18 @@
-use mathlib.Core.Path.{sym, ◌∙◌}
+use mathlib.Core.Path.{◌≡◌, sym, ◌∙◌}
 use native.Mathlib.Omega.{arith}
-use Rattle.files.specs.Deliveries.Names.{end_is, none_more}
+use Rattle.files.specs.Record.{count}
+use Rattle.files.specs.Deliveries.Names.{end_is}
 use Rattle.files.proofs.parts.part_end.Goals as goal
-
-pub loop-e-init : goal.loop-e-init
-loop-e-init c = (omega arith, omega (arith, c.requires), λ i h k q. absurd (omega arith))
-
-pub kind_at-requires : goal.kind_at-requires
-kind_at-requires c = omega arith
 
 pub returns-then-kind_at-eq-OPENING : goal.returns-then-kind_at-eq-OPENING
 returns-then-kind_at-eq-OPENING c =
     let a = c.args in
     let loop = c.loop-e in
-    end_is a.file.now a.a loop.e loop.invariant.0 (omega (arith, loop.invariant.1)) loop.invariant.2 (λ h. sym c.kind_at.ensures ∙ c.if-kind_at-eq-OPENING.true)
-
-pub overflow_add-e : goal.overflow_add-e
-overflow_add-e c = omega arith
-
-pub loop-e-smaller : goal.loop-e-smaller
-loop-e-smaller c = omega arith
-
-pub loop-e-preserved : goal.loop-e-preserved
-loop-e-preserved c =
-    let a = c.args in
-    let loop = c.loop-e in
-    (omega (arith, loop.invariant.0), omega (arith, c.loop-e-test.true), none_more a.file.now a.a loop.e loop.invariant.2 (λ q. c.if-kind_at-eq-OPENING.false (c.kind_at.ensures ∙ q)))
+    end_is a.file.now a.a loop.e (omega arith) (omega arith) loop.invariant (λ h. sym c.kind_at.ensures ∙ c.if-kind_at-eq-OPENING.true)
 
 pub returns : goal.returns
 returns c =
     let a = c.args in
     let loop = c.loop-e in
-    end_is a.file.now a.a loop.e loop.invariant.0 (omega (arith, loop.invariant.1)) loop.invariant.2 (λ h. absurd (omega (arith, c.loop-e-test.false, h)))
+    let e : count a.file.now ≡ loop.e = omega arith in
+    e ∙ end_is a.file.now a.a loop.e (omega arith) (omega arith) loop.invariant (λ h. absurd (omega (arith, h)))

@@ -1,11 +1,7 @@
 -- All records looked at so far are edges in order, and the next one's number must be past the last one's.
-use Prim.Native.Nat.{◌-◌, ◌≤◌}
 use Rattle.files.specs.Plain.{PlainEdges}
 use Rattle.files.proofs.PlainLaws.{Below}
 use Rattle.files.proofs.plain.plain_edges.Given as goal
 
 abbrev pub invariant-loop-i : goal.invariant-loop-i
-invariant-loop-i l = (l.nodes ≤ l.i) × (l.i ≤ l.n) × PlainEdges l.records l.nodes l.i × Below l.records l.nodes l.i l.least
-
-abbrev pub decreases-loop-i : goal.decreases-loop-i
-decreases-loop-i l = l.n - l.i
+invariant-loop-i l = PlainEdges l.records l.nodes l.i × Below l.records l.nodes l.i l.least

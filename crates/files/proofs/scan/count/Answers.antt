@@ -1,4 +1,4 @@
-use mathlib.Core.Path.{◌≡◌, refl, sym, ap, ◌∙◌}
+use mathlib.Core.Path.{◌≡◌, sym, ap, ◌∙◌}
 use native.Mathlib.Omega.{arith}
 use Rattle.files.specs.Basics.Tests.{one_le}
 use Rattle.files.specs.Basics.Tables.{tally, tally_le}
@@ -6,29 +6,13 @@ use Rattle.files.specs.Record.{count}
 use Rattle.files.specs.FileKind.{kind_of}
 use Rattle.files.specs.Checking.{counts}
 use Rattle.files.specs.Checking.Laws.{counted_is}
-use Rattle.files.proofs.CheckLaws.{tally_more}
 use Rattle.files.proofs.scan.count.Goals as goal
 
-pub loop-i-init : goal.loop-i-init
-loop-i-init c = (omega arith, refl)
-
-pub counts-this-requires : goal.counts-this-requires
-counts-this-requires c = omega arith
-
 pub overflow_add-apart : goal.overflow_add-apart
-overflow_add-apart c = omega (arith, c.loop-i.invariant.1, tally_le (counts (kind_of c.args.kind) c.args.records.now) c.loop-i.i, one_le c.counts-this.result)
-
-pub overflow_add-i : goal.overflow_add-i
-overflow_add-i c = omega arith
-
-pub loop-i-smaller : goal.loop-i-smaller
-loop-i-smaller c = omega arith
-
-pub loop-i-preserved : goal.loop-i-preserved
-loop-i-preserved c = (omega arith, tally_more (counts (kind_of c.args.kind) c.args.records.now) c.loop-i.i c.loop-i.apart c.counts-this.result c.loop-i.invariant.1 c.counts-this.ensures)
+overflow_add-apart c = omega (arith, c.loop-i.invariant, tally_le (counts (kind_of c.args.kind) c.args.records.now) c.loop-i.i, one_le c.counts-this.result)
 
 pub returns : goal.returns
 returns c =
     let a = c.args in
     let e : c.loop-i.i ≡ count a.records.now = omega arith in
-    c.loop-i.invariant.1 ∙ ap (tally (counts (kind_of a.kind) a.records.now)) e ∙ sym (counted_is (kind_of a.kind) a.records.now)
+    c.loop-i.invariant ∙ ap (tally (counts (kind_of a.kind) a.records.now)) e ∙ sym (counted_is (kind_of a.kind) a.records.now)

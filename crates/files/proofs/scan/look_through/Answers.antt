@@ -1,35 +1,16 @@
-use mathlib.Core.Path.{◌≡◌, sym, ap, ◌∙◌}
-use native.Mathlib.Omega.{arith}
-use Rattle.files.specs.Record.{count}
+use mathlib.Core.Path.{sym}
 use Rattle.files.specs.FileKind.{kind_of}
-use Rattle.files.specs.Checking.{test, lowest}
+use Rattle.files.specs.Checking.{test}
 use Rattle.files.specs.Checking.Laws.{lowest_none}
 use Rattle.files.proofs.CheckLaws.{lowest_on}
 use Rattle.files.proofs.scan.look_through.Goals as goal
 
 pub loop-i-init : goal.loop-i-init
-loop-i-init c = let a = c.args in (omega arith, sym (lowest_none 3 2 (test (kind_of a.kind) a.records.now) a.first a.position))
-
-pub look-next-requires : goal.look-next-requires
-look-next-requires c = (omega arith, omega (arith, c.requires))
-
-pub overflow_add-i : goal.overflow_add-i
-overflow_add-i c = omega arith
-
-pub loop-i-smaller : goal.loop-i-smaller
-loop-i-smaller c = omega arith
+loop-i-init c = let a = c.args in sym (lowest_none 3 2 (test (kind_of a.kind) a.records.now) a.first a.position)
 
 pub loop-i-preserved : goal.loop-i-preserved
 loop-i-preserved c =
     let a = c.args in
-    let loop = c.loop-i in (
-      omega arith,
-      lowest_on 3 2 (test (kind_of a.kind) a.records.now) a.first a.position loop.i loop.found c.look-next.result c.lower-found.result loop.invariant.1
-          c.look-next.ensures c.lower-found.ensures,
-    )
-
-pub returns : goal.returns
-returns c =
-    let a = c.args in
-    let e : c.loop-i.i ≡ count a.records.now = omega arith in
-    c.loop-i.invariant.1 ∙ ap (lowest 3 2 (test (kind_of a.kind) a.records.now) a.first a.position) e
+    let loop = c.loop-i in
+    lowest_on 3 2 (test (kind_of a.kind) a.records.now) a.first a.position loop.i loop.found c.look-next.result c.lower-found.result loop.invariant
+    c.look-next.ensures c.lower-found.ensures

@@ -1,11 +1,7 @@
 use mathlib.Core.Path.{◌≡◌}
-use Prim.Native.Nat.{◌≤◌, ◌-◌}
 use Rattle.files.specs.FileKind.{kind_of}
 use Rattle.files.specs.Checking.{test, lowest}
 use Rattle.files.proofs.scan.name_through.Given as goal
 
 abbrev pub invariant-loop-i : goal.invariant-loop-i
-invariant-loop-i l = (l.i ≤ l.n) × (l.found ≡ lowest 2 7 (test (kind_of l.kind) l.records) l.first l.position l.i)
-
-abbrev pub decreases-loop-i : goal.decreases-loop-i
-decreases-loop-i l = l.n - l.i
+invariant-loop-i l = l.found ≡ lowest 2 7 (test (kind_of l.kind) l.records) l.first l.position l.i

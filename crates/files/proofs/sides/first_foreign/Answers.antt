@@ -1,41 +1,19 @@
-use mathlib.Core.Path.{◌≡◌, refl, sym, ap, ◌∙◌}
+use mathlib.Core.Path.{◌≡◌, sym, ap, ◌∙◌}
 use native.Mathlib.Omega.{arith}
 use Rattle.files.specs.Record.{count}
 use Rattle.files.specs.Interface.{Interface}
 use Rattle.files.specs.Sides.{first_foreign_record}
 use Rattle.files.specs.Sides.Reads.{foreign_at, foreign_never}
 use Rattle.files.proofs.AccessLaws.{of_sets}
-use Rattle.files.proofs.CheckLaws.{scan_on}
 use Rattle.files.proofs.sides.first_foreign.Goals as goal
-
-pub provided_methods-provided-requires : goal.provided_methods-provided-requires
-provided_methods-provided-requires c = c.requires.1
-
-pub required_methods-required-requires : goal.required_methods-required-requires
-required_methods-required-requires c = c.requires.1
-
-pub loop-i-init : goal.loop-i-init
-loop-i-init c = (omega arith, refl)
-
-pub foreign-requires : goal.foreign-requires
-foreign-requires c = omega arith
 
 pub returns-then-foreign : goal.returns-then-foreign
 returns-then-foreign c =
-    sym (foreign_at _ c.args.graph.now c.requires.0 c.loop-i.i c.loop-i-test.true c.loop-i.invariant.1 (sym c.foreign.ensures ∙ c.if-foreign.true))
+    sym (foreign_at _ c.args.graph.now c.requires.0 c.loop-i.i (omega arith) c.loop-i.invariant (sym c.foreign.ensures ∙ c.if-foreign.true))
     ∙ ap (λ (I : Interface). first_foreign_record I c.args.graph.now) (of_sets _ _ _ c.provided_methods-provided.ensures c.required_methods-required.ensures)
-
-pub overflow_add-i : goal.overflow_add-i
-overflow_add-i c = omega arith
-
-pub loop-i-smaller : goal.loop-i-smaller
-loop-i-smaller c = omega arith
-
-pub loop-i-preserved : goal.loop-i-preserved
-loop-i-preserved c = (omega arith, scan_on _ c.loop-i.i c.loop-i.invariant.1 (sym c.foreign.ensures ∙ c.if-foreign.false))
 
 pub returns : goal.returns
 returns c =
     let e : c.loop-i.i ≡ count c.args.graph.now = omega arith in
-    sym (foreign_never _ c.args.graph.now c.requires.0 (rw (← e) c.loop-i.invariant.1))
+    sym (foreign_never _ c.args.graph.now c.requires.0 (rw (← e) c.loop-i.invariant))
     ∙ ap (λ (I : Interface). first_foreign_record I c.args.graph.now) (of_sets _ _ _ c.provided_methods-provided.ensures c.required_methods-required.ensures)

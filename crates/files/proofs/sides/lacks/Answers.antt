@@ -1,31 +1,12 @@
-use mathlib.Core.Path.{sym, ap₂, ◌∙◌}
-use mathlib.Core.Bool.{Bool, not, ◌&&◌}
-use native.Mathlib.Omega.{arith}
-use Rattle.files.specs.Sides.Looks.{method_passes, method_fails, methods_end, lacks_looks}
+use Rattle.std.proofs.Common.{ℕ, not, ◌&&◌, rules, tests, sym, refl, ◌∙◌}
+use Rattle.std.proofs.lemmas.Iterator.{YieldsList-from_range}
+use Rattle.std.proofs.lemmas.Iterator.Search.{any_from_yields_List}
+use Rattle.files.specs.Interface.{in_set}
+use Rattle.files.specs.Sides.Looks.{lacks_looks}
 use Rattle.files.proofs.sides.lacks.Goals as goal
 
-pub loop-m-init : goal.loop-m-init
-loop-m-init c = (omega arith, lacks_looks (record { provided = c.args.provided; required = c.args.required }))
-
-pub returns-then-in_set : goal.returns-then-in_set
-returns-then-in_set c =
-    let l = c.loop-m in
-    sym (l.invariant.1 ∙ method_passes _ l.m c.loop-m-test.true
-    (ap₂ (λ (a b : Bool). a && not b) (sym c.in_set.ensures) (sym c.in_set-in-loop-m.ensures) ∙ c.if-in_set.true))
-
-pub overflow_add-m : goal.overflow_add-m
-overflow_add-m c = omega arith
-
-pub loop-m-smaller : goal.loop-m-smaller
-loop-m-smaller c = omega arith
-
-pub loop-m-preserved : goal.loop-m-preserved
-loop-m-preserved c =
-    let l = c.loop-m in (
-      omega arith,
-      l.invariant.1 ∙ method_fails _ l.m c.loop-m-test.true
-          (ap₂ (λ (a b : Bool). a && not b) (sym c.in_set.ensures) (sym c.in_set-in-loop-m.ensures) ∙ c.if-in_set.false),
-    )
-
 pub returns : goal.returns
-returns c = sym (c.loop-m.invariant.1 ∙ methods_end _ c.loop-m.m c.loop-m-test.false)
+returns c =
+    let a = c.args in
+    any_from_yields_List (λ (m : ℕ). in_set a.required m && not (in_set a.provided m)) _ _ _ c.any.ensures.ran (YieldsList-from_range 1 9 8 refl refl) (λ x b q k. search (rules, tests))
+    ∙ sym (lacks_looks (record { provided = a.provided; required = a.required }))

@@ -1,39 +1,14 @@
-use mathlib.Core.Path.{sym, ap₂, ◌∙◌}
-use mathlib.Core.Bool.{Bool, not, ◌&&◌}
-use native.Mathlib.Omega.{arith}
+use Rattle.std.proofs.Common.{ℕ, not, ◌&&◌, rules, tests, sym, refl, ◌∙◌}
+use Rattle.std.proofs.lemmas.Iterator.{YieldsList-from_range}
+use Rattle.std.proofs.lemmas.Iterator.Search.{any_from_yields_List}
 use Rattle.files.specs.Decode.{decode_graph, decode_interface}
+use Rattle.files.specs.Interface.{provides}
+use Rattle.files.specs.Sides.{has_entry}
 use Rattle.files.specs.Sides.Entries.{lacks_entry_looks}
-use Rattle.files.specs.Sides.Looks.{method_passes, method_fails, methods_end}
 use Rattle.files.proofs.sides.lacks_entry.Goals as goal
 
-pub loop-m-init : goal.loop-m-init
-loop-m-init c = let a = c.args in (omega arith, lacks_entry_looks (decode_interface a.interface.now) (decode_graph a.graph.now))
-
-pub provides-requires : goal.provides-requires
-provides-requires c = c.requires.0
-
-pub has_entry-requires : goal.has_entry-requires
-has_entry-requires c = c.requires.1
-
-pub returns-then-provides-has_entry : goal.returns-then-provides-has_entry
-returns-then-provides-has_entry c =
-    let l = c.loop-m in
-    sym (l.invariant.1 ∙ method_passes _ l.m c.loop-m-test.true
-    (ap₂ (λ (a b : Bool). a && not b) (sym c.provides.ensures) (sym c.has_entry.ensures) ∙ c.if-provides-has_entry.true))
-
-pub overflow_add-m : goal.overflow_add-m
-overflow_add-m c = omega arith
-
-pub loop-m-smaller : goal.loop-m-smaller
-loop-m-smaller c = omega arith
-
-pub loop-m-preserved : goal.loop-m-preserved
-loop-m-preserved c =
-    let l = c.loop-m in (
-      omega arith,
-      l.invariant.1 ∙ method_fails _ l.m c.loop-m-test.true
-          (ap₂ (λ (a b : Bool). a && not b) (sym c.provides.ensures) (sym c.has_entry.ensures) ∙ c.if-provides-has_entry.false),
-    )
-
 pub returns : goal.returns
-returns c = sym (c.loop-m.invariant.1 ∙ methods_end _ c.loop-m.m c.loop-m-test.false)
+returns c =
+    let I = decode_interface c.args.interface.now in
+    let G = decode_graph c.args.graph.now in
+    any_from_yields_List (λ (m : ℕ). provides I m && not (has_entry G m)) _ _ _ c.any.ensures.ran (YieldsList-from_range 1 9 8 refl refl) (λ x b q k. search (rules, tests)) ∙ sym (lacks_entry_looks I G)

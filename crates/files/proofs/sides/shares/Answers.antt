@@ -1,38 +1,13 @@
-use mathlib.Core.Path.{sym, ap₂, ◌∙◌}
-use mathlib.Core.Bool.{◌&&◌}
-use native.Mathlib.Omega.{arith}
+use Rattle.std.proofs.Common.{ℕ, ◌&&◌, rules, tests, sym, refl, ◌∙◌}
+use Rattle.std.proofs.lemmas.Iterator.{YieldsList-from_range}
+use Rattle.std.proofs.lemmas.Iterator.Search.{any_from_yields_List}
 use Rattle.files.specs.Decode.{decode_interface}
-use Rattle.files.specs.Sides.Looks.{method_passes, method_fails, methods_end, shares_looks}
+use Rattle.files.specs.Interface.{provides}
+use Rattle.files.specs.Sides.Looks.{shares_looks}
 use Rattle.files.proofs.sides.shares.Goals as goal
 
-pub loop-m-init : goal.loop-m-init
-loop-m-init c = let a = c.args in (omega arith, shares_looks (decode_interface a.first.now) (decode_interface a.second.now))
-
-pub provides-requires : goal.provides-requires
-provides-requires c = c.requires.0
-
-pub provides-requires-in-loop-m : goal.provides-requires-in-loop-m
-provides-requires-in-loop-m c = c.requires.1
-
-pub returns-then-provides : goal.returns-then-provides
-returns-then-provides c =
-    let l = c.loop-m in
-    sym (l.invariant.1 ∙ method_passes _ l.m c.loop-m-test.true
-    (ap₂ ◌&&◌ (sym c.provides.ensures) (sym c.provides-in-loop-m.ensures) ∙ c.if-provides.true))
-
-pub overflow_add-m : goal.overflow_add-m
-overflow_add-m c = omega arith
-
-pub loop-m-smaller : goal.loop-m-smaller
-loop-m-smaller c = omega arith
-
-pub loop-m-preserved : goal.loop-m-preserved
-loop-m-preserved c =
-    let l = c.loop-m in (
-      omega arith,
-      l.invariant.1 ∙ method_fails _ l.m c.loop-m-test.true
-          (ap₂ ◌&&◌ (sym c.provides.ensures) (sym c.provides-in-loop-m.ensures) ∙ c.if-provides.false),
-    )
-
 pub returns : goal.returns
-returns c = sym (c.loop-m.invariant.1 ∙ methods_end _ c.loop-m.m c.loop-m-test.false)
+returns c =
+    let I = decode_interface c.args.first.now in
+    let J = decode_interface c.args.second.now in
+    any_from_yields_List (λ (m : ℕ). provides I m && provides J m) _ _ _ c.any.ensures.ran (YieldsList-from_range 1 9 8 refl refl) (λ x b q k. search (rules, tests)) ∙ sym (shares_looks I J)

@@ -1,13 +1,9 @@
 -- What one pass keeps stands: the part behind its opening, or no part.
 use mathlib.Core.Path.{sym, ◌∙◌}
-use native.Mathlib.Omega.{arith}
 use Rattle.files.specs.Record.{count}
 use Rattle.files.specs.Assemble.Stood.{none_stands, part_stands}
 use Rattle.files.specs.Deliveries.Latest.{kept_within}
 use Rattle.files.proofs.stood.standing_part.Goals as goal
-
-pub bounds-kept-method : goal.bounds-kept-method
-bounds-kept-method c = omega (arith, c.requires.1, c.requires.0.kept_are.as_many)
 
 pub returns-then-start-eq0 : goal.returns-then-start-eq0
 returns-then-start-eq0 c =

@@ -1,9 +1,6 @@
-use Prim.Native.Nat.{◌-◌, ◌≤◌}
+use Prim.Native.Nat.{◌-◌}
 use Rattle.files.specs.Assemble.Stood.{Summed}
 use Rattle.files.proofs.stood.standing_view.Given as goal
 
 abbrev pub invariant-loop-method : goal.invariant-loop-method
-invariant-loop-method l = (1 ≤ l.method) × (l.method ≤ 9) × (Summed l.file (l.method - 1) l.nodes l.edges)
-
-abbrev pub decreases-loop-method : goal.decreases-loop-method
-decreases-loop-method l = 9 - l.method
+invariant-loop-method l = Summed l.file (l.method - 1) l.nodes l.edges

@@ -1,6 +1,7 @@
 -- The theorems of specs/Delivered/Meaning that rest on a definition which a must-fail edit turns: there they could not be read under the edit.
 -- Meaning: What a returned value of judging deliveries means, and what becomes of it where a delivery is appended. The only hypothesis is what the contract of `judge_deliveries` states.
-use Rattle.std.specs.Prelude.{List, ℕ, length}
+use Rattle.files.specs.declared.refusal.Refusal.{Refusal}
+use Rattle.std.specs.Prelude.{List, ℕ, length, Result}
 use Rattle.files.specs.Assemble.{standing_graph}
 use Rattle.files.specs.Decode.{decode_property}
 use Rattle.files.specs.Outcome.{DoesBoth}
@@ -13,7 +14,7 @@ use Rattle.judging.specs.Judge.Meaning.{judged_enum, verdict_tells}
 use Rattle.judging.specs.declared.answers.Judged.{Judged}
 use Rattle.judging.specs.Delivered.Meaning.{DeliveredMeans, decided, ls}
 
-module _ {R : Type 0} (tell : Judged → R) (heard : Heard tell) (L : Limits) (l p out store work out' store' work' : List ℕ) (c : Judged)
+module _ {R : Type 0} (tell : Result Judged Refusal → R) (heard : Heard tell) (L : Limits) (l p out store work out' store' work' : List ℕ) (c : Result Judged Refusal)
     (does : DoesBoth (delivered L l p (length out) (length store) (length work)) out store work out' store' work' (judged_answer c)) where
   pub delivered_tells : DeliveredMeans tell L l p out store work out' store' work' (tell c)
   delivered_tells = record {
@@ -24,6 +25,6 @@ module _ {R : Type 0} (tell : Judged → R) (heard : Heard tell) (L : Limits) (l
   }
 
 -- The returned value, from what the contract states of it.
-pub delivered_means : (L : Limits) (l p out store work out' store' work' : List ℕ) (r : Judged)
+pub delivered_means : (L : Limits) (l p out store work out' store' work' : List ℕ) (r : Result Judged Refusal)
     → DoesBoth (delivered L l p (length out) (length store) (length work)) out store work out' store' work' (judged_answer r) → DeliveredMeans itself L l p out store work out' store' work' r
 delivered_means L l p out store work out' store' work' r does = delivered_tells itself heard_itself L l p out store work out' store' work' r does

@@ -1,6 +1,7 @@
 -- The theorems of specs/Judge/Meaning that rest on a definition which a must-fail edit turns: there they could not be read under the edit.
 -- Meaning: What a returned value of judging means. The only hypothesis is what the contract of `judge` states.
-use Rattle.std.specs.Prelude.{List, ℕ, length}
+use Rattle.files.specs.declared.refusal.Refusal.{Refusal}
+use Rattle.std.specs.Prelude.{List, ℕ, length, Result}
 use Rattle.files.specs.Decode.{decode_graph, decode_property}
 use Rattle.files.specs.Outcome.{Does}
 use Rattle.files.specs.Outcome.Meaning.{Heard, itself, heard_itself, clears_by}
@@ -10,7 +11,7 @@ use Rattle.judging.specs.Judge.{judged_answer, judged}
 use Rattle.judging.proofs.Theorems.Judge.Laws.{judge_says}
 use Rattle.judging.specs.Judge.Meaning.{JudgeMeans, decided, judged_enum, ls, verdict_tells}
 
-module _ {R : Type 0} (tell : Judged → R) (heard : Heard tell) (L : Limits) (g p out work out' work' : List ℕ) (c : Judged)
+module _ {R : Type 0} (tell : Result Judged Refusal → R) (heard : Heard tell) (L : Limits) (g p out work out' work' : List ℕ) (c : Result Judged Refusal)
     (does : Does (judged L g p (length out) (length work)) out work out' work' (judged_answer c)) where
   pub judge_tells : JudgeMeans tell L g p out work out' work' (tell c)
   judge_tells = record {
@@ -19,6 +20,6 @@ module _ {R : Type 0} (tell : Judged → R) (heard : Heard tell) (L : Limits) (g
   }
 
 -- The returned value, from what the contract states of it.
-pub judge_means : (L : Limits) (g p out work out' work' : List ℕ) (r : Judged)
+pub judge_means : (L : Limits) (g p out work out' work' : List ℕ) (r : Result Judged Refusal)
     → Does (judged L g p (length out) (length work)) out work out' work' (judged_answer r) → JudgeMeans itself L g p out work out' work' r
 judge_means L g p out work out' work' r does = judge_tells itself heard_itself L g p out work out' work' r does

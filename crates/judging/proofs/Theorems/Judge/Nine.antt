@@ -1,6 +1,6 @@
 -- The theorems of specs/Judge/Nine that rest on a definition which a must-fail edit turns: there they could not be read under the edit.
 -- Nine: "nine boxes and one operator 10 must get equal verdicts on every graph", on the bytes of the files.
-use Rattle.std.specs.Prelude.{◌≡◌, ◌↔◌, Bool, cond, List, ℕ}
+use Rattle.std.specs.Prelude.{◌≡◌, ◌↔◌, Bool, cond, List, ℕ, Result, Ok, Err}
 use Rattle.std.proofs.Common.{sym, ap, subst, ◌∙◌, arith}
 use Rattle.std.proofs.Math.Option.{none}
 use Rattle.files.specs.Decode.{decode_graph, decode_property}
@@ -12,7 +12,7 @@ use Rattle.files.specs.Refusal.{graph, property, refusal}
 use Rattle.files.specs.declared.record.Limits.{Limits}
 use Rattle.files.specs.declared.refusal.Refusal.{Refusal}
 use Rattle.judging.specs.declared.answers.Judged.{Judged}
-use Rattle.judging.specs.declared.answers.Judged.TheVariants.{Holds, Refused}
+use Rattle.judging.specs.declared.answers.Judged.TheVariants.{Holds}
 use Rattle.judging.specs.Judge.{judge_said, judged}
 use Rattle.judging.specs.Judge.Laws.{judge_files}
 use Rattle.judging.specs.Judge.Meaning.{JudgeMeans}
@@ -49,9 +49,9 @@ all_nine_judged L M g p q out work out' work' s t e =
     nine_judged L M g p q out work out' work' s t (subst (SpellsOut (decode_property p)) (sym e) (all_nine_spells (decode_property p)))
 
 -- The same of what the two calls return, at the C boundary too: neither refused, "holds" of the one exactly where "holds" of the other.
-pub nine_holds : {R : Type 0} (tell : Judged → R) (L M : Limits) (g p q out work out' work' : List ℕ) (r : R) (out₂ work₂ out₂' work₂' : List ℕ) (r₂ : R)
+pub nine_holds : {R : Type 0} (tell : Result Judged Refusal → R) (L M : Limits) (g p q out work out' work' : List ℕ) (r : R) (out₂ work₂ out₂' work₂' : List ℕ) (r₂ : R)
     → SpellsOut (decode_property p) (decode_property q) → JudgeMeans tell L g p out work out' work' r → JudgeMeans tell M g q out₂ work₂ out₂' work₂' r₂
-    → ((x : Refusal) → r ≡ tell (Refused x) → ⊥) → ((x : Refusal) → r₂ ≡ tell (Refused x) → ⊥) → (r ≡ tell Holds) ↔ (r₂ ≡ tell Holds)
+    → ((x : Refusal) → r ≡ tell (Err x) → ⊥) → ((x : Refusal) → r₂ ≡ tell (Err x) → ⊥) → (r ≡ tell (Ok Holds)) ↔ (r₂ ≡ tell (Ok Holds))
 nine_holds tell L M g p q out work out' work' r out₂ work₂ out₂' work₂' r₂ spells a b f h =
     let t = a.verdict.refuses.accepted_iff.0 f in
     let u = b.verdict.refuses.accepted_iff.0 h in

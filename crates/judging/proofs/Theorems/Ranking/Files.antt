@@ -3,7 +3,7 @@
 use Rattle.std.specs.Prelude.{◌≡◌, refl, Bool, true, false, not, ◌&&◌, ◌||◌, List, ℕ, T, eqb}
 use Rattle.std.proofs.Common.{sym, ap, subst, ◌∙◌}
 use Rattle.std.proofs.Math.Bool.{or-false}
-use Rattle.files.specs.Access.{row_held}
+use Rattle.files.specs.Access.{row_held, first_of, operator_of}
 use Rattle.files.specs.Basics.Tests.{T_eq}
 use Rattle.files.specs.Graph.{Graph, node}
 use Rattle.files.specs.Property.{Row, always, never, returns, not_returns, in_method, not_in_method, both, either, box, box_all, row}
@@ -15,7 +15,7 @@ use Rattle.judging.specs.Ranking.{leaf_false, may_fall}
 -- ---- rows that are false by themselves
 
 pub leaf_level : (G : Graph) (P : List Row) (g r : ℕ)
-    → leaf_false (row_held (row P r)).operator (row_held (row P r)).a (node G g).method (node G g).ret ≡ not (level G P 1 g r)
+    → leaf_false (operator_of (row_held (row P r))) (first_of (row_held (row P r))) (node G g).method (node G g).ret ≡ not (level G P 1 g r)
 leaf_level G P g r = go (row P r) (after G (level G P 0) g (row P r)) (T_eq _ (after_i G (level G P 0) g (row P r) (λ e m p b q. level_zero G P e.to b))) ∙ ap not (sym (level_next G P 0 g r))
   where
     flip : (b : Bool) → b ≡ not (not b)
@@ -31,7 +31,7 @@ leaf_level G P g r = go (row P r) (after G (level G P 0) g (row P r)) (T_eq _ (a
     drop_two false = refl
 
     go : (x : Row) (w : Bool) → w ≡ true
-        → leaf_false (row_held x).operator (row_held x).a (node G g).method (node G g).ret ≡ not (truth x (node G g).method (node G g).ret (level G P 0 g) w)
+        → leaf_false (operator_of (row_held x)) (first_of (row_held x)) (node G g).method (node G g).ret ≡ not (truth x (node G g).method (node G g).ret (level G P 0 g) w)
     go always w e = refl
     go never w e = refl
     go returns w e = or-false _
@@ -53,10 +53,10 @@ leaf_level G P g r = go (row P r) (after G (level G P 0) g (row P r)) (T_eq _ (a
     go (box_all a) w e = sym (ap not e)
 
 -- no other row is
-pub fallen_may : (G : Graph) (P : List Row) (g r : ℕ) → T (not (level G P 1 g r)) → T (may_fall (row_held (row P r)).operator)
+pub fallen_may : (G : Graph) (P : List Row) (g r : ℕ) → T (not (level G P 1 g r)) → T (may_fall (operator_of (row_held (row P r))))
 fallen_may G P g r t = go (row P r) (subst T (sym (leaf_level G P g r)) t)
   where
-    go : (x : Row) → T (leaf_false (row_held x).operator (row_held x).a (node G g).method (node G g).ret) → T (may_fall (row_held x).operator)
+    go : (x : Row) → T (leaf_false (operator_of (row_held x)) (first_of (row_held x)) (node G g).method (node G g).ret) → T (may_fall (operator_of (row_held x)))
     go always t = absurd t
     go never t = tt
     go returns t = tt

@@ -7,4 +7,4 @@ use Rattle.judging.proofs.causes.fails_at.Goals as goal
 pub returns : goal.returns
 returns c =
     let a = c.args in
-    ap₂ (λ (n : GraphNode) (b : Bool). n.entry && not b) c.node_at-v.ensures (root_holds a.s a.graph.now a.property.now c.requires.0 a.work.now c.requires.1.1.1 a.g c.get16-x.result c.requires.1.0 c.get16-x.ensures)
+    ap₂ (λ (n : GraphNode) (b : Bool). n.entry && not b) c.node_at-v.ensures (root_holds a.s a.graph.now a.property.now c.requires.0 a.work.now c.requires.1.1.1 a.g c.get-x.result c.requires.1.0 c.get-x.ensures)

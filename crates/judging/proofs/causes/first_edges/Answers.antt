@@ -1,4 +1,4 @@
-use mathlib.Core.Path.{refl, sym, ◌∙◌}
+use mathlib.Core.Path.{sym}
 use native.Mathlib.Omega.{arith}
 use Rattle.files.specs.Decode.{decode_graph}
 use Rattle.judging.proofs.CauseLaws.{few_first, firsts_on, ranked_kept}
@@ -7,43 +7,28 @@ use Rattle.files.specs.Access.Laws.{first_edge_zero}
 use Rattle.judging.specs.Ranking.Files.{size_is}
 use Rattle.judging.proofs.causes.first_edges.Goals as goal
 
-pub put16-requires : goal.put16-requires
-put16-requires c = omega (arith, c.requires.1.0)
-
 pub loop-g-init : goal.loop-g-init
 loop-g-init c =
     let a = c.args in
-    let n = c.put16 in
+    let n = c.put in
     let z = sym (first_edge_zero (decode_graph a.graph.now)) in
-    (omega arith, omega (arith, n.auto.work, c.requires.1.0), z, firsts_on a.s a.graph.now a.property.now c.requires.0 a.work.now _ 0 0 n.ensures c.requires.1.0 (omega arith) z (λ u h. absurd (omega arith)), ranked_kept a.s a.graph.now a.property.now c.requires.0 a.work.now _ 0 0 n.ensures c.requires.1.1, refl)
-
-pub next_first-first-requires : goal.next_first-first-requires
-next_first-first-requires c = (c.requires.0.held.views.graph_file, c.requires.0.held.views.nodes_are, c.loop-g.invariant.2)
-
-pub overflow_add-g : goal.overflow_add-g
-overflow_add-g c = omega (arith, c.loop-g-test.true, c.requires.0.held.few_nodes)
+    (z, firsts_on a.s a.graph.now a.property.now c.requires.0 a.work.now _ 0 0 n.ensures c.requires.1.0 (omega arith) z (λ u h. absurd (omega arith)), ranked_kept a.s a.graph.now a.property.now c.requires.0 a.work.now _ 0 0 n.ensures c.requires.1.1)
 
 pub overflow_cast-first : goal.overflow_cast-first
 overflow_cast-first c =
     let a = c.args in
     omega (arith, c.next_first-first.ensures, few_first a.s a.graph.now a.property.now c.requires.0 (c.loop-g.g + 1))
 
-pub put16-requires-in-loop-g : goal.put16-requires-in-loop-g
-put16-requires-in-loop-g c = omega (arith, c.loop-g-test.true, c.requires.0.held.few_nodes, c.loop-g.invariant.1)
-
-pub loop-g-smaller : goal.loop-g-smaller
-loop-g-smaller c = omega (arith, c.loop-g-test.true)
-
 pub loop-g-preserved : goal.loop-g-preserved
 loop-g-preserved c =
     let a = c.args in
     let l = c.loop-g in
-    let n = c.put16-in-loop-g in
+    let n = c.put-in-loop-g in
     let f = c.next_first-first in
-    (omega (arith, c.loop-g-test.true), omega (arith, n.auto.work, l.invariant.1), f.ensures, firsts_on a.s a.graph.now a.property.now c.requires.0 l.work _ (l.g + 1) f.result n.ensures l.invariant.1 (omega (arith, c.loop-g-test.true, c.requires.0.held.few_nodes)) f.ensures l.invariant.3, ranked_kept a.s a.graph.now a.property.now c.requires.0 l.work _ (l.g + 1) f.result n.ensures l.invariant.4, n.auto.work ∙ l.invariant.5)
+    (f.ensures, firsts_on a.s a.graph.now a.property.now c.requires.0 l.work _ (l.g + 1) f.result n.ensures (omega (arith, c.requires.1.0)) (omega (arith, c.requires.0.held.few_nodes)) f.ensures l.invariant.1, ranked_kept a.s a.graph.now a.property.now c.requires.0 l.work _ (l.g + 1) f.result n.ensures l.invariant.2)
 
 pub returns : goal.returns
 returns c =
     let a = c.args in
     let l = c.loop-g in
-    record { room = l.invariant.1; ranks = l.invariant.4; firsts = λ u h. l.invariant.3 u (omega (arith, h, c.loop-g-test.false, size_is a.s a.graph.now a.property.now c.requires.0)) }
+    record { room = omega (arith, c.requires.1.0); ranks = l.invariant.2; firsts = λ u h. l.invariant.1 u (omega (arith, h, size_is a.s a.graph.now a.property.now c.requires.0)) }

@@ -1,17 +1,12 @@
 use mathlib.Core.Path.{◌≡◌}
 use Rattle.files.specs.Decode.{decode_graph, decode_property}
-use Rattle.files.specs.Property.{aims, box_row}
-use Prim.Native.Nat.{◌+◌, ◌-◌, ◌≤◌}
-use Rattle.files.specs.Access.{first_edge}
+use Prim.Native.Nat.{◌+◌, ◌≤◌}
+use Rattle.files.specs.Access.{first_edge, looked_at, aims_along}
 use Rattle.files.specs.Basics.First.{first_or}
 use Rattle.judging.specs.Sheets.{best_target}
 use Rattle.judging.proofs.causes.foremost.Given as goal
 
 abbrev pub invariant-loop-j : goal.invariant-loop-j
 invariant-loop-j l = (first_edge (decode_graph l.graph) l.g ≤ l.j)
-    × (l.j ≤ l.end)
     × (l.end ≡ first_edge (decode_graph l.graph) (l.g + 1))
-    × (l.best ≡ first_or (best_target (decode_graph l.graph) (decode_property l.property) l.g (aims l.x.operator l.x.a) (box_row l.x.operator l.x.a l.x.b) l.j) l.s.graph.nodes)
-
-abbrev pub decreases-loop-j : goal.decreases-loop-j
-decreases-loop-j l = l.end - l.j
+    × (l.best ≡ first_or (best_target (decode_graph l.graph) (decode_property l.property) l.g (aims_along l.x) (looked_at l.x) l.j) l.s.graph.nodes)

@@ -13,11 +13,6 @@ link_graph-requires c =
     let x = c.clear in
     (r.held.views.graph_file, (r.held.views.nodes_are, (r.held.views.edges_are, (r.held.few_edges, (omega (arith, r.held.few_nodes), (omega (arith, r.held.few_edges, c.requires.1, cleared_length node_heads_base node_heads_bytes a.work.now x.new.work x.ensures), edges_none a.s a.graph.now a.property.now r a.work.now x.new.work c.requires.1 x.ensures))))))
 
-pub slice_bounds-clear-end-2 : goal.slice_bounds-clear-end-2
-slice_bounds-clear-end-2 c =
-    let x = c.clear in
-    omega (arith, c.link_graph.auto.work, cleared_length node_heads_base node_heads_bytes c.args.work.now x.new.work x.ensures, c.requires.1)
-
 pub link_places-requires : goal.link_places-requires
 link_places-requires c =
     let a = c.args in

@@ -1,4 +1,4 @@
-use mathlib.Core.Path.{◌≡◌, refl, subst, ◌∙◌}
+use mathlib.Core.Path.{◌≡◌, subst}
 use native.Mathlib.Omega.{arith}
 use Rattle.files.specs.Decode.{decode_graph}
 use lib.ListN.{length}
@@ -7,31 +7,19 @@ use Rattle.judging.specs.Chains.{Chained, into}
 use Rattle.judging.proofs.ChainLaws.{edge_count, may_link, edge_on}
 use Rattle.judging.proofs.chains.link_graph.Goals as goal
 
-pub loop-e-init : goal.loop-e-init
-loop-e-init c = (omega arith, refl, c.requires.1.1.1.1.1.1, λ q d. refl)
-
-pub edge_target-to-requires : goal.edge_target-to-requires
-edge_target-to-requires c = (c.requires.0, (c.requires.1.0, omega (arith, c.loop-e-test.true, c.requires.1.0, c.requires.1.1.0)))
-
 pub link-requires : goal.link-requires
-link-requires c = let a = c.args in let l = c.loop-e in may_link a.graph.now c.requires.0 a.nodes a.edges c.requires.1.0 c.requires.1.1.0 a.heads a.nexts c.requires.1.1.1.1.0 c.requires.1.1.1.0 l.work (omega (arith, l.invariant.1, c.requires.1.1.1.1.1.0)) l.e c.edge_target-to.result c.edge_target-to.ensures c.loop-e-test.true
-
-pub overflow_add-e : goal.overflow_add-e
-overflow_add-e c = omega (arith, c.loop-e-test.true, c.requires.1.1.1.0)
-
-pub loop-e-smaller : goal.loop-e-smaller
-loop-e-smaller c = omega (arith, c.loop-e-test.true)
+link-requires c = let a = c.args in let l = c.loop-e in may_link a.graph.now c.requires.0 a.nodes a.edges c.requires.1.0 c.requires.1.1.0 a.heads a.nexts c.requires.1.1.1.1.0 c.requires.1.1.1.0 l.work (omega (arith, c.requires.1.1.1.1.1.0)) l.e c.edge_target-to.result c.edge_target-to.ensures (omega arith)
 
 pub loop-e-preserved : goal.loop-e-preserved
 loop-e-preserved c =
     let a = c.args in
     let l = c.loop-e in
-    let r = edge_on a.graph.now c.requires.0 a.nodes a.edges c.requires.1.0 c.requires.1.1.0 a.heads a.nexts c.requires.1.1.1.1.0 c.requires.1.1.1.0 l.work (omega (arith, l.invariant.1, c.requires.1.1.1.1.1.0)) l.e c.edge_target-to.result c.edge_target-to.ensures c.loop-e-test.true a.work.now _ l.invariant.2 l.invariant.3 c.link.ensures in
-    (omega (arith, c.loop-e-test.true), c.link.auto.work ∙ l.invariant.1, r.0, r.1)
+    let r = edge_on a.graph.now c.requires.0 a.nodes a.edges c.requires.1.0 c.requires.1.1.0 a.heads a.nexts c.requires.1.1.1.1.0 c.requires.1.1.1.0 l.work (omega (arith, c.requires.1.1.1.1.1.0)) l.e c.edge_target-to.result c.edge_target-to.ensures (omega arith) a.work.now _ l.invariant.0 l.invariant.1 c.link.ensures in
+    (r.0, r.1)
 
 pub returns : goal.returns
 returns c =
     let a = c.args in
     let l = c.loop-e in
-    let n : l.e ≡ length (decode_graph a.graph.now).edges = omega (arith, c.loop-e-test.false, l.invariant.0, edge_count a.graph.now c.requires.0 a.nodes a.edges c.requires.1.0 c.requires.1.1.0) in
-    (subst (Chained l.work a.heads a.nexts (into (decode_graph a.graph.now)) (size (decode_graph a.graph.now))) n l.invariant.2, l.invariant.3)
+    let n : l.e ≡ length (decode_graph a.graph.now).edges = omega (arith, edge_count a.graph.now c.requires.0 a.nodes a.edges c.requires.1.0 c.requires.1.1.0) in
+    (subst (Chained l.work a.heads a.nexts (into (decode_graph a.graph.now)) (size (decode_graph a.graph.now))) n l.invariant.0, l.invariant.1)

@@ -1,17 +1,7 @@
-use mathlib.Core.Path.{◌≡◌}
-use Prim.Native.Nat.{◌*◌, ◌-◌, ◌≤◌}
-use lib.ListN.{length}
 use Rattle.files.specs.Decode.{decode_property}
 use Rattle.judging.specs.Chains.{Chained, Outside, uses}
 use Rattle.judging.specs.Places.{judge_room, row_heads_base, row_nexts_base}
 use Rattle.judging.proofs.chains.link_places.Given as goal
 
 abbrev pub invariant-loop-j : goal.invariant-loop-j
-invariant-loop-j l =
-    (l.j ≤ 2 * l.s.rows)
-    × (length l.work ≡ length l.initial.work)
-    × (Chained l.work row_heads_base row_nexts_base (uses (decode_property l.property)) l.s.rows l.j)
-    × (Outside row_heads_base judge_room l.initial.work l.work)
-
-abbrev pub decreases-loop-j : goal.decreases-loop-j
-decreases-loop-j l = 2 * l.s.rows - l.j
+invariant-loop-j l = (Chained l.work row_heads_base row_nexts_base (uses (decode_property l.property)) l.s.rows l.j) × (Outside row_heads_base judge_room l.initial.work l.work)

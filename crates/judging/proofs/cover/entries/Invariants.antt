@@ -1,5 +1,4 @@
 use mathlib.Core.Path.{◌≡◌}
-use Prim.Native.Nat.{◌-◌, ◌≤◌}
 use lib.ListN.{length}
 use Rattle.files.specs.Decode.{decode_graph}
 use Rattle.files.specs.Graph.{node}
@@ -8,7 +7,4 @@ use Rattle.judging.specs.Refinement.{Chosen}
 use Rattle.judging.proofs.cover.entries.Given as goal
 
 abbrev pub invariant-loop-h : goal.invariant-loop-h
-invariant-loop-h l = (l.h ≤ l.s.second.nodes) × (length l.row ≡ line_bytes) × Chosen (λ x. (node (decode_graph l.second) x).entry) l.h l.row
-
-abbrev pub decreases-loop-h : goal.decreases-loop-h
-decreases-loop-h l = l.s.second.nodes - l.h
+invariant-loop-h l = (length l.row ≡ line_bytes) × Chosen (λ x. (node (decode_graph l.second) x).entry) l.h l.row

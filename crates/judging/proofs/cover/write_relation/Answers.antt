@@ -6,24 +6,12 @@ use Rattle.judging.specs.Refinement.Cover.{lines_none}
 use Rattle.judging.proofs.cover.write_relation.Goals as goal
 
 pub loop-g-init : goal.loop-g-init
-loop-g-init c = let a = c.args in (omega arith, lines_none (decode_graph a.first.now) (decode_graph a.second.now) a.out.now, refl)
-
-pub overflow_mul-g : goal.overflow_mul-g
-overflow_mul-g c = omega (arith, c.loop-g-test.true, c.requires.0.first_held.few_nodes)
-
-pub put_line-requires : goal.put_line-requires
-put_line-requires c = (omega (arith, c.loop-g-test.true, c.requires.1.1.1, c.loop-g.invariant.2), omega (arith, c.loop-g-test.true, c.requires.0.first_held.few_nodes, c.requires.1.0))
-
-pub overflow_add-g : goal.overflow_add-g
-overflow_add-g c = omega (arith, c.loop-g-test.true, c.requires.0.first_held.few_nodes)
-
-pub loop-g-smaller : goal.loop-g-smaller
-loop-g-smaller c = omega (arith, c.loop-g-test.true)
+loop-g-init c = let a = c.args in (lines_none (decode_graph a.first.now) (decode_graph a.second.now) a.out.now, refl)
 
 pub loop-g-preserved : goal.loop-g-preserved
 loop-g-preserved c = let l = c.loop-g in
     let x = c.put_line in
-    (omega (arith, c.loop-g-test.true), line_on c.args.s c.args.first.now c.args.second.now c.requires.0 c.args.work.now c.requires.1.1.0 c.args.out.now l.out x.new.out l.g c.loop-g-test.true l.invariant.1 x.ensures, x.auto.out ∙ l.invariant.2)
+    (line_on c.args.s c.args.first.now c.args.second.now c.requires.0 c.args.work.now c.requires.1.1.0 c.args.out.now l.out x.new.out l.g (omega arith) l.invariant.0 x.ensures, x.auto.out ∙ l.invariant.1)
 
 pub returns : goal.returns
-returns c = let l = c.loop-g in line_end c.args.s c.args.first.now c.args.second.now c.requires.0 c.args.work.now c.requires.1.1.0 c.args.out.now l.out l.g l.invariant.0 c.loop-g-test.false l.invariant.1
+returns c = let l = c.loop-g in line_end c.args.s c.args.first.now c.args.second.now c.requires.0 c.args.work.now c.requires.1.1.0 c.args.out.now l.out l.g (omega arith) (omega arith) l.invariant.0

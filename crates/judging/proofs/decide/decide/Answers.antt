@@ -1,10 +1,5 @@
-use native.Mathlib.Omega.{arith}
 use Rattle.judging.proofs.DecideLaws.{answers_clean}
 use Rattle.judging.proofs.decide.decide.Goals as goal
-
-pub fail-requires : goal.fail-requires
-fail-requires c =
-    (c.requires.0, (omega (arith, c.find_ranks.auto.work, c.requires.1), (c.find_ranks.ensures, (c.first_failing-g.ensures, c.if-g-s.true))))
 
 pub returns : goal.returns
 returns c = answers_clean c.args.s c.args.graph.now c.args.property.now c.requires.0 c.args.out.now c.first_failing-g.result c.first_failing-g.ensures c.if-g-s.false

@@ -12,14 +12,10 @@ use Rattle.judging.specs.Ranking.Files.{rows_is}
 use Rattle.judging.specs.Ranking.Laws.{row_done_kept, done_places}
 use Rattle.judging.proofs.levels.pop.Goals as goal
 
-pub get16-at-requires : goal.get16-at-requires
-get16-at-requires c =
-    omega (arith, c.requires.1.1.1.0.room, c.requires.0.few_rows, c.requires.1.1.0)
-
 pub loop-at-init : goal.loop-at-init
 loop-at-init c =
     let a = c.args in
-    (refl, grew_none (decode_graph a.graph.now) (decode_property a.property.now) a.k a.tail a.work.now c.requires.1.1.1.0, walk_start (uses (decode_property a.property.now) a.r) (2 * length (decode_property a.property.now)) c.get16-at.result (λ (j : ℕ). RowDone (decode_graph a.graph.now) (decode_property a.property.now) a.k a.work.now a.v a.r (j / 2)) (c.get16-at.ensures ∙ c.requires.1.1.1.0.index.by_row.heads_are a.r (row_in a.s a.graph.now a.property.now c.requires.0 a.r c.requires.1.1.0)))
+    (refl, grew_none (decode_graph a.graph.now) (decode_property a.property.now) a.k a.tail a.work.now c.requires.1.1.1.0, walk_start (uses (decode_property a.property.now) a.r) (2 * length (decode_property a.property.now)) c.get-at.result (λ (j : ℕ). RowDone (decode_graph a.graph.now) (decode_property a.property.now) a.k a.work.now a.v a.r (j / 2)) (c.get-at.ensures ∙ c.requires.1.1.1.0.index.by_row.heads_are a.r (row_in a.s a.graph.now a.property.now c.requires.0 a.r c.requires.1.1.0)))
 
 pub row_on-end-requires : goal.row_on-end-requires
 row_on-end-requires c =
@@ -28,8 +24,8 @@ row_on-end-requires c =
     let i = walk_item (uses (decode_property a.property.now) a.r) (2 * length (decode_property a.property.now)) l.at (λ (j : ℕ). RowDone (decode_graph a.graph.now) (decode_property a.property.now) a.k l.work a.v a.r (j / 2)) l.invariant.2 c.loop-at-test.true in
     (c.requires.0, (c.requires.1.0, (c.requires.1.1.0, (omega (arith, i.1, rows_is a.s a.graph.now a.property.now c.requires.0), (l.invariant.1.finding, (c.requires.1.1.1.1, ((l.at - 1) % 2, i.0)))))))
 
-pub get16-at-requires-in-loop-at : goal.get16-at-requires-in-loop-at
-get16-at-requires-in-loop-at c =
+pub get-at-requires-in-loop-at : goal.get-at-requires-in-loop-at
+get-at-requires-in-loop-at c =
     let a = c.args in
     let l = c.loop-at in
     let x = c.row_on-end in
@@ -42,8 +38,8 @@ loop-at-smaller c =
     let l = c.loop-at in
     let x = c.row_on-end in
     let i = walk_item (uses (decode_property a.property.now) a.r) (2 * length (decode_property a.property.now)) l.at (λ (j : ℕ). RowDone (decode_graph a.graph.now) (decode_property a.property.now) a.k l.work a.v a.r (j / 2)) l.invariant.2 c.loop-at-test.true in
-    let n = c.get16-at-in-loop-at.ensures ∙ x.ensures.0.finding.index.by_row.nexts_are a.r (l.at - 1) (row_in a.s a.graph.now a.property.now c.requires.0 a.r c.requires.1.1.0) i.1 i.0 in
-    walk_less (uses (decode_property a.property.now) a.r) l.at c.get16-at-in-loop-at.result c.loop-at-test.true n
+    let n = c.get-at-in-loop-at.ensures ∙ x.ensures.0.finding.index.by_row.nexts_are a.r (l.at - 1) (row_in a.s a.graph.now a.property.now c.requires.0 a.r c.requires.1.1.0) i.1 i.0 in
+    walk_less (uses (decode_property a.property.now) a.r) l.at c.get-at-in-loop-at.result c.loop-at-test.true n
 
 pub loop-at-preserved : goal.loop-at-preserved
 loop-at-preserved c =
@@ -51,10 +47,10 @@ loop-at-preserved c =
     let l = c.loop-at in
     let x = c.row_on-end in
     let i = walk_item (uses (decode_property a.property.now) a.r) (2 * length (decode_property a.property.now)) l.at (λ (j : ℕ). RowDone (decode_graph a.graph.now) (decode_property a.property.now) a.k l.work a.v a.r (j / 2)) l.invariant.2 c.loop-at-test.true in
-    let n = c.get16-at-in-loop-at.ensures ∙ x.ensures.0.finding.index.by_row.nexts_are a.r (l.at - 1) (row_in a.s a.graph.now a.property.now c.requires.0 a.r c.requires.1.1.0) i.1 i.0 in (
+    let n = c.get-at-in-loop-at.ensures ∙ x.ensures.0.finding.index.by_row.nexts_are a.r (l.at - 1) (row_in a.s a.graph.now a.property.now c.requires.0 a.r c.requires.1.1.0) i.1 i.0 in (
       x.auto.work ∙ l.invariant.0,
       grew_on (decode_graph a.graph.now) (decode_property a.property.now) a.k a.tail l.end x.result a.work.now l.work x.new.work l.invariant.1 x.ensures.0,
-      walk_turn (uses (decode_property a.property.now) a.r) (2 * length (decode_property a.property.now)) l.at c.get16-at-in-loop-at.result (λ (j : ℕ). RowDone (decode_graph a.graph.now) (decode_property a.property.now) a.k l.work a.v a.r (j / 2)) (λ (j : ℕ). RowDone (decode_graph a.graph.now) (decode_property a.property.now) a.k x.new.work a.v a.r (j / 2)) l.invariant.2 c.loop-at-test.true n
+      walk_turn (uses (decode_property a.property.now) a.r) (2 * length (decode_property a.property.now)) l.at c.get-at-in-loop-at.result (λ (j : ℕ). RowDone (decode_graph a.graph.now) (decode_property a.property.now) a.k l.work a.v a.r (j / 2)) (λ (j : ℕ). RowDone (decode_graph a.graph.now) (decode_property a.property.now) a.k x.new.work a.v a.r (j / 2)) l.invariant.2 c.loop-at-test.true n
           (λ j h d. row_done_kept (decode_graph a.graph.now) (decode_property a.property.now) a.k l.end x.result l.work x.new.work a.v a.r (j / 2) (omega (arith, h)) x.ensures.0 d)
           x.ensures.1,
     )

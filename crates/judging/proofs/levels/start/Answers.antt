@@ -1,4 +1,3 @@
-use mathlib.Core.Path.{refl, ◌∙◌}
 use Prim.Native.Nat.{ℕ, ◌<◌}
 use native.Mathlib.Omega.{arith}
 use mathlib.Core.Bool.{not}
@@ -7,38 +6,20 @@ use Rattle.files.specs.Basics.Below.{below_more}
 use Rattle.files.specs.Decode.{decode_graph, decode_property}
 use Rattle.judging.specs.Levels.{level}
 use Rattle.judging.specs.Ranking.{Given}
-use Rattle.judging.specs.Ranking.Stores.{grew_none, grew_on}
+use Rattle.judging.specs.Ranking.Stores.{grew_on}
 use Rattle.judging.proofs.LevelLaws.{node_in, row_in, node_of, row_of}
 use Rattle.judging.proofs.Theorems.Ranking.Laws.{first_found}
 use Rattle.judging.specs.Ranking.Files.{is_flow, is_property, rows_fit}
 use Rattle.judging.proofs.levels.start.Goals as goal
-
-pub loop-r-init : goal.loop-r-init
-loop-r-init c =
-    let a = c.args in
-    (omega arith, refl, grew_none (decode_graph a.graph.now) (decode_property a.property.now) 0 0 a.work.now c.requires.1, λ j h. absurd (omega arith))
-
-pub start_row-end-requires : goal.start_row-end-requires
-start_row-end-requires c =
-    let l = c.loop-r in
-    (c.requires.0, (c.loop-r-test.true, l.invariant.2.finding))
-
-pub overflow_add-r : goal.overflow_add-r
-overflow_add-r c = omega (arith, c.loop-r-test.true, c.requires.0.few_rows)
-
-pub loop-r-smaller : goal.loop-r-smaller
-loop-r-smaller c = omega (arith, c.loop-r-test.true)
 
 pub loop-r-preserved : goal.loop-r-preserved
 loop-r-preserved c =
     let a = c.args in
     let l = c.loop-r in
     let x = c.start_row-end in (
-      omega (arith, c.loop-r-test.true),
-      x.auto.work ∙ l.invariant.1,
-      grew_on (decode_graph a.graph.now) (decode_property a.property.now) 0 0 l.end x.result a.work.now l.work x.new.work l.invariant.2 x.ensures.0,
+      grew_on (decode_graph a.graph.now) (decode_property a.property.now) 0 0 l.end x.result a.work.now l.work x.new.work l.invariant.0 x.ensures.0,
       below_more (λ (j : ℕ). (v : ℕ) → v < a.s.graph.nodes → T (not (level (decode_graph a.graph.now) (decode_property a.property.now) 1 v j)) → Given x.new.work v j) l.r
-          (λ j h v hv t. x.ensures.0.given_kept v j (node_in a.s a.graph.now a.property.now c.requires.0 v hv) (row_in a.s a.graph.now a.property.now c.requires.0 j (omega (arith, h, c.loop-r-test.true))) (l.invariant.3 j h v hv t))
+          (λ j h v hv t. x.ensures.0.given_kept v j (node_in a.s a.graph.now a.property.now c.requires.0 v hv) (row_in a.s a.graph.now a.property.now c.requires.0 j (omega (arith, h))) (l.invariant.1 j h v hv t))
           x.ensures.1,
     )
 
@@ -47,5 +28,5 @@ returns c =
     let a = c.args in
     let l = c.loop-r in
     first_found (decode_graph a.graph.now) (decode_property a.property.now) (is_flow a.s a.graph.now a.property.now c.requires.0) (is_property a.s a.graph.now a.property.now c.requires.0) l.end a.work.now l.work c.requires.1 (rows_fit a.s a.graph.now a.property.now c.requires.0)
-    l.invariant.2
-    (λ v r hv hr t. l.invariant.3 r (omega (arith, c.loop-r-test.false, row_of a.s a.graph.now a.property.now c.requires.0 r hr)) v (node_of a.s a.graph.now a.property.now c.requires.0 v hv) t)
+    l.invariant.0
+    (λ v r hv hr t. l.invariant.1 r (omega (arith, row_of a.s a.graph.now a.property.now c.requires.0 r hr)) v (node_of a.s a.graph.now a.property.now c.requires.0 v hv) t)

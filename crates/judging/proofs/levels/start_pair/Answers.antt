@@ -1,7 +1,5 @@
 use mathlib.Core.Path.{sym, subst, ◌∙◌}
 use lib.Dec.{T}
-use Rattle.files.specs.Decode.{decode_graph, decode_property}
-use Rattle.judging.specs.Ranking.Stores.{grew_none}
 use Rattle.judging.proofs.LevelLaws.{may_give, gave}
 use Rattle.judging.proofs.levels.start_pair.Goals as goal
 
@@ -15,8 +13,3 @@ returns-then-falls_alone c =
     let a = c.args in
     let x = gave a.s a.graph.now a.property.now c.requires.0 0 a.tail a.work.now c.requires.1.1.1 a.g a.r c.requires.1.0 c.requires.1.1.0 (subst T (sym (sym c.falls_alone.ensures ∙ c.if-falls_alone.true)) tt) _ _ c.give.ensures in
     (x.0, λ t. x.1)
-
-pub returns : goal.returns
-returns c =
-    let a = c.args in
-    (grew_none (decode_graph a.graph.now) (decode_property a.property.now) 0 a.tail a.work.now c.requires.1.1.1, λ t. absurd (subst T (sym c.falls_alone.ensures ∙ c.if-falls_alone.false) t))

@@ -1,4 +1,4 @@
-use mathlib.Core.Path.{refl, sym, subst, ◌∙◌}
+use mathlib.Core.Path.{sym, subst}
 use Prim.Native.Nat.{ℕ}
 use native.Mathlib.Omega.{arith}
 use mathlib.Core.Bool.{not}
@@ -12,45 +12,19 @@ use Rattle.judging.specs.Ranking.Stores.{grew_none, grew_on}
 use Rattle.judging.proofs.LevelLaws.{node_in, row_in}
 use Rattle.judging.proofs.levels.start_row.Goals as goal
 
-pub may_fall-requires : goal.may_fall-requires
-may_fall-requires c = (c.requires.0.property_file, omega (arith, c.requires.1.0, c.requires.0.rows_are))
-
 pub returns-then-not-may_fall : goal.returns-then-not-may_fall
 returns-then-not-may_fall c =
     let a = c.args in
     let m = c.may_fall in
     (grew_none (decode_graph a.graph.now) (decode_property a.property.now) 0 a.tail a.work.now c.requires.1.1, λ v h t. absurd (T_not m.result (subst T (sym c.if-not-may_fall.true-raw) tt) (subst T (sym m.ensures) (fallen_may (decode_graph a.graph.now) (decode_property a.property.now) v a.r t))))
 
-pub loop-g-init : goal.loop-g-init
-loop-g-init c =
-    let a = c.args in
-    (omega arith, refl, grew_none (decode_graph a.graph.now) (decode_property a.property.now) 0 a.tail a.work.now c.requires.1.1, λ v h. absurd (omega arith))
-
-pub start_pair-end-requires : goal.start_pair-end-requires
-start_pair-end-requires c =
-    let l = c.loop-g in
-    (c.requires.0, (c.loop-g-test.true, (c.requires.1.0, l.invariant.2.finding)))
-
-pub overflow_add-g : goal.overflow_add-g
-overflow_add-g c = omega (arith, c.loop-g-test.true, c.requires.0.held.few_nodes)
-
-pub loop-g-smaller : goal.loop-g-smaller
-loop-g-smaller c = omega (arith, c.loop-g-test.true)
-
 pub loop-g-preserved : goal.loop-g-preserved
 loop-g-preserved c =
     let a = c.args in
     let l = c.loop-g in
     let x = c.start_pair-end in (
-      omega (arith, c.loop-g-test.true),
-      x.auto.work ∙ l.invariant.1,
-      grew_on (decode_graph a.graph.now) (decode_property a.property.now) 0 a.tail l.end x.result a.work.now l.work x.new.work l.invariant.2 x.ensures.0,
+      grew_on (decode_graph a.graph.now) (decode_property a.property.now) 0 a.tail l.end x.result a.work.now l.work x.new.work l.invariant.0 x.ensures.0,
       below_more (λ (v : ℕ). T (not (level (decode_graph a.graph.now) (decode_property a.property.now) 1 v a.r)) → Given x.new.work v a.r) l.g
-          (λ v h t. x.ensures.0.given_kept v a.r (node_in a.s a.graph.now a.property.now c.requires.0 v (omega (arith, h, c.loop-g-test.true))) (row_in a.s a.graph.now a.property.now c.requires.0 a.r c.requires.1.0) (l.invariant.3 v h t))
+          (λ v h t. x.ensures.0.given_kept v a.r (node_in a.s a.graph.now a.property.now c.requires.0 v (omega (arith, h))) (row_in a.s a.graph.now a.property.now c.requires.0 a.r c.requires.1.0) (l.invariant.1 v h t))
           x.ensures.1,
     )
-
-pub returns : goal.returns
-returns c =
-    let l = c.loop-g in
-    (l.invariant.2, λ v h t. l.invariant.3 v (omega (arith, c.loop-g-test.false, h)) t)

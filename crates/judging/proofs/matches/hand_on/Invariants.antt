@@ -1,12 +1,7 @@
-use mathlib.Core.Path.{◌≡◌}
-use Prim.Native.Nat.{ℕ, ◌-◌, ◌≤◌, ◌<◌}
-use lib.ListN.{length}
+use Prim.Native.Nat.{ℕ, ◌<◌}
 use Rattle.files.specs.Decode.{decode_graph}
 use Rattle.judging.specs.Refinement.{Shrank, LabelMatched}
 use Rattle.judging.proofs.matches.hand_on.Given as goal
 
 abbrev pub invariant-loop-label : goal.invariant-loop-label
-invariant-loop-label loop = (loop.label ≤ 9) × (length loop.work ≡ length loop.initial.work) × Shrank (decode_graph loop.first) (decode_graph loop.second) loop.initial.work loop.work × ((l : ℕ) → l < loop.label → LabelMatched (decode_graph loop.first) (decode_graph loop.second) loop.work loop.v l loop.row)
-
-abbrev pub decreases-loop-label : goal.decreases-loop-label
-decreases-loop-label l = 9 - l.label
+invariant-loop-label loop = Shrank (decode_graph loop.first) (decode_graph loop.second) loop.initial.work loop.work × ((l : ℕ) → l < loop.label → LabelMatched (decode_graph loop.first) (decode_graph loop.second) loop.work loop.v l loop.row)

@@ -6,11 +6,8 @@ use Rattle.judging.specs.Refinement.Handing.{shrank_none}
 use Rattle.judging.proofs.MatchLaws.{found, all_sifted, label_empty, label_done, may_drop}
 use Rattle.judging.proofs.matches.hand_on_by.Goals as goal
 
-pub returns-then-get16-eq0 : goal.returns-then-get16-eq0
-returns-then-get16-eq0 c = (shrank_none (decode_graph c.args.first.now) (decode_graph c.args.second.now) c.args.work.now c.requires.1.1.1.1.0, label_empty c.args.s c.args.first.now c.args.second.now c.requires.1.0 c.args.work.now c.requires.1.1.1.1.0 c.args.v c.args.label c.requires.1.1.0 c.requires.1.1.1.0 c.args.row.now c.get16.result c.get16.ensures c.if-get16-eq0.true)
-
-pub sift-requires : goal.sift-requires
-sift-requires c = ((c.requires.0.0, (omega (arith, c.common-asked.ensures.0), omega (arith, c.row_without-gone.ensures.0))), (c.requires.1.1.1.1.0.room, c.requires.1.1.1.0))
+pub returns-then-get-eq0 : goal.returns-then-get-eq0
+returns-then-get-eq0 c = (shrank_none (decode_graph c.args.first.now) (decode_graph c.args.second.now) c.args.work.now c.requires.1.1.1.1.0, label_empty c.args.s c.args.first.now c.args.second.now c.requires.1.0 c.args.work.now c.requires.1.1.1.1.0 c.args.v c.args.label c.requires.1.1.0 c.requires.1.1.1.0 c.args.row.now c.get.result c.get.ensures c.if-get-eq0.true)
 
 pub returns-then-not-any_at : goal.returns-then-not-any_at
 returns-then-not-any_at c =

@@ -1,12 +1,9 @@
 use mathlib.Core.Path.{◌≡◌}
-use Prim.Native.Nat.{◌*◌, ◌-◌, ◌≤◌}
+use Prim.Native.Nat.{◌*◌}
 use lib.ListN.{length, replicate}
 use Rattle.files.specs.Places.{line_bytes}
 use Rattle.judging.specs.Refinement.{Preceded}
 use Rattle.judging.proofs.matches.predecessors.Given as goal
 
 abbrev pub invariant-loop-k : goal.invariant-loop-k
-invariant-loop-k l = (l.k ≤ 8) × (length l.met ≡ line_bytes) × Preceded l.work l.nodes (replicate line_bytes 0) l.met 0 (32 * l.k)
-
-abbrev pub decreases-loop-k : goal.decreases-loop-k
-decreases-loop-k l = 8 - l.k
+invariant-loop-k l = (length l.met ≡ line_bytes) × Preceded l.work l.nodes (replicate line_bytes 0) l.met 0 (32 * l.k)

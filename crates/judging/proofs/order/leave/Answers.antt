@@ -3,11 +3,5 @@ use native.Mathlib.Omega.{arith}
 use Rattle.judging.specs.Places.{cursors_base, neighbours_base, order_base}
 use Rattle.judging.proofs.order.leave.Goals as goal
 
-pub put8-requires : goal.put8-requires
-put8-requires c = omega (arith, (none_reaches c.args.s.first.nodes c.args.w.left c.get8-up.result c.if-s-left.false).0, c.requires.0.first_held.few_nodes, c.requires.1.1)
-
-pub overflow_add-result : goal.overflow_add-result
-overflow_add-result c = omega (arith, (none_reaches c.args.s.first.nodes c.args.w.left c.get8-up.result c.if-s-left.false).0, c.requires.0.first_held.few_nodes)
-
 pub returns : goal.returns
-returns c = ((none_reaches c.args.s.first.nodes c.args.w.left c.get8-up.result c.if-s-left.false).1, byte_put c.args.work.now c.put8.new.work order_base c.args.w.left _ cursors_base neighbours_base c.put8.ensures (omega arith) (omega (arith, (none_reaches c.args.s.first.nodes c.args.w.left c.get8-up.result c.if-s-left.false).0, c.requires.0.first_held.few_nodes)))
+returns c = ((none_reaches c.args.s.first.nodes c.args.w.left c.get-up.result c.if-s-left.false).1, byte_put c.args.work.now c.put.new.work order_base c.args.w.left _ cursors_base neighbours_base c.put.ensures (omega arith) (omega (arith, (none_reaches c.args.s.first.nodes c.args.w.left c.get-up.result c.if-s-left.false).0, c.requires.0.first_held.few_nodes)))

@@ -1,12 +1,6 @@
-use mathlib.Core.Path.{◌≡◌}
-use Prim.Native.Nat.{◌-◌}
-use lib.ListN.{length}
 use Rattle.judging.specs.Chains.{Outside}
 use Rattle.judging.specs.Places.{cursors_base, neighbours_base}
 use Rattle.judging.proofs.order.put_in_order.Given as goal
 
 abbrev pub invariant-loop-root : goal.invariant-loop-root
-invariant-loop-root l = (length l.work ≡ length l.initial.work) × Outside cursors_base neighbours_base l.initial.work l.work
-
-abbrev pub decreases-loop-root : goal.decreases-loop-root
-decreases-loop-root l = l.s.first.nodes - l.root
+invariant-loop-root l = Outside cursors_base neighbours_base l.initial.work l.work

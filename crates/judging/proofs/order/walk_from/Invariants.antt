@@ -1,12 +1,7 @@
-use mathlib.Core.Path.{◌≡◌}
 use Prim.Native.Nat.{◌<◌}
-use lib.ListN.{length}
 use Rattle.judging.specs.Chains.{Outside}
 use Rattle.judging.specs.Places.{cursors_base, neighbours_base}
 use Rattle.judging.proofs.order.walk_from.Given as goal
 
-abbrev pub invariant-loop-steps : goal.invariant-loop-steps
-invariant-loop-steps l = (length l.work ≡ length l.initial.work) × (l.w.node < l.s.first.nodes) × Outside cursors_base neighbours_base l.initial.work l.work
-
-abbrev pub decreases-loop-steps : goal.decreases-loop-steps
-decreases-loop-steps l = l.steps
+abbrev pub invariant-loop : goal.invariant-loop
+invariant-loop l = (l.w.node < l.s.first.nodes) × Outside cursors_base neighbours_base l.initial.work l.work

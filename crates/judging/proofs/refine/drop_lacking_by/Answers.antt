@@ -1,37 +1,21 @@
-use mathlib.Core.Path.{refl, ◌∙◌}
 use native.Mathlib.Omega.{arith}
 use Rattle.files.specs.Decode.{decode_graph}
-use Rattle.judging.specs.Refinement.Handing.{shrank_none, shrank_on}
+use Rattle.judging.specs.Refinement.Handing.{shrank_on}
 use Rattle.judging.proofs.MatchLaws.{lacking_drop, dropped_turn, leading_all}
 use Rattle.judging.proofs.refine.drop_lacking_by.Goals as goal
-
-pub lacking-gone-requires : goal.lacking-gone-requires
-lacking-gone-requires c = (c.requires.1.1.room, (c.requires.0.second_held.few_nodes, c.requires.1.0))
-
-pub loop-v-init : goal.loop-v-init
-loop-v-init c = (omega arith, refl, shrank_none (decode_graph c.args.first.now) (decode_graph c.args.second.now) c.args.work.now c.requires.1.1, λ e h he li below. absurd (omega (arith, below)))
-
-pub overflow_mul-v : goal.overflow_mul-v
-overflow_mul-v c = omega (arith, c.loop-v-test.true, c.requires.0.first_held.few_nodes)
-
-pub overflow_add-v : goal.overflow_add-v
-overflow_add-v c = omega (arith, c.loop-v-test.true, c.requires.0.first_held.few_nodes, c.requires.1.0)
-
-pub slice_bounds-drop_from-end : goal.slice_bounds-drop_from-end
-slice_bounds-drop_from-end c = omega (arith, c.lacking-gone.ensures.0)
 
 pub drop_from-requires : goal.drop_from-requires
 drop_from-requires c =
     let l = c.loop-v in
-    (omega (arith, c.lacking-gone.ensures.0), (c.requires.0, (omega (arith, c.loop-v-test.true, c.requires.1.0), (l.invariant.2.refining, lacking_drop c.args.s c.args.first.now c.args.second.now c.requires.0 c.args.work.now c.requires.1.1 l.v c.args.label c.loop-v-test.true c.requires.1.0 c.lacking-gone.result c.lacking-gone.ensures.1))))
+    (omega (arith, c.lacking-gone.ensures.0), (c.requires.0, (omega (arith, c.requires.1.0), (l.invariant.0.refining, lacking_drop c.args.s c.args.first.now c.args.second.now c.requires.0 c.args.work.now c.requires.1.1 l.v c.args.label (omega arith) c.requires.1.0 c.lacking-gone.result c.lacking-gone.ensures.1))))
 
 pub loop-v-preserved : goal.loop-v-preserved
 loop-v-preserved c =
     let l = c.loop-v in
     let p = c.drop_from in
-    (omega (arith, c.loop-v-test.true), p.auto.work ∙ l.invariant.1, shrank_on (decode_graph c.args.first.now) (decode_graph c.args.second.now) c.args.work.now l.work p.new.work l.invariant.2 p.ensures.0, dropped_turn c.args.s c.args.first.now c.args.second.now c.requires.0 l.work p.new.work c.lacking-gone.result c.args.label l.v p.ensures.0 l.invariant.3 p.ensures.1)
+    (shrank_on (decode_graph c.args.first.now) (decode_graph c.args.second.now) c.args.work.now l.work p.new.work l.invariant.0 p.ensures.0, dropped_turn c.args.s c.args.first.now c.args.second.now c.requires.0 l.work p.new.work c.lacking-gone.result c.args.label l.v p.ensures.0 l.invariant.1 p.ensures.1)
 
 pub returns : goal.returns
 returns c =
     let l = c.loop-v in
-    (l.invariant.2, leading_all c.args.s c.args.first.now c.args.second.now c.requires.0 c.args.work.now l.work c.lacking-gone.result c.args.label l.v c.requires.1.0 (omega (arith, c.loop-v-test.false)) c.requires.1.1 l.invariant.2 c.lacking-gone.ensures.1 l.invariant.3)
+    (l.invariant.0, leading_all c.args.s c.args.first.now c.args.second.now c.requires.0 c.args.work.now l.work c.lacking-gone.result c.args.label l.v c.requires.1.0 (omega arith) c.requires.1.1 l.invariant.0 c.lacking-gone.ensures.1 l.invariant.1)

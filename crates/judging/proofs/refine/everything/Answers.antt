@@ -1,15 +1,11 @@
-use mathlib.Core.Path.{◌≡◌, refl, ap, ◌∙◌}
+use mathlib.Core.Path.{refl, ◌∙◌}
 use mathlib.Core.Bool.{true}
 use native.Mathlib.Omega.{arith}
-use lib.Dec.{ltb}
 use Rattle.judging.proofs.RowLaws.{chosen_none, chosen_put}
 use Rattle.judging.proofs.refine.everything.Goals as goal
 
 pub loop-x-init : goal.loop-x-init
-loop-x-init c = (omega arith, refl, chosen_none (λ h. true))
+loop-x-init c = (refl, chosen_none (λ h. true))
 
 pub loop-x-preserved : goal.loop-x-preserved
-loop-x-preserved c = let l = c.loop-x in let p = c.put_bit in (omega (arith, c.loop-x-test.true), p.auto.work ∙ l.invariant.1, chosen_put (λ h. true) l.row l.x l.invariant.2 p.new.work (omega (arith, l.invariant.1)) (omega (arith, c.loop-x-test.true, c.requires)) p.ensures refl)
-
-pub returns : goal.returns
-returns c = let l = c.loop-x in let e : l.x ≡ c.args.s.second.nodes = omega (arith, c.loop-x-test.false, l.invariant.0) in (l.invariant.1, λ h b. l.invariant.2 h b ∙ ap (ltb h) e)
+loop-x-preserved c = let l = c.loop-x in let p = c.put_bit in (p.auto.work ∙ l.invariant.0, chosen_put (λ h. true) l.row l.x l.invariant.1 p.new.work (omega (arith, l.invariant.0)) (omega (arith, c.requires)) p.ensures refl)

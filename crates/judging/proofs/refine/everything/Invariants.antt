@@ -1,5 +1,5 @@
 use mathlib.Core.Path.{◌≡◌}
-use Prim.Native.Nat.{ℕ, ◌-◌, ◌≤◌, ◌<◌}
+use Prim.Native.Nat.{ℕ, ◌<◌}
 use lib.Dec.{ltb}
 use lib.ListN.{length}
 use Rattle.files.specs.Cells.{has_bit}
@@ -7,7 +7,4 @@ use Rattle.files.specs.Places.{line_bytes, max_nodes}
 use Rattle.judging.proofs.refine.everything.Given as goal
 
 abbrev pub invariant-loop-x : goal.invariant-loop-x
-invariant-loop-x l = (l.x ≤ l.s.second.nodes) × (length l.row ≡ line_bytes) × ((h : ℕ) → h < max_nodes → has_bit l.row 0 h ≡ ltb h l.x)
-
-abbrev pub decreases-loop-x : goal.decreases-loop-x
-decreases-loop-x l = l.s.second.nodes - l.x
+invariant-loop-x l = (length l.row ≡ line_bytes) × ((h : ℕ) → h < max_nodes → has_bit l.row 0 h ≡ ltb h l.x)

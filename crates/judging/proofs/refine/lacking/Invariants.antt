@@ -1,12 +1,8 @@
 use mathlib.Core.Path.{◌≡◌}
-use Prim.Native.Nat.{◌-◌, ◌≤◌}
 use lib.ListN.{length}
 use Rattle.files.specs.Places.{line_bytes}
 use Rattle.judging.specs.Refinement.{Lacking}
 use Rattle.judging.proofs.refine.lacking.Given as goal
 
 abbrev pub invariant-loop-x : goal.invariant-loop-x
-invariant-loop-x l = (l.x ≤ l.s.second.nodes) × (length l.row ≡ line_bytes) × Lacking l.work l.label l.x l.row
-
-abbrev pub decreases-loop-x : goal.decreases-loop-x
-decreases-loop-x l = l.s.second.nodes - l.x
+invariant-loop-x l = (length l.row ≡ line_bytes) × Lacking l.work l.label l.x l.row

@@ -1,12 +1,7 @@
-use mathlib.Core.Path.{◌≡◌}
-use Prim.Native.Nat.{◌-◌, ◌≤◌}
-use lib.ListN.{length}
+use Prim.Native.Nat.{◌≤◌}
 use Rattle.files.specs.Decode.{decode_graph}
 use Rattle.judging.specs.Refinement.{load, Matching}
 use Rattle.judging.proofs.refine.sweep.Given as goal
 
 abbrev pub invariant-loop-i : goal.invariant-loop-i
-invariant-loop-i l = (length l.work ≡ length l.initial.work) × Matching (decode_graph l.first) (decode_graph l.second) l.s.first.nodes l.work × (load l.s.first.nodes l.work ≤ load l.s.first.nodes l.initial.work)
-
-abbrev pub decreases-loop-i : goal.decreases-loop-i
-decreases-loop-i l = l.s.first.nodes - l.i
+invariant-loop-i l = Matching (decode_graph l.first) (decode_graph l.second) l.s.first.nodes l.work × (load l.s.first.nodes l.work ≤ load l.s.first.nodes l.initial.work)

@@ -1,36 +1,17 @@
-use mathlib.Core.Path.{◌≡◌, refl, subst, ◌∙◌}
-use Prim.Native.Nat.{◌*◌}
+use mathlib.Core.Path.{refl}
 use native.Mathlib.Omega.{arith}
-use Rattle.files.specs.Decode.{decode_graph}
-use Rattle.judging.specs.Chains.{Chained}
-use Rattle.judging.specs.Places.{heads_base, nexts_base}
-use Rattle.judging.specs.Refinement.{labelled_into}
 use Rattle.judging.proofs.RelationLaws.{slots_start, may_slot, slots_turn}
 use Rattle.judging.proofs.relation.link_slots.Goals as goal
 
 pub loop-e-init : goal.loop-e-init
-loop-e-init c = (omega arith, refl, slots_start c.args.s c.args.first.now c.args.second.now c.requires.0 c.args.work.now c.requires.1.1, λ q d. refl)
-
-pub slot_of-slot-requires : goal.slot_of-slot-requires
-slot_of-slot-requires c = (c.requires.0, c.loop-e-test.true)
+loop-e-init c = (slots_start c.args.s c.args.first.now c.args.second.now c.requires.0 c.args.work.now c.requires.1.1, λ q d. refl)
 
 pub link-requires : goal.link-requires
-link-requires c = may_slot c.args.s c.args.first.now c.args.second.now c.requires.0 c.loop-e.work c.loop-e.e c.slot_of-slot.result c.loop-e-test.true (omega (arith, c.loop-e.invariant.1, c.requires.1.0)) c.slot_of-slot.ensures
-
-pub overflow_add-e : goal.overflow_add-e
-overflow_add-e c = omega (arith, c.loop-e-test.true, c.requires.0.first_held.few_edges)
-
-pub loop-e-smaller : goal.loop-e-smaller
-loop-e-smaller c = omega (arith, c.loop-e-test.true)
+link-requires c = may_slot c.args.s c.args.first.now c.args.second.now c.requires.0 c.loop-e.work c.loop-e.e c.slot_of-slot.result (omega arith) (omega (arith, c.requires.1.0)) c.slot_of-slot.ensures
 
 pub loop-e-preserved : goal.loop-e-preserved
 loop-e-preserved c =
     let l = c.loop-e in
     let p = c.link in
-    let r = slots_turn c.args.s c.args.first.now c.args.second.now c.requires.0 c.args.work.now l.work p.new.work l.e c.slot_of-slot.result c.loop-e-test.true (omega (arith, l.invariant.1, c.requires.1.0)) c.slot_of-slot.ensures l.invariant.2 l.invariant.3 p.ensures in
-    (omega (arith, c.loop-e-test.true), p.auto.work ∙ l.invariant.1, r.0, r.1)
-
-pub returns : goal.returns
-returns c = let l = c.loop-e in
-    let e : l.e ≡ c.args.s.first.edges = omega (arith, c.loop-e-test.false, l.invariant.0) in
-    (subst (Chained l.work heads_base nexts_base (labelled_into (decode_graph c.args.first.now)) (9 * c.args.s.first.nodes)) e l.invariant.2, l.invariant.3)
+    let r = slots_turn c.args.s c.args.first.now c.args.second.now c.requires.0 c.args.work.now l.work p.new.work l.e c.slot_of-slot.result (omega arith) (omega (arith, c.requires.1.0)) c.slot_of-slot.ensures l.invariant.0 l.invariant.1 p.ensures in
+    (r.0, r.1)

@@ -1,9 +1,6 @@
 use native.Mathlib.Omega.{arith}
-use Rattle.judging.proofs.RelationLaws.{edge_fits, edge_put}
+use Rattle.judging.proofs.RelationLaws.{edge_fits}
 use Rattle.judging.proofs.relation.put_edge.Goals as goal
-
-pub edge_at-x-requires : goal.edge_at-x-requires
-edge_at-x-requires c = (c.requires.0.second_held.views.graph_file, c.requires.0.second_held.views.nodes_are, omega (arith, c.requires.1.0, c.requires.0.second_held.views.edges_are, c.requires.0.second_held.views.nodes_are))
 
 pub overflow_mul-x : goal.overflow_mul-x
 overflow_mul-x c = let b = edge_fits c.args.s c.args.first.now c.args.second.now c.requires.0 c.args.j c.edge_at-x.result c.requires.1.0 c.edge_at-x.ensures in omega (arith, b.0, b.1, b.2)
@@ -34,6 +31,3 @@ overflow_add-x-4 c = let b = edge_fits c.args.s c.args.first.now c.args.second.n
 
 pub put_bit-requires-2 : goal.put_bit-requires-2
 put_bit-requires-2 c = let b = edge_fits c.args.s c.args.first.now c.args.second.now c.requires.0 c.args.j c.edge_at-x.result c.requires.1.0 c.edge_at-x.ensures in omega (arith, b.0, b.1, b.2, c.requires.1.1, c.put_bit.auto.work)
-
-pub returns : goal.returns
-returns c = edge_put c.args.s c.args.first.now c.args.second.now c.requires.0 c.args.work.now c.put_bit.new.work c.put_bit-2.new.work c.args.j c.edge_at-x.result c.edge_at-x.ensures c.put_bit.ensures c.put_bit-2.ensures

@@ -1,6 +1,3 @@
-use mathlib.Core.Path.{◌≡◌}
-use Prim.Native.Nat.{◌-◌, ◌≤◌}
-use lib.ListN.{length}
 use Rattle.files.specs.Decode.{decode_graph}
 use Rattle.judging.specs.Chains.{Outside}
 use Rattle.judging.specs.Places.{neighbours_base, neighbours_end}
@@ -8,7 +5,4 @@ use Rattle.judging.specs.Refinement.Preparing.{Putting}
 use Rattle.judging.proofs.relation.put_edges.Given as goal
 
 abbrev pub invariant-loop-j : goal.invariant-loop-j
-invariant-loop-j l = (l.j ≤ l.s.second.edges) × (length l.work ≡ length l.initial.work) × Putting (decode_graph l.second) l.s.second.nodes l.j l.work × Outside neighbours_base neighbours_end l.initial.work l.work
-
-abbrev pub decreases-loop-j : goal.decreases-loop-j
-decreases-loop-j l = l.s.second.edges - l.j
+invariant-loop-j l = Putting (decode_graph l.second) l.s.second.nodes l.j l.work × Outside neighbours_base neighbours_end l.initial.work l.work

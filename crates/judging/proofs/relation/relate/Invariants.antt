@@ -1,8 +1,7 @@
 use mathlib.Core.Path.{◌≡◌}
 use mathlib.Core.Bool.{◌&&◌}
-use Prim.Native.Nat.{ℕ, ◌-◌, ◌≤◌, ◌<◌}
+use Prim.Native.Nat.{ℕ, ◌<◌}
 use lib.Dec.{ltb}
-use lib.ListN.{length}
 use Rattle.files.specs.Decode.{decode_graph}
 use Rattle.files.specs.Graph.{node}
 use Rattle.files.specs.Places.{max_nodes}
@@ -13,7 +12,4 @@ use Rattle.judging.specs.Simulation.{alike}
 use Rattle.judging.proofs.relation.relate.Given as goal
 
 abbrev pub invariant-loop-g : goal.invariant-loop-g
-invariant-loop-g l = (l.g ≤ l.s.first.nodes) × (length l.work ≡ length l.initial.work) × ((u h : ℕ) → u < l.g → h < max_nodes → rel l.work u h ≡ (ltb h l.s.second.nodes && alike (node (decode_graph l.first) u) (node (decode_graph l.second) h))) × Outside 0 held_base l.initial.work l.work
-
-abbrev pub decreases-loop-g : goal.decreases-loop-g
-decreases-loop-g l = l.s.first.nodes - l.g
+invariant-loop-g l = ((u h : ℕ) → u < l.g → h < max_nodes → rel l.work u h ≡ (ltb h l.fn.s.second.nodes && alike (node (decode_graph l.first) u) (node (decode_graph l.second) h))) × Outside 0 held_base l.initial.work l.work

@@ -1,5 +1,5 @@
 use mathlib.Core.Path.{◌≡◌}
-use Prim.Native.Nat.{ℕ, ◌+◌, ◌-◌, ◌≤◌, ◌<◌}
+use Prim.Native.Nat.{ℕ, ◌+◌, ◌-◌, ◌<◌}
 use lib.Bits.{bit_and}
 use lib.ListN.{get_or}
 use Rattle.files.specs.Places.{max_nodes}
@@ -7,7 +7,4 @@ use Rattle.judging.specs.Refinement.Rows.{joined}
 use Rattle.judging.proofs.rows.exceeds.Given as goal
 
 abbrev pub invariant-loop-k : goal.invariant-loop-k
-invariant-loop-k l = (l.k ≤ 32) × (l.any ≡ joined (λ j. bit_and (get_or l.work (l.at + j) 0) (255 - get_or l.work (l.less + j) 0)) l.k) × ((j : ℕ) → j < l.k → get_or l.work (l.less + j) 0 < max_nodes)
-
-abbrev pub decreases-loop-k : goal.decreases-loop-k
-decreases-loop-k l = 32 - l.k
+invariant-loop-k l = (l.any ≡ joined (λ j. bit_and (get_or l.work (l.at + j) 0) (255 - get_or l.work (l.less + j) 0)) l.k) × ((j : ℕ) → j < l.k → get_or l.work (l.less + j) 0 < max_nodes)

@@ -1,20 +1,8 @@
-use mathlib.Core.Path.{refl}
-use Prim.Native.Nat.{◌+◌}
 use native.Mathlib.Omega.{arith}
-use lib.Bits.{bit_and}
-use lib.ListN.{get_or}
-use Rattle.judging.proofs.RowLaws.{joined_more, meets_by}
+use Rattle.judging.proofs.RowLaws.{meets_by}
 use Rattle.judging.proofs.rows.meets.Goals as goal
-
-pub loop-k-init : goal.loop-k-init
-loop-k-init c = (omega arith, refl)
-
-pub loop-k-preserved : goal.loop-k-preserved
-loop-k-preserved c = let a = c.args in
-    let l = c.loop-k in
-    (omega (arith, c.loop-k-test.true), joined_more (λ j. bit_and (get_or a.row.now j 0) (get_or a.work.now (a.at + j) 0)) l.any l.k l.invariant.1)
 
 pub returns : goal.returns
 returns c = let a = c.args in
     let l = c.loop-k in
-    meets_by a.row.now a.work.now a.at l.any l.k c.wide.result l.invariant.1 l.invariant.0 (omega (arith, c.loop-k-test.false)) c.wide.ensures.0 c.wide.ensures.1
+    meets_by a.row.now a.work.now a.at l.any l.k c.wide.result l.invariant (omega arith) (omega arith) c.wide.ensures.0 c.wide.ensures.1

@@ -1,11 +1,6 @@
-use mathlib.Core.Path.{◌≡◌}
-use Prim.Native.Nat.{◌-◌, ◌≤◌}
-use lib.ListN.{length, get_or}
+use lib.ListN.{get_or}
 use Rattle.judging.specs.Refinement.Rows.{Bytes}
 use Rattle.judging.proofs.rows.put_row.Given as goal
 
 abbrev pub invariant-loop-k : goal.invariant-loop-k
-invariant-loop-k l = (l.k ≤ 32) × (length l.work ≡ length l.initial.work) × Bytes (λ j. get_or l.row j 0) l.initial.work l.at l.k l.work
-
-abbrev pub decreases-loop-k : goal.decreases-loop-k
-decreases-loop-k l = 32 - l.k
+invariant-loop-k l = Bytes (λ j. get_or l.row j 0) l.initial.work l.at l.k l.work

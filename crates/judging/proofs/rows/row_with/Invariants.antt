@@ -1,12 +1,9 @@
 use mathlib.Core.Path.{◌≡◌}
-use Prim.Native.Nat.{ℕ, ◌+◌, ◌-◌, ◌≤◌, ◌<◌}
+use Prim.Native.Nat.{ℕ, ◌+◌, ◌<◌}
 use lib.Bits.{bit_or}
 use lib.ListN.{length, get_or}
 use Rattle.files.specs.Places.{line_bytes}
 use Rattle.judging.proofs.rows.row_with.Given as goal
 
 abbrev pub invariant-loop-k : goal.invariant-loop-k
-invariant-loop-k l = (l.k ≤ 32) × (length l.both ≡ line_bytes) × ((j : ℕ) → j < l.k → get_or l.both (0 + j) 0 ≡ bit_or (get_or l.row j 0) (get_or l.work (l.at + j) 0))
-
-abbrev pub decreases-loop-k : goal.decreases-loop-k
-decreases-loop-k l = 32 - l.k
+invariant-loop-k l = (length l.both ≡ line_bytes) × ((j : ℕ) → j < l.k → get_or l.both (0 + j) 0 ≡ bit_or (get_or l.row j 0) (get_or l.work (l.at + j) 0))

@@ -13,28 +13,15 @@ use Rattle.judging.specs.Sheets.Walk.{bytes_of, bytes_none, bytes_more, bytes_al
 use Rattle.judging.proofs.sheet.write_sheet.Goals as goal
 
 pub loop-i-init : goal.loop-i-init
-loop-i-init c = let a = c.args in (omega arith, bytes_none (decode_graph a.graph.now) (decode_property a.property.now) a.work.now a.out.now, refl)
-
-pub put_fault-requires : goal.put_fault-requires
-put_fault-requires c = (c.requires.0, (c.requires.1.0, (c.loop-i-test.true, omega (arith, c.loop-i-test.true, c.requires.1.1.1, c.loop-i.invariant.2))))
-
-pub overflow_add-i : goal.overflow_add-i
-overflow_add-i c = omega (arith, c.loop-i-test.true)
-
-pub loop-i-smaller : goal.loop-i-smaller
-loop-i-smaller c = omega (arith, c.loop-i-test.true)
+loop-i-init c = let a = c.args in (bytes_none (decode_graph a.graph.now) (decode_property a.property.now) a.work.now a.out.now, refl)
 
 pub loop-i-preserved : goal.loop-i-preserved
 loop-i-preserved c = let a = c.args in
     let l = c.loop-i in
-    let x = c.put_fault in (
-      omega (arith, c.loop-i-test.true),
-      x.ensures ∙ ap (λ (o : List ℕ). put_at o (record_len * l.i) (fault_bytes (fault (decode_graph a.graph.now) (decode_property a.property.now) (pair_of (queue_at a.work.now l.i))))) l.invariant.1 ∙ bytes_more (decode_graph a.graph.now) (decode_property a.property.now) a.work.now a.out.now l.i ∙ ap (λ (k : ℕ). put_at a.out.now 0 (bytes_of (decode_graph a.graph.now) (decode_property a.property.now) a.work.now k)) (sym (add-one l.i)),
-      x.auto.out ∙ l.invariant.2,
-    )
+    let x = c.put_fault in (x.ensures ∙ ap (λ (o : List ℕ). put_at o (record_len * l.i) (fault_bytes (fault (decode_graph a.graph.now) (decode_property a.property.now) (pair_of (queue_at a.work.now l.i))))) l.invariant.0 ∙ bytes_more (decode_graph a.graph.now) (decode_property a.property.now) a.work.now a.out.now l.i ∙ ap (λ (k : ℕ). put_at a.out.now 0 (bytes_of (decode_graph a.graph.now) (decode_property a.property.now) a.work.now k)) (sym (add-one l.i)), x.auto.out ∙ l.invariant.1)
 
 pub returns : goal.returns
 returns c = let a = c.args in
     let l = c.loop-i in
-    let e : l.i ≡ a.n = omega (arith, c.loop-i-test.false, l.invariant.0) in
-    l.invariant.1 ∙ ap (λ (k : ℕ). put_at a.out.now 0 (bytes_of (decode_graph a.graph.now) (decode_property a.property.now) a.work.now k)) e ∙ bytes_all (decode_graph a.graph.now) (decode_property a.property.now) a.work.now a.out.now a.n c.requires.1.1.0
+    let e : l.i ≡ a.n = omega arith in
+    l.invariant.0 ∙ ap (λ (k : ℕ). put_at a.out.now 0 (bytes_of (decode_graph a.graph.now) (decode_property a.property.now) a.work.now k)) e ∙ bytes_all (decode_graph a.graph.now) (decode_property a.property.now) a.work.now a.out.now a.n c.requires.1.1.0

@@ -10,7 +10,7 @@ use mathlib.Core.List.{List, [], ◌∷◌, map, Memᴰ}
 use Rattle.std.proofs.Math.Dec.{T, eqb_refl}
 use Rattle.std.proofs.Math.ListN.{length, get_or}
 use Rattle.std.proofs.lemmas.List.{length-map}
-use Rattle.files.specs.Access.{row_held}
+use Rattle.files.specs.Access.{row_held, operator_of}
 use Rattle.files.specs.Basics.Least.{least, least_passes, least_before, least_lt}
 use Rattle.files.specs.Basics.Lists.{keep, each, each_map, length_each}
 use Rattle.files.specs.Basics.Queue.{breadth_first}
@@ -167,11 +167,11 @@ module _ (G : Graph) (P : List Row) where
         go x (by_label l b) = refl
         go x (by_any a) = refl
 
-    pub causes_rest : ((row_held (row P r)).operator ≡ 7 → ⊥) → ((row_held (row P r)).operator ≡ 8 → ⊥) → (Boxed (row P r) → ⊥) → causes G P (g, r) ≡ []
+    pub causes_rest : (operator_of (row_held (row P r)) ≡ 7 → ⊥) → (operator_of (row_held (row P r)) ≡ 8 → ⊥) → (Boxed (row P r) → ⊥) → causes G P (g, r) ≡ []
     unfolding causes row_causes
     causes_rest = go (row P r)
       where
-        go : (x : Row) → ((row_held x).operator ≡ 7 → ⊥) → ((row_held x).operator ≡ 8 → ⊥) → (Boxed x → ⊥) → row_causes G P g x ≡ []
+        go : (x : Row) → (operator_of (row_held x) ≡ 7 → ⊥) → (operator_of (row_held x) ≡ 8 → ⊥) → (Boxed x → ⊥) → row_causes G P g x ≡ []
         go always e f h = refl
         go never e f h = refl
         go returns e f h = refl

@@ -4,13 +4,11 @@ use Rattle.std.specs.Prelude.{◌≡◌, refl, List, ℕ, ◌+◌, ◌*◌, ◌<
 use Rattle.std.proofs.Common.{sym, ap, subst, ◌∙◌}
 use Rattle.files.specs.Decode.{decode_property, decode_interface}
 use Rattle.files.specs.Graph.{Graph, size}
-use Rattle.files.specs.Outcome.{Does}
+use Rattle.files.specs.Outcome.{Does, Written}
 use Rattle.files.specs.Outcome.Meaning.{Heard, itself, heard_itself, refuses_by, clears_by}
 use Rattle.files.specs.Places.{record_len}
 use Rattle.files.specs.declared.record.Limits.{Limits}
-use Rattle.maximal.specs.declared.answers.Modelled.{Modelled}
-use Rattle.maximal.specs.declared.answers.Modelled.TheVariants.{Written}
-use Rattle.maximal.specs.Modelling.{modelled_answer, modelled}
+use Rattle.maximal.specs.Modelling.{modelled_answer, modelled, Modelled}
 use Rattle.maximal.proofs.Theorems.Modelling.Laws.{model_says}
 use Rattle.maximal.specs.Modelling.Meaning.{G, ModelMeans, WrittenModel, d, edges_counted, is_written, ls, modelled_enum, nodes_counted, o, said, wrote}
 

@@ -1,14 +1,8 @@
 -- Of the first i sets those that are kept stand at the front; the sets from i on stand as they stood, so the next one is read as it was.
-use mathlib.Core.Path.{◌≡◌}
 use mathlib.Core.Bool.{not}
-use Prim.Native.Nat.{◌-◌, ◌≤◌}
-use lib.ListN.{length}
 use Rattle.maximal.specs.Masks.{within}
 use Rattle.maximal.proofs.AntichainLaws.{Kept}
 use Rattle.maximal.proofs.antichain.drop_above.Given as goal
 
 abbrev pub invariant-loop-i : goal.invariant-loop-i
-invariant-loop-i l = (l.i ≤ l.count) × (length l.work ≡ length l.initial.work) × (Kept (λ u. not (within l.s u)) l.initial.work l.work l.i l.left)
-
-abbrev pub decreases-loop-i : goal.decreases-loop-i
-decreases-loop-i l = l.count - l.i
+invariant-loop-i l = Kept (λ u. not (within l.s u)) l.initial.work l.work l.i l.left

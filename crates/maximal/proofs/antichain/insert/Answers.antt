@@ -18,7 +18,7 @@ pub returns : goal.returns
 returns c =
     let a = c.args in
     let d = c.drop_above-left in
-    let p = c.put32 in
+    let p = c.put in
     let few : d.result < max_candidates = omega (arith, d.ensures.1.0) in
     let room : model_room ≤ length d.new.work = omega (arith, d.auto.work) in (
       listed_put d.new.work p.new.work d.result a.s few room (omega arith) p.ensures

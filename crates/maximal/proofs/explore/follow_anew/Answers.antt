@@ -4,13 +4,8 @@ use Rattle.files.specs.Decode.{decode_interface, decode_property}
 use Rattle.maximal.specs.Charting.{flag_of}
 use Rattle.maximal.specs.Collected.{supports_of}
 use Rattle.maximal.proofs.AdmitLaws.{tables_admitted}
-use Rattle.maximal.proofs.ExploreLaws.{slot_fits, method_fits, set_fits, next_known, worked_anew}
+use Rattle.maximal.proofs.ExploreLaws.{slot_fits, set_fits, next_known, worked_anew}
 use Rattle.maximal.proofs.explore.follow_anew.Goals as goal
-
-pub overflow_mul-method : goal.overflow_mul-method
-overflow_mul-method c =
-    let a = c.args in
-    omega (arith, method_fits a.s (decode_interface a.interface.now) a.property.now c.requires.0 a.c a.q a.method a.set a.work.now c.requires.1.0 c.requires.1.1.1.1.1)
 
 pub admit-going-requires : goal.admit-going-requires
 admit-going-requires c =
@@ -36,19 +31,6 @@ admit-going-requires c =
         ),
       ),
     )
-
-pub returns-then-s-going : goal.returns-then-s-going
-returns-then-s-going c = (λ h. absurd (omega (arith, h, c.if-s-going.true)), c.admit-going.ensures.1)
-
-pub overflow_mul-method-2 : goal.overflow_mul-method-2
-overflow_mul-method-2 c =
-    let a = c.args in
-    omega (arith, method_fits a.s (decode_interface a.interface.now) a.property.now c.requires.0 a.c a.q a.method a.set a.work.now c.requires.1.0 c.requires.1.1.1.1.1)
-
-pub overflow_add-method : goal.overflow_add-method
-overflow_add-method c =
-    let a = c.args in
-    omega (arith, method_fits a.s (decode_interface a.interface.now) a.property.now c.requires.0 a.c a.q a.method a.set a.work.now c.requires.1.0 c.requires.1.1.1.1.1)
 
 pub admit-requires : goal.admit-requires
 admit-requires c =

@@ -1,12 +1,10 @@
-use mathlib.Core.Path.{sym, ap, ◌∙◌}
-use Prim.Native.Nat.{ℕ, ◌<◌}
+use Prim.Native.Nat.{◌<◌}
 use native.Mathlib.Omega.{arith}
 use lib.ListN.{length}
 use Rattle.files.specs.Decode.{decode_property}
 use Rattle.maximal.specs.Charting.Files.{file_named}
-use Rattle.maximal.specs.Masks.{asked_of}
 use Rattle.maximal.specs.Masks.Order.{taken_row}
-use Rattle.maximal.proofs.MaskLaws.{partly_none, all_worked, row_left, partly_with, less_left, asked_none, asked_with}
+use Rattle.maximal.proofs.MaskLaws.{partly_none, row_left, partly_with, less_left, asked_none, asked_with}
 use Rattle.maximal.proofs.RowLaws.{rows_are}
 use Rattle.maximal.proofs.masks.asked.Goals as goal
 use Rattle.maximal.proofs.masks.asked.Goals.{After-next_row-r}
@@ -59,9 +57,3 @@ loop-done-preserved c =
       partly_with a.n a.set l.done l.invariant.0 h.result h.ensures o.result o.ensures,
       asked_with P a.label l.done h.result l.rows b.result o.result row named l.invariant.1 b.ensures o.ensures,
     )
-
-pub returns : goal.returns
-returns c =
-    let a = c.args in
-    let l = c.loop-done in
-    l.invariant.1 ∙ ap (λ (d : ℕ). asked_of (decode_property a.property.now) d a.label) (sym (all_worked a.set l.done c.loop-done-test.false-raw))

@@ -1,4 +1,4 @@
-use mathlib.Core.Path.{◌≡◌, refl, sym, ◌∙◌}
+use mathlib.Core.Path.{◌≡◌, sym, ◌∙◌}
 use native.Mathlib.Omega.{arith}
 use lib.ListN.{length}
 use Rattle.files.specs.Decode.{decode_property}
@@ -7,34 +7,17 @@ use Rattle.maximal.proofs.RowLaws.{rows_are}
 use Rattle.maximal.proofs.masks.untrue.Goals as goal
 use Rattle.maximal.proofs.masks.untrue.Goals.{else-is_untrue, then-is_untrue}
 
-pub loop-r-init : goal.loop-r-init
-loop-r-init c = (omega arith, refl)
-
-pub is_untrue-requires : goal.is_untrue-requires
-is_untrue-requires c = (c.requires.0, (c.requires.1.0, (c.requires.1.1, c.loop-r-test.true)))
-
-pub one_row-set-requires : goal.one_row-set-requires
-one_row-set-requires c = omega arith
-
-pub overflow_add-r : goal.overflow_add-r
-overflow_add-r c = omega arith
-
-pub loop-r-smaller : goal.loop-r-smaller
-loop-r-smaller c = omega arith
-
 pub loop-r-preserved : goal.loop-r-preserved
 loop-r-preserved c =
     let a = c.args in
     let l = c.loop-r in
     let i = c.is_untrue in
-    let v = untrue_row (decode_property a.property.now) a.method a.flag in (
-      omega arith,
-      elim c.if-is_untrue.branch [ then-is_untrue w ↦ w.set-is ∙ mask_with v l.r l.set w.one_row-set.result l.invariant.1 w.one_row-set.ensures (sym i.ensures ∙ w.if-is_untrue.true) | else-is_untrue w ↦ w.set-is ∙ mask_without v l.r l.set l.invariant.1 (sym i.ensures ∙ w.if-is_untrue.false) ],
-    )
+    let v = untrue_row (decode_property a.property.now) a.method a.flag in
+    elim c.if-is_untrue.branch [ then-is_untrue w ↦ w.set-is ∙ mask_with v l.r l.set w.one_row-set.result l.invariant w.one_row-set.ensures (sym i.ensures ∙ w.if-is_untrue.true) | else-is_untrue w ↦ w.set-is ∙ mask_without v l.r l.set l.invariant (sym i.ensures ∙ w.if-is_untrue.false) ]
 
 pub returns : goal.returns
 returns c =
     let a = c.args in
     let l = c.loop-r in
     let e : l.r ≡ length (decode_property a.property.now) = omega (arith, rows_are c.args.property.now c.requires.0 c.args.n c.requires.1.0) in
-    untrue_all (decode_property a.property.now) a.method a.flag l.r l.set e l.invariant.1
+    untrue_all (decode_property a.property.now) a.method a.flag l.r l.set e l.invariant

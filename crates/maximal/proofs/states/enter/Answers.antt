@@ -20,4 +20,4 @@ returns c =
     let a = c.args in
     let f = c.find_pair-t in
     entered_new a.s (decode_interface a.interface.now) a.property.now c.requires.0 a.q a.c a.kind a.set a.work.now c.requires.1.0 c.requires.1.1.0 c.requires.1.1.1.0 c.requires.1.1.1.1.0 c.requires.1.1.1.1.1 f.result f.ensures (λ h. omega (arith, h, c.if-t-c.false)) c.if-c-s.false (omega arith)
-    c.put8.new.work c.put32.new.work c.put_bit-2.new.work c.put8.ensures c.put32.ensures c.put_bit-2.ensures
+    c.put.new.work c.put-2.new.work c.put_bit-2.new.work c.put.ensures c.put-2.ensures c.put_bit-2.ensures

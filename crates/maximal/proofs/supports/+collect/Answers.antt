@@ -13,23 +13,13 @@ use Rattle.maximal.specs.declared.supports.Opened.{Opened}
 use Rattle.maximal.specs.Collected.{listed, inserted, collected}
 use Rattle.maximal.specs.Collected.Search.{collected_cut, collected_leaf, collected_last}
 use Rattle.maximal.proofs.RowLaws.{rows_are}
-use Rattle.maximal.proofs.SupportLaws.{tables_kept, at_leaf, at_split, open_below, a_row, b_row, first_row, second_row, branch_bounded, both_collected, twice_below}
+use Rattle.maximal.proofs.SupportLaws.{tables_kept, at_leaf, at_split, open_below, or_is, b_row, first_row, second_row, branch_bounded, both_collected, twice_below}
 use Rattle.maximal.proofs.supports.+collect.Goals as goal
 
 pub returns-then-not-bound-forbidden : goal.returns-then-not-bound-forbidden
 returns-then-not-bound-forbidden t c =
     let a = c.args in
     (sym (collected_cut (decode_property a.property.now) a.set a.worked a.bound a.forbidden (listed a.work.now a.found) a.left (not-true (apart a.bound a.forbidden) c.if-not-bound-forbidden.true-raw)), (omega arith, λ q d. refl))
-
-pub next_open-o-requires : goal.next_open-o-requires
-next_open-o-requires t c =
-    let a = c.args in
-    (c.requires.0, (c.requires.1.0, (c.requires.1.1.0, (c.requires.1.1.1.1.0, (c.requires.1.1.1.1.1.0, c.requires.1.1.1.1.1.1)))))
-
-pub insert-requires : goal.insert-requires
-insert-requires t c =
-    let a = c.args in
-    (omega (arith, pow_pos a.left, c.requires.1.1.1.0), c.requires.1.1.1.1.0)
 
 pub returns-then-o-n : goal.returns-then-o-n
 returns-then-o-n t c =
@@ -50,34 +40,28 @@ returns-then-left-eq0 t c =
     let e = ap (λ (i : ℕ). collected (decode_property a.property.now) i a.set a.worked a.bound a.forbidden (listed a.work.now a.found)) c.if-left-eq0.true in
     (sym (e ∙ collected_last (decode_property a.property.now) a.set a.worked a.bound a.forbidden (listed a.work.now a.found) (not-false (apart a.bound a.forbidden) c.if-not-bound-forbidden.false-raw) (at_split a.property.now c.requires.0 a.n c.requires.1.0 c.requires.1.1.0 a.set a.worked a.bound c.requires.1.1.1.1.1.1 o.result o.ensures split)), (omega arith, λ q d. refl))
 
-pub row_at-x-requires : goal.row_at-x-requires
-row_at-x-requires t c =
+pub row_at-requires : goal.row_at-requires
+row_at-requires t c =
     let a = c.args in
     let o = c.next_open-o in
     let split = c.if-o-n.false in
     (c.requires.0, omega (arith, open_below a.property.now c.requires.0 a.n c.requires.1.0 c.requires.1.1.0 a.set a.worked a.bound c.requires.1.1.1.1.1.1 o.result o.ensures split, c.requires.1.0))
 
-pub get32-requires : goal.get32-requires
-get32-requires t c =
+-- the open row is an "or"
+pub returns-in_default : goal.returns-in_default
+returns-in_default t c =
     let a = c.args in
     let o = c.next_open-o in
     let split = c.if-o-n.false in
-    let read = c.row_at-x.ensures in
-    omega (arith, a_row a.property.now c.requires.0 a.n c.requires.1.0 c.requires.1.1.0 a.set a.worked a.bound c.requires.1.1.1.1.1.1 o.result o.ensures split _ read, c.requires.1.1.0, c.requires.1.1.1.1.0)
+    absurd (c.in_default.not-Or _ _ (or_is a.property.now c.requires.0 a.n c.requires.1.0 c.requires.1.1.0 a.set a.worked a.bound c.requires.1.1.1.1.1.1 o.result o.ensures split _ c.row_at.ensures))
 
 pub has_row-b_first-requires : goal.has_row-b_first-requires
 has_row-b_first-requires t c =
     let a = c.args in
     let o = c.next_open-o in
     let split = c.if-o-n.false in
-    let read = c.row_at-x.ensures in
+    let read = c.in-Or.ensures in
     omega (arith, b_row a.property.now c.requires.0 a.n c.requires.1.0 c.requires.1.1.0 a.set a.worked a.bound c.requires.1.1.1.1.1.1 o.result o.ensures split _ read, c.requires.1.1.0)
-
-pub pick-first-requires : goal.pick-first-requires
-pick-first-requires t c = tt
-
-pub pick-second-requires : goal.pick-second-requires
-pick-second-requires t c = tt
 
 pub one_row-requires : goal.one_row-requires
 one_row-requires t c =
@@ -91,7 +75,7 @@ one_row-one_first-requires t c =
     let a = c.args in
     let o = c.next_open-o in
     let split = c.if-o-n.false in
-    let read = c.row_at-x.ensures in
+    let read = c.in-Or.ensures in
     let f = c.has_row-b_first.result in
     let i = c.pick-first in
     omega (arith, first_row a.property.now c.requires.0 a.n c.requires.1.0 c.requires.1.1.0 a.set a.worked a.bound c.requires.1.1.1.1.1.1 o.result o.ensures split _ read f i.result i.ensures, c.requires.1.1.0)
@@ -101,59 +85,33 @@ one_row-one_second-requires t c =
     let a = c.args in
     let o = c.next_open-o in
     let split = c.if-o-n.false in
-    let read = c.row_at-x.ensures in
+    let read = c.in-Or.ensures in
     let f = c.has_row-b_first.result in
     let i = c.pick-second in
     omega (arith, second_row a.property.now c.requires.0 a.n c.requires.1.0 c.requires.1.1.0 a.set a.worked a.bound c.requires.1.1.1.1.1.1 o.result o.ensures split _ read f i.result i.ensures, c.requires.1.1.0)
-
-pub get32-requires-2 : goal.get32-requires-2
-get32-requires-2 t c =
-    let a = c.args in
-    let o = c.next_open-o in
-    let split = c.if-o-n.false in
-    let read = c.row_at-x.ensures in
-    let f = c.has_row-b_first.result in
-    let i = c.pick-first in
-    omega (arith, first_row a.property.now c.requires.0 a.n c.requires.1.0 c.requires.1.1.0 a.set a.worked a.bound c.requires.1.1.1.1.1.1 o.result o.ensures split _ read f i.result i.ensures, c.requires.1.1.0, c.requires.1.1.1.1.0)
-
-pub get32-requires-3 : goal.get32-requires-3
-get32-requires-3 t c =
-    let a = c.args in
-    let o = c.next_open-o in
-    let split = c.if-o-n.false in
-    let read = c.row_at-x.ensures in
-    let f = c.has_row-b_first.result in
-    let i = c.pick-second in
-    omega (arith, second_row a.property.now c.requires.0 a.n c.requires.1.0 c.requires.1.1.0 a.set a.worked a.bound c.requires.1.1.1.1.1.1 o.result o.ensures split _ read f i.result i.ensures, c.requires.1.1.0, c.requires.1.1.1.1.0)
-
-pub overflow_sub-left : goal.overflow_sub-left
-overflow_sub-left t c = omega (arith, c.if-left-eq0.false)
 
 pub collect-listed-requires : goal.collect-listed-requires
 collect-listed-requires t c =
     let a = c.args in
     let o = c.next_open-o in
     let split = c.if-o-n.false in
-    let read = c.row_at-x.ensures in
+    let read = c.in-Or.ensures in
     let f = c.has_row-b_first.result in
     let i = c.pick-first in
     let some = c.if-left-eq0.false in
     let d = twice_below a.left some in
     let one-r = c.one_row in
     let one-c = c.one_row-one_first in
-    let closed-c = c.get32-2 in
+    let closed-c = c.get-2 in
     let bounded = branch_bounded a.property.now c.requires.0 a.n c.requires.1.0 c.requires.1.1.0 a.set a.worked a.bound c.requires.1.1.1.1.1.1 o.result o.ensures split _ read a.work.now c.requires.1.1.1.1.1.0 i.result one-c.result one-r.result closed-c.result (first_row a.property.now c.requires.0 a.n c.requires.1.0 c.requires.1.1.0 a.set a.worked a.bound c.requires.1.1.1.1.1.1 o.result o.ensures split _ read f i.result i.ensures) one-c.ensures one-r.ensures closed-c.ensures in
-    (omega (arith, some, c.requires.0), (c.requires.0, (c.requires.1.0, (c.requires.1.1.0, (omega (arith, d, c.requires.1.1.1.0), (c.requires.1.1.1.1.0, (c.requires.1.1.1.1.1.0, bounded)))))))
-
-pub overflow_sub-left-2 : goal.overflow_sub-left-2
-overflow_sub-left-2 t c = omega (arith, c.if-left-eq0.false)
+    (omega (arith, some), (c.requires.0, (c.requires.1.0, (c.requires.1.1.0, (omega (arith, d, c.requires.1.1.1.0), (c.requires.1.1.1.1.0, (c.requires.1.1.1.1.1.0, bounded)))))))
 
 pub collect-requires : goal.collect-requires
 collect-requires t c =
     let a = c.args in
     let o = c.next_open-o in
     let split = c.if-o-n.false in
-    let read = c.row_at-x.ensures in
+    let read = c.in-Or.ensures in
     let f = c.has_row-b_first.result in
     let i = c.pick-second in
     let some = c.if-left-eq0.false in
@@ -164,26 +122,26 @@ collect-requires t c =
     let kept = tables_kept P a.work.now g.new.work few g.ensures.1.1 c.requires.1.1.1.1.1.0 in
     let one-r = c.one_row in
     let one-c = c.one_row-one_second in
-    let closed-c = c.get32-3 in
+    let closed-c = c.get-3 in
     let bounded = branch_bounded a.property.now c.requires.0 a.n c.requires.1.0 c.requires.1.1.0 a.set a.worked a.bound c.requires.1.1.1.1.1.1 o.result o.ensures split _ read a.work.now c.requires.1.1.1.1.1.0 i.result one-c.result one-r.result closed-c.result (second_row a.property.now c.requires.0 a.n c.requires.1.0 c.requires.1.1.0 a.set a.worked a.bound c.requires.1.1.1.1.1.1 o.result o.ensures split _ read f i.result i.ensures) one-c.ensures one-r.ensures closed-c.ensures in
-    (omega (arith, some, c.requires.0), (c.requires.0, (c.requires.1.0, (c.requires.1.1.0, (omega (arith, d, g.ensures.1.0, c.requires.1.1.1.0), (omega (arith, g.auto.work, c.requires.1.1.1.1.0), (kept, bounded)))))))
+    (omega (arith, some), (c.requires.0, (c.requires.1.0, (c.requires.1.1.0, (omega (arith, d, g.ensures.1.0, c.requires.1.1.1.0), (omega (arith, g.auto.work, c.requires.1.1.1.1.0), (kept, bounded)))))))
 
 pub returns : goal.returns
 returns t c =
     let a = c.args in
     let o = c.next_open-o in
     let split = c.if-o-n.false in
-    let read = c.row_at-x.ensures in
+    let read = c.in-Or.ensures in
     let some = c.if-left-eq0.false in
-    let of-a = c.get32 in
+    let of-a = c.get in
     let b-first = c.has_row-b_first in
     let first = c.pick-first in
     let second = c.pick-second in
     let one-r = c.one_row in
     let one-first = c.one_row-one_first in
     let one-second = c.one_row-one_second in
-    let closed-first = c.get32-2 in
-    let closed-second = c.get32-3 in
+    let closed-first = c.get-2 in
+    let closed-second = c.get-3 in
     let f = c.collect-listed in
     let g = c.collect in
     let A = (listed a.work.now a.found) in

@@ -5,7 +5,7 @@ use Rattle.maximal.specs.Masks.{completion}
 use Rattle.maximal.specs.Masks.Laws.{member_lt}
 use Rattle.maximal.specs.Masks.Order.{taken_row}
 use Rattle.maximal.proofs.CompleteLaws.{completion_none, completion_union}
-use Rattle.maximal.proofs.MaskLaws.{partly_none, all_worked, row_left, partly_with, less_left}
+use Rattle.maximal.proofs.MaskLaws.{partly_none, row_left, partly_with, less_left}
 use Rattle.maximal.proofs.supports.closed_rows.Goals as goal
 
 pub loop-done-init : goal.loop-done-init
@@ -21,8 +21,8 @@ one_row-done-requires c =
     let l = c.loop-done in
     taken_row 32 c.args.set l.done l.invariant.0 c.next_row-r.result c.next_row-r.ensures
 
-pub get32-all-requires : goal.get32-all-requires
-get32-all-requires c =
+pub get-all-requires : goal.get-all-requires
+get-all-requires c =
     let l = c.loop-done in
     let h = c.next_row-r in
     omega (arith, taken_row 32 c.args.set l.done l.invariant.0 h.result h.ensures, c.requires)
@@ -41,14 +41,9 @@ loop-done-preserved c =
     let l = c.loop-done in
     let h = c.next_row-r in
     let o = c.one_row-done in
-    let g = c.get32-all in
+    let g = c.get-all in
     let more = partly_with 32 a.set l.done l.invariant.0 h.result h.ensures o.result o.ensures in (
       more,
       λ P t f. completion_union P l.done o.result l.all g.result (λ q i. member_lt (length P) a.set q f (more.inside q i)) (l.invariant.1 P t f)
           (g.ensures ∙ t.closed_are h.result (member_lt (length P) a.set h.result f h.ensures.in_set) ∙ ap (completion P) (sym o.ensures)),
     )
-
-pub returns : goal.returns
-returns c = λ P t f.
-    let l = c.loop-done in
-    l.invariant.1 P t f ∙ ap (completion P) (sym (all_worked c.args.set l.done c.loop-done-test.false-raw))

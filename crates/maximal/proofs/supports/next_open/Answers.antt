@@ -1,4 +1,4 @@
-use mathlib.Core.Path.{refl, sym}
+use mathlib.Core.Path.{sym}
 use Prim.Native.Nat.{◌<◌}
 use native.Mathlib.Omega.{arith}
 use lib.ListN.{length}
@@ -20,17 +20,14 @@ row-taken p =
     let e = rows_are a.property.now p.requires.0 a.n p.requires.1.0 in
     omega (arith, taken_row (length P) l.all l.done l.invariant.bounded.partly p.next_row-r.result p.next_row-r.ensures, e, p.requires.1.1.0)
 
-pub loop-all-init : goal.loop-all-init
-loop-all-init c = record { bounded = c.requires.1.1.1.1.1; leads = refl }
-
 pub next_row-r-requires : goal.next_row-r-requires
 next_row-r-requires c =
     let P = decode_property c.args.property.now in
     let l = c.loop-all in
     row_left (length P) l.all l.done l.invariant.bounded.partly c.loop-all-test.true-raw
 
-pub get32-named-requires : goal.get32-named-requires
-get32-named-requires c = omega (arith, row-taken c, c.requires.1.1.1.0)
+pub get-named-requires : goal.get-named-requires
+get-named-requires c = omega (arith, row-taken c, c.requires.1.1.1.0)
 
 pub returns-then-bound-named-eq0 : goal.returns-then-bound-named-eq0
 returns-then-bound-named-eq0 c =
@@ -39,11 +36,11 @@ returns-then-bound-named-eq0 c =
     let P = decode_property a.property.now in
     let wf = file_named a.property.now c.requires.0 in
     let r = c.next_row-r in
-    let x = c.get32-named in
+    let x = c.get-named in
     opened_at P wf a.work.now c.requires.1.1.1.1.0 a.set a.worked a.bound l.all l.done l.invariant r.result r.ensures x.result x.ensures c.if-bound-named-eq0.true
 
-pub get32-requires : goal.get32-requires
-get32-requires c = omega (arith, row-taken (goal.at.get32-requires c).After-next_row-r, c.requires.1.1.1.0)
+pub get-requires : goal.get-requires
+get-requires c = omega (arith, row-taken (goal.at.get-requires c).After-next_row-r, c.requires.1.1.1.0)
 
 pub one_row-done-requires : goal.one_row-done-requires
 one_row-done-requires c = row-taken (goal.at.one_row-done-requires c).After-next_row-r
@@ -62,8 +59,8 @@ loop-all-preserved c =
     let P = decode_property a.property.now in
     let wf = file_named a.property.now c.requires.0 in
     let r = c.next_row-r in
-    let x = c.get32-named in
-    let z = c.get32 in
+    let x = c.get-named in
+    let z = c.get in
     opening_on P wf a.work.now c.requires.1.1.1.1.0 a.set a.worked a.bound l.all l.done l.invariant r.result r.ensures x.result x.ensures z.result c.one_row-done.result z.ensures c.one_row-done.ensures c.if-bound-named-eq0.false
 
 pub returns : goal.returns

@@ -1,4 +1,4 @@
-use mathlib.Core.Path.{◌≡◌, refl, sym, ap, subst, ◌∙◌}
+use mathlib.Core.Path.{◌≡◌, sym, ap, subst, ◌∙◌}
 use Prim.Native.Nat.{ℕ, ◌^◌, ◌≤◌, ◌<◌}
 use native.Mathlib.Omega.{arith}
 use lib.ListN.{length}
@@ -6,52 +6,28 @@ use lib.Pow.{pow-lt}
 use Rattle.files.specs.Decode.{decode_property}
 use Rattle.maximal.specs.Masks.{completion}
 use Rattle.maximal.proofs.RowLaws.{rows_are}
-use Rattle.maximal.proofs.SupportLaws.{tabled_none, tabled_on, tabled_all}
+use Rattle.maximal.proofs.SupportLaws.{tabled_on, tabled_all}
 use Rattle.maximal.specs.Places.{kinds_base}
 use Rattle.maximal.proofs.supports.tabulate.Goals as goal
 
-pub loop-r-init : goal.loop-r-init
-loop-r-init c = (omega arith, refl, tabled_none (decode_property c.args.property.now) c.args.work.now)
-
-pub one_row-requires : goal.one_row-requires
-one_row-requires c = omega arith
-
 pub complete-requires : goal.complete-requires
-complete-requires c = (c.requires.0, (c.requires.1.0, (c.requires.1.1.0, subst (λ (s : ℕ). s < 2 ^ c.args.n) (sym c.one_row.ensures) (pow-lt c.loop-r-test.true))))
-
-pub put32-requires : goal.put32-requires
-put32-requires c = omega (arith, c.loop-r.invariant.1)
-
-pub operands-requires : goal.operands-requires
-operands-requires c = (c.requires.0, (c.requires.1.0, (c.requires.1.1.0, c.loop-r-test.true)))
-
-pub put32-requires-in-loop-r : goal.put32-requires-in-loop-r
-put32-requires-in-loop-r c = omega (arith, c.loop-r.invariant.1, c.put32.auto.work)
-
-pub overflow_add-r : goal.overflow_add-r
-overflow_add-r c = omega arith
-
-pub loop-r-smaller : goal.loop-r-smaller
-loop-r-smaller c = omega arith
+complete-requires c = (c.requires.0, (c.requires.1.0, (c.requires.1.1.0, subst (λ (s : ℕ). s < 2 ^ c.args.n) (sym c.one_row.ensures) (pow-lt (omega arith)))))
 
 pub loop-r-preserved : goal.loop-r-preserved
 loop-r-preserved c =
     let l = c.loop-r in
     let P = decode_property c.args.property.now in
-    let once = c.put32 in
-    let twice = c.put32-in-loop-r in
+    let once = c.put in
+    let twice = c.put-in-loop-r in
     let m = c.complete in
     let s = c.operands in
-    let few : l.r < 32 = omega (arith, c.loop-r-test.true, c.requires.1.1.0) in
-    let room : kinds_base ≤ length l.work = omega (arith, l.invariant.1, c.requires.1.1.1) in (
-      omega (arith, c.loop-r-test.true),
-      twice.auto.work ∙ once.auto.work ∙ l.invariant.1,
-      tabled_on P c.args.work.now l.work once.new.work twice.new.work l.r m.result s.result l.invariant.2 few room (omega arith) (omega arith) (m.ensures ∙ ap (completion P) c.one_row.ensures) s.ensures once.ensures twice.ensures,
-    )
+    let few : l.r < 32 = omega (arith, c.requires.1.1.0) in
+    let room : kinds_base ≤ length l.work = omega (arith, c.requires.1.1.1) in
+    tabled_on P c.args.work.now l.work once.new.work twice.new.work l.r m.result s.result l.invariant few room (omega arith) (omega arith) (m.ensures ∙ ap (completion P) c.one_row.ensures) s.ensures once.ensures twice.ensures
 
 pub returns : goal.returns
 returns c =
     let l = c.loop-r in
     let P = decode_property c.args.property.now in
-    let e : length P ≡ l.r = omega (arith, c.loop-r-test.false, l.invariant.0, rows_are c.args.property.now c.requires.0 c.args.n c.requires.1.0) in
-    (tabled_all P c.args.work.now l.work l.r e l.invariant.2, l.invariant.2.outside)
+    let e : length P ≡ l.r = omega (arith, rows_are c.args.property.now c.requires.0 c.args.n c.requires.1.0) in
+    (tabled_all P c.args.work.now l.work l.r e l.invariant, l.invariant.outside)

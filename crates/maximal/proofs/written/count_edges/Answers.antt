@@ -1,4 +1,4 @@
-use mathlib.Core.Path.{◌≡◌, sym, ap, ap₂, ◌∙◌}
+use mathlib.Core.Path.{sym, ap, ap₂, ◌∙◌}
 use Prim.Native.Nat.{◌+◌}
 use native.Mathlib.Numerals.{add-one}
 use native.Mathlib.Omega.{arith}
@@ -8,38 +8,22 @@ use Rattle.maximal.specs.Listing.Laws.{tally_from_le, upto_none, upto_more, upto
 use Rattle.maximal.proofs.written.count_edges.Goals as goal
 
 pub loop-i-init : goal.loop-i-init
-loop-i-init c = let a = c.args in (omega arith, sym (upto_none a.work.now a.c a.limit), omega arith)
+loop-i-init c = let a = c.args in (sym (upto_none a.work.now a.c a.limit), omega arith)
 
 pub returns-then-limit-n : goal.returns-then-limit-n
 returns-then-limit-n c = let a = c.args in
     let l = c.loop-i in
-    l.invariant.1 ∙ sym (upto_stays a.work.now a.c a.limit l.i a.c l.invariant.0 (omega (arith, c.if-limit-n.true, l.invariant.1)))
-
-pub count_from-n-requires : goal.count_from-n-requires
-count_from-n-requires c = (c.loop-i-test.true, c.requires)
+    l.invariant.0 ∙ sym (upto_stays a.work.now a.c a.limit l.i a.c (omega arith) (omega (arith, c.if-limit-n.true, l.invariant.0)))
 
 pub overflow_add-n : goal.overflow_add-n
 overflow_add-n c = let a = c.args in
     let l = c.loop-i in
-    omega (arith, l.invariant.2, l.invariant.0, c.count_from-n.ensures, c.requires.0, tally_from_le a.work.now a.c l.i 9 c.requires.0)
-
-pub overflow_add-i : goal.overflow_add-i
-overflow_add-i c = omega (arith, c.loop-i-test.true, c.requires.0)
-
-pub loop-i-smaller : goal.loop-i-smaller
-loop-i-smaller c = omega (arith, c.loop-i-test.true)
+    omega (arith, l.invariant.1, c.count_from-n.ensures, c.requires.0, tally_from_le a.work.now a.c l.i 9 c.requires.0)
 
 pub loop-i-preserved : goal.loop-i-preserved
 loop-i-preserved c = let a = c.args in
     let l = c.loop-i in
-    let more = upto_more a.work.now a.c a.limit l.i (le-ltb a.limit _ (omega (arith, c.if-limit-n.false, l.invariant.1))) in (
-      omega (arith, c.loop-i-test.true),
-      ap₂ ◌+◌ l.invariant.1 c.count_from-n.ensures ∙ sym more ∙ ap (tally_upto a.work.now a.c a.limit) (sym (add-one l.i)),
-      omega (arith, l.invariant.2, c.count_from-n.ensures, tally_from_le a.work.now a.c l.i 9 c.requires.0),
+    let more = upto_more a.work.now a.c a.limit l.i (le-ltb a.limit _ (omega (arith, c.if-limit-n.false, l.invariant.0))) in (
+      ap₂ ◌+◌ l.invariant.0 c.count_from-n.ensures ∙ sym more ∙ ap (tally_upto a.work.now a.c a.limit) (sym (add-one l.i)),
+      omega (arith, l.invariant.1, c.count_from-n.ensures, tally_from_le a.work.now a.c l.i 9 c.requires.0),
     )
-
-pub returns : goal.returns
-returns c = let a = c.args in
-    let l = c.loop-i in
-    let e : l.i ≡ a.c = omega (arith, c.loop-i-test.false, l.invariant.0) in
-    l.invariant.1 ∙ ap (tally_upto a.work.now a.c a.limit) e

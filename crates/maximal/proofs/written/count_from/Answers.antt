@@ -1,4 +1,4 @@
-use mathlib.Core.Path.{◌≡◌, sym, ap, ap₂, ◌∙◌}
+use mathlib.Core.Path.{sym, ap, ap₂, ◌∙◌}
 use Prim.Native.Nat.{◌+◌}
 use native.Mathlib.Numerals.{add-one}
 use native.Mathlib.Omega.{arith}
@@ -8,29 +8,14 @@ use Rattle.maximal.specs.Listing.Laws.{tally_from_none, tally_from_more, tally_f
 use Rattle.maximal.proofs.written.count_from.Goals as goal
 
 pub loop-label-init : goal.loop-label-init
-loop-label-init c = let a = c.args in (omega arith, sym (tally_from_none a.work.now a.c a.i))
-
-pub count_under-n-requires : goal.count_under-n-requires
-count_under-n-requires c = let p = c.requires in (p.0, (c.loop-label-test.true, (p.1.0, p.1.1)))
+loop-label-init c = let a = c.args in sym (tally_from_none a.work.now a.c a.i)
 
 pub overflow_add-n : goal.overflow_add-n
 overflow_add-n c = let a = c.args in
     let l = c.loop-label in
-    omega (arith, c.loop-label-test.true, l.invariant.1, c.count_under-n.ensures, c.requires.1.0, tally_from_le a.work.now a.c a.i l.label c.requires.1.0, tally_le (leads a.work.now a.i l.label) a.c)
-
-pub overflow_add-label : goal.overflow_add-label
-overflow_add-label c = omega (arith, c.loop-label-test.true)
-
-pub loop-label-smaller : goal.loop-label-smaller
-loop-label-smaller c = omega (arith, c.loop-label-test.true)
+    omega (arith, l.invariant, c.count_under-n.ensures, c.requires.1.0, tally_from_le a.work.now a.c a.i l.label c.requires.1.0, tally_le (leads a.work.now a.i l.label) a.c)
 
 pub loop-label-preserved : goal.loop-label-preserved
 loop-label-preserved c = let a = c.args in
     let l = c.loop-label in
-    (omega (arith, c.loop-label-test.true), ap₂ ◌+◌ l.invariant.1 c.count_under-n.ensures ∙ sym (tally_from_more a.work.now a.c a.i l.label) ∙ ap (tally_from a.work.now a.c a.i) (sym (add-one l.label)))
-
-pub returns : goal.returns
-returns c = let a = c.args in
-    let l = c.loop-label in
-    let e : l.label ≡ 9 = omega (arith, c.loop-label-test.false, l.invariant.0) in
-    l.invariant.1 ∙ ap (tally_from a.work.now a.c a.i) e
+    ap₂ ◌+◌ l.invariant c.count_under-n.ensures ∙ sym (tally_from_more a.work.now a.c a.i l.label) ∙ ap (tally_from a.work.now a.c a.i) (sym (add-one l.label))

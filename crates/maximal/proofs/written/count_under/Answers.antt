@@ -8,12 +8,6 @@ use Rattle.maximal.proofs.RankLaws.{tally_row}
 use Rattle.maximal.proofs.WrittenLaws.{tally_pass, tally_on}
 use Rattle.maximal.proofs.written.count_under.Goals as goal
 
-pub row_of-row-requires : goal.row_of-row-requires
-row_of-row-requires c = let p = c.requires in (omega (arith, p.0, p.1.1.0), (p.1.0, p.1.1.1.0))
-
-pub next_bit-t-requires : goal.next_bit-t-requires
-next_bit-t-requires c = let p = c.requires in (p.1.1.0, omega (arith, c.row_of-row.ensures.1, p.1.1.1.0))
-
 pub loop-t-init : goal.loop-t-init
 loop-t-init c =
     let a = c.args in
@@ -25,15 +19,6 @@ overflow_add-n c =
     let a = c.args in
     let l = c.loop-t in
     omega (arith, l.invariant.here c.loop-t-test.true, c.loop-t-test.true, c.requires.1.1.0, tally_le (has_bit a.work.now c.row_of-row.result) l.t)
-
-pub overflow_add-t : goal.overflow_add-t
-overflow_add-t c = omega (arith, c.loop-t-test.true, c.requires.1.1.0)
-
-pub next_bit-t-requires-in-loop-t : goal.next_bit-t-requires-in-loop-t
-next_bit-t-requires-in-loop-t c = let p = c.requires in (p.1.1.0, omega (arith, c.row_of-row.ensures.1, p.1.1.1.0))
-
-pub loop-t-smaller : goal.loop-t-smaller
-loop-t-smaller c = omega (arith, c.loop-t-test.true, c.next_bit-t-in-loop-t.ensures.onward)
 
 pub loop-t-preserved : goal.loop-t-preserved
 loop-t-preserved c =

@@ -12,18 +12,6 @@ use Rattle.files.specs.Cells.Wrote.{Wrote, wrote_none}
 use Rattle.maximal.proofs.WrittenLaws.{edge_on, edge_off, edges_so_far, edge_fits}
 use Rattle.maximal.proofs.written.write_under.Goals as goal
 
-pub row_of-requires : goal.row_of-requires
-row_of-requires c = let p = c.requires in (omega (arith, p.0, p.1.1.0), (p.1.0, p.1.1.1.0))
-
-pub slice_bounds-order_row-end : goal.slice_bounds-order_row-end
-slice_bounds-order_row-end c = refl
-
-pub order_row-requires : goal.order_row-requires
-order_row-requires c = let p = c.requires in (c.row_of.ensures.1, (p.1.1.0, (p.1.1.1.0, (p.1.1.1.1.1.0, (p.1.1.1.1.1.1, refl)))))
-
-pub next_bit-j-requires : goal.next_bit-j-requires
-next_bit-j-requires c = (c.requires.1.1.0, omega (arith, c.order_row.auto.ordered))
-
 pub loop-j-init : goal.loop-j-init
 loop-j-init c =
     let a = c.args in
@@ -31,15 +19,6 @@ loop-j-init c =
     let row = c.order_row.new.ordered in
     let is = leads_row a.c a.work.now p.1.1.1.1.1.0 p.1.1.1.1.1.1 c.row_of.result c.order_row.new.ordered c.order_row.ensures a.i a.label c.row_of.ensures.0 in
     visit row 0 a.c (λ (m : ℕ). Wrote a.out.now a.out.now a.at a.at (under_bytes a.work.now m a.i a.label)) (λ t h e x. edge_off a.work.now a.out.now a.out.now a.i a.label t a.at a.at x (sym e ∙ is t h)) 0 c.next_bit-j.result (omega arith) (wrote_none a.out.now a.at) c.next_bit-j.ensures
-
-pub overflow_cast-i : goal.overflow_cast-i
-overflow_cast-i c = let p = c.requires in omega (arith, p.0, p.1.1.0)
-
-pub overflow_cast-label : goal.overflow_cast-label
-overflow_cast-label c = let p = c.requires in omega (arith, p.1.0)
-
-pub overflow_cast-j : goal.overflow_cast-j
-overflow_cast-j c = let p = c.requires in omega (arith, c.loop-j-test.true, p.1.1.0)
 
 pub put_record-requires : goal.put_record-requires
 put_record-requires c =
@@ -58,15 +37,6 @@ overflow_add-end c =
     let h = c.loop-j-test.true in
     let is = leads_row a.c a.work.now p.1.1.1.1.1.0 p.1.1.1.1.1.1 c.row_of.result c.order_row.new.ordered c.order_row.ensures a.i a.label c.row_of.ensures.0 in
     omega (arith, (l.invariant.here h).as_long, edge_fits a.work.now a.out.now l.out a.i a.label l.j a.at l.end (l.invariant.here h) a.c h (sym (l.invariant.is_one h) ∙ is l.j h) p.1.1.1.1.0)
-
-pub overflow_add-j : goal.overflow_add-j
-overflow_add-j c = omega (arith, c.loop-j-test.true, c.requires.1.1.0)
-
-pub next_bit-j-requires-in-loop-j : goal.next_bit-j-requires-in-loop-j
-next_bit-j-requires-in-loop-j c = (c.requires.1.1.0, omega (arith, c.order_row.auto.ordered))
-
-pub loop-j-smaller : goal.loop-j-smaller
-loop-j-smaller c = omega (arith, c.loop-j-test.true, c.next_bit-j-in-loop-j.ensures.onward)
 
 pub loop-j-preserved : goal.loop-j-preserved
 loop-j-preserved c =

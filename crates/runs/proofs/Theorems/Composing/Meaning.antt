@@ -1,6 +1,7 @@
 -- The theorems of specs/Composing/Meaning that rest on a definition which a must-fail edit turns: there they could not be read under the edit.
 -- Meaning: What a returned value of the composed verdict means. The only hypothesis is what the contract of `compose` states.
-use Rattle.std.specs.Prelude.{refl, List, ℕ, length}
+use Rattle.files.specs.declared.refusal.Refusal.{Refusal}
+use Rattle.std.specs.Prelude.{refl, List, ℕ, length, Result}
 use Rattle.std.proofs.Common.{sym, subst, inr}
 use Rattle.files.specs.Graph.{Graph}
 use Rattle.files.specs.Outcome.{refusal_at, NoneOf, DoesBoth}
@@ -17,7 +18,7 @@ use Rattle.runs.specs.Runs.{Bad as BadRun, Clean as CleanRuns}
 use Rattle.runs.specs.declared.answers.Verdict.{Verdict}
 use Rattle.runs.specs.Composing.Meaning.{ComposeMeans, I, K, P, d, ls, mon, none_loads, o, said}
 
-module _ {R : Type 0} (tell : Verdict → R) (heard : Heard tell) (L : Limits) (ki kg oi p r : List ℕ) (m : ℕ) (out store work out' store' work' : List ℕ) (c : Verdict)
+module _ {R : Type 0} (tell : Result Verdict Refusal → R) (heard : Heard tell) (L : Limits) (ki kg oi p r : List ℕ) (m : ℕ) (out store work out' store' work' : List ℕ) (c : Result Verdict Refusal)
     (does : DoesBoth (composed L ki kg oi p r m (length out) (length store) (length work)) out store work out' store' work' (watched_answer c)) where
   means : NoneOf (ls tell heard L ki kg oi p r m out store work out' store' work' c does) → SidesSay (known (K tell heard L ki kg oi p r m out store work out' store' work' c does)) (unwritten (I tell heard L ki kg oi p r m out store work out' store' work' c does) (P tell heard L ki kg oi p r m out store work out' store' work' c does)) (mon tell heard L ki kg oi p r m out store work out' store' work' c does) m (said tell heard L ki kg oi p r m out store work out' store' work' c does)
   means t = (compose_says L ki kg oi p r m (length out) (length store) (length work) (said tell heard L ki kg oi p r m out store work out' store' work' c does) ((d tell heard L ki kg oi p r m out store work out' store' work' c does).accepted.1 t)).on_sides
@@ -46,7 +47,7 @@ module _ {R : Type 0} (tell : Verdict → R) (heard : Heard tell) (L : Limits) (
   }
 
 -- The returned value, from what the contract states of it.
-pub compose_means : (L : Limits) (ki kg oi p r : List ℕ) (m : ℕ) (out store work out' store' work' : List ℕ) (v : Verdict)
+pub compose_means : (L : Limits) (ki kg oi p r : List ℕ) (m : ℕ) (out store work out' store' work' : List ℕ) (v : Result Verdict Refusal)
     → DoesBoth (composed L ki kg oi p r m (length out) (length store) (length work)) out store work out' store' work' (watched_answer v)
     → ComposeMeans itself L ki kg oi p r m out store work out' store' work' v
 compose_means L ki kg oi p r m out store work out' store' work' v does = compose_tells itself heard_itself L ki kg oi p r m out store work out' store' work' v does

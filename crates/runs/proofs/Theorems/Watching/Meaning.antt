@@ -1,6 +1,7 @@
 -- The theorems of specs/Watching/Meaning that rest on a definition which a must-fail edit turns: there they could not be read under the edit.
 -- Meaning: What a returned verdict on runs means, and so a returned value of watching. The only hypothesis is what the contract of `watch` states.
-use Rattle.std.specs.Prelude.{List, ℕ, length}
+use Rattle.files.specs.declared.refusal.Refusal.{Refusal}
+use Rattle.std.specs.Prelude.{List, ℕ, length, Result}
 use Rattle.files.specs.Decode.{decode_graph, decode_rules}
 use Rattle.files.specs.Outcome.{Does, refusal_at, NoneOf}
 use Rattle.files.specs.Outcome.Meaning.{Heard, itself, heard_itself}
@@ -14,7 +15,7 @@ use Rattle.runs.specs.declared.answers.Verdict.{Verdict}
 use Rattle.runs.specs.Watching.Meaning.{WatchMeans, verdict_clears, verdict_tells, watch_decided}
 
 -- what the contract gives, and so what is told of it
-pub watch_tells : {R : Type 0} (tell : Verdict → R) → Heard tell → (L : Limits) (i g r : List ℕ) (m : ℕ) (out work out' work' : List ℕ) (c : Verdict)
+pub watch_tells : {R : Type 0} (tell : Result Verdict Refusal → R) → Heard tell → (L : Limits) (i g r : List ℕ) (m : ℕ) (out work out' work' : List ℕ) (c : Result Verdict Refusal)
     → Does (watched L i g r m (length out) (length work)) out work out' work' (watched_answer c) → WatchMeans tell L i g r m out work out' work' (tell c)
 watch_tells tell heard L i g r m out work out' work' c does =
     let o = watched L i g r m (length out) (length work) in
@@ -30,6 +31,6 @@ watch_tells tell heard L i g r m out work out' work' c does =
     }
 
 -- The returned value, from what the contract states of it.
-pub watch_means : (L : Limits) (i g r : List ℕ) (m : ℕ) (out work out' work' : List ℕ) (v : Verdict)
+pub watch_means : (L : Limits) (i g r : List ℕ) (m : ℕ) (out work out' work' : List ℕ) (v : Result Verdict Refusal)
     → Does (watched L i g r m (length out) (length work)) out work out' work' (watched_answer v) → WatchMeans itself L i g r m out work out' work' v
 watch_means L i g r m out work out' work' v does = watch_tells itself heard_itself L i g r m out work out' work' v does

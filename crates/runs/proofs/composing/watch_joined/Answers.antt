@@ -1,11 +1,9 @@
 -- The second graph stands at the start of `store`, so both graphs can be joined into `work`; the rest is what is told of a join.
 -- the second graph's bytes, where they stand in the buffer
-use mathlib.Core.Path.{sym}
 use mathlib.Core.List.{List}
 use Prim.Native.Nat.{ℕ, ◌+◌, ◌*◌}
 use native.Mathlib.Omega.{arith}
 use lib.ListN.{take}
-use lib.Seq.{length-take-le}
 use Rattle.files.specs.Places.{record_len}
 use Rattle.judging.specs.declared.sizes.Sizes.{Sizes}
 use Rattle.runs.specs.Answer.{watched_answer}
@@ -14,10 +12,6 @@ use Rattle.runs.proofs.composing.watch_joined.Goals as goal
 
 abbrev second : Sizes → List ℕ → List ℕ
 second s l = take (record_len * (s.second.nodes + s.second.edges)) l
-
-pub slice_bounds-join_into-end-2 : goal.slice_bounds-join_into-end-2
-slice_bounds-join_into-end-2 c =
-    sym (length-take-le (record_len * (c.args.s.second.nodes + c.args.s.second.edges)) c.args.store.now (omega (arith, c.requires.0.second_held.few_nodes, c.requires.0.second_held.few_edges, c.requires.1.1.1.0)))
 
 pub watch_joint-requires : goal.watch_joint-requires
 watch_joint-requires c =

@@ -48,15 +48,6 @@ returns-then-has_bit c =
     entered_before a.s a.graph.now a.rules.now c.requires.0 a.start a.head a.tail a.work.now a.g a.q at a.l c.requires.1.0 c.requires.1.1.1.0
     c.step-p.result d c.requires.1.1.0 c.requires.1.1.1.1.1 c.has_bit.result c.has_bit.ensures c.if-has_bit.true
 
-pub look_entries-end-requires : goal.look_entries-end-requires
-look_entries-end-requires c =
-    let a = c.args in
-    let at = c.requires.1.1.1.1.0 in
-    let h = c.node_at-v.ensures in
-    let v = ap (λ (u : GraphNode). u.method) h in
-    let d = c.step-p.ensures ∙ ap (λ (i : ℕ). watch (decode_rules a.rules.now) a.q (calls i a.l)) v in
-    (c.requires.0, (c.requires.1.0, (c.requires.1.1.0, (c.requires.1.1.1.0, (d, (at, c.requires.1.1.1.1.1))))))
-
 pub put_bit-requires : goal.put_bit-requires
 put_bit-requires c =
     let a = c.args in

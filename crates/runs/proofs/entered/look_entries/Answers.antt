@@ -4,14 +4,9 @@ use Rattle.files.specs.Rules.{watch}
 use Rattle.runs.specs.Prepared.Files.{size_is}
 use Rattle.runs.specs.Searching.{place}
 use Rattle.runs.specs.Searching.Outgoing.{entries_out}
-use Rattle.runs.proofs.SearchLaws.{series_start, series_here, series_end, one_may, one_looked, the_entries, entries_first, entries_next}
+use Rattle.runs.proofs.SearchLaws.{series_here, series_end, one_may, one_looked, the_entries, entries_next}
 use Rattle.runs.proofs.SummaryLaws.{node_in}
 use Rattle.runs.proofs.entered.look_entries.Goals as goal
-
-pub loop-n-init : goal.loop-n-init
-loop-n-init c =
-    let a = c.args in
-    series_start (decode_graph a.graph.now) (watch (decode_rules a.rules.now)) a.start a.head (the_entries (decode_graph a.graph.now) (watch (decode_rules a.rules.now)) a.start (place a.g a.q) a.l) a.tail a.work.now 0 (entries_first (decode_graph a.graph.now) (watch (decode_rules a.rules.now)) a.start (place a.g a.q) a.l)
 
 pub look_entry-end-requires : goal.look_entry-end-requires
 look_entry-end-requires c =
@@ -37,12 +32,6 @@ look_entry-end-requires c =
         ),
       ),
     )
-
-pub overflow_add-n : goal.overflow_add-n
-overflow_add-n c = omega (arith, c.loop-n-test.true)
-
-pub loop-n-smaller : goal.loop-n-smaller
-loop-n-smaller c = omega (arith, c.loop-n-test.true)
 
 pub loop-n-preserved : goal.loop-n-preserved
 loop-n-preserved c =

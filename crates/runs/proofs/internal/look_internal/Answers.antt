@@ -1,12 +1,7 @@
 use native.Mathlib.Omega.{arith}
 use Rattle.runs.proofs.SummaryLaws.{to_in}
-use Rattle.runs.proofs.SearchLaws.{node_small, may_step, did_step, no_step}
+use Rattle.runs.proofs.SearchLaws.{node_small, may_step, did_step}
 use Rattle.runs.proofs.internal.look_internal.Goals as goal
-
-pub overflow_cast-g : goal.overflow_cast-g
-overflow_cast-g c =
-    let a = c.args in
-    omega (arith, node_small a.s a.graph.now a.rules.now c.requires.0 a.g c.requires.1.1.1.0.at_node)
 
 pub overflow_cast-e : goal.overflow_cast-e
 overflow_cast-e c =
@@ -27,10 +22,3 @@ returns-then-e-eq0 c =
     let h = c.edge_at-e.ensures in
     did_step a.s a.graph.now a.rules.now c.requires.0 a.start a.head a.tail a.work.now a.g a.q c.requires.1.1.1.0 a.j c.requires.1.0 c.requires.1.1.0 _ h
     c.if-e-eq0.true c.requires.1.1.1.1 c.push.result c.push.new.work c.push.ensures
-
-pub returns : goal.returns
-returns c =
-    let a = c.args in
-    let h = c.edge_at-e.ensures in
-    no_step a.s a.graph.now a.rules.now c.requires.0 a.start a.head a.tail a.work.now a.g a.q c.requires.1.1.1.0 a.j c.requires.1.0 c.requires.1.1.0 _ h
-    c.if-e-eq0.false

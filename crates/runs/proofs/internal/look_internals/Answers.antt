@@ -1,54 +1,26 @@
-use mathlib.Core.Path.{sym, ap}
 use native.Mathlib.Omega.{arith}
 use Rattle.files.specs.Decode.{decode_graph, decode_rules}
 use Rattle.files.specs.Rules.{watch}
-use Rattle.runs.specs.Searching.{place, internals}
+use Rattle.runs.specs.Searching.{place}
 use Rattle.runs.specs.Searching.Outgoing.{internals_out}
-use Rattle.runs.proofs.SearchLaws.{series_start, series_here, series_end, one_may, one_looked, the_internals, internals_next, node_small, first_fits, last_fits, first_is, edge_owned, edges_past}
+use Rattle.runs.proofs.SearchLaws.{series_here, series_end, one_may, one_looked, the_internals, internals_next, edge_owned, edges_past}
 use Rattle.runs.proofs.internal.look_internals.Goals as goal
-
-pub get16-j-requires : goal.get16-j-requires
-get16-j-requires c =
-    let a = c.args in
-    first_fits a.s a.graph.now a.rules.now c.requires.0 a.g a.work.now c.requires.1.0.at_node c.requires.1.1.searching.room
-
-pub overflow_add-g : goal.overflow_add-g
-overflow_add-g c =
-    let a = c.args in
-    omega (arith, node_small a.s a.graph.now a.rules.now c.requires.0 a.g c.requires.1.0.at_node)
-
-pub get16-last-requires : goal.get16-last-requires
-get16-last-requires c =
-    let a = c.args in
-    last_fits a.s a.graph.now a.rules.now c.requires.0 a.g a.work.now c.requires.1.0.at_node c.requires.1.1.searching.room
-
-pub loop-j-init : goal.loop-j-init
-loop-j-init c =
-    let a = c.args in
-    let f = first_is a.s a.graph.now a.rules.now c.requires.0 a.g a.work.now c.requires.1.0.at_node _ c.requires.1.1.searching.tables c.get16-j.ensures in
-    (omega (arith, f), series_start (decode_graph a.graph.now) (watch (decode_rules a.rules.now)) a.start a.head (the_internals (decode_graph a.graph.now) (watch (decode_rules a.rules.now)) a.start (place a.g a.q)) a.tail a.work.now _ (ap (internals (decode_graph a.graph.now) (watch (decode_rules a.rules.now)) (place a.g a.q)) (sym f)))
 
 pub look_internal-end-requires : goal.look_internal-end-requires
 look_internal-end-requires c =
     let a = c.args in
     let l = c.loop-j in
     let t = c.loop-j-test.true in
-    let d = edge_owned a.s a.graph.now a.rules.now c.requires.0 a.g a.work.now c.requires.1.0.at_node _ l.j c.requires.1.1.searching.tables c.get16-last.ensures l.invariant.0 t in
+    let d = edge_owned a.s a.graph.now a.rules.now c.requires.0 a.g a.work.now c.requires.1.0.at_node _ l.j c.requires.1.1.searching.tables c.get-last.ensures l.invariant.0 t in
     let o = internals_next (decode_graph a.graph.now) (watch (decode_rules a.rules.now)) a.start (place a.g a.q) l.j d.2 in
     (c.requires.0, (d.0, (d.1, (series_here (decode_graph a.graph.now) (watch (decode_rules a.rules.now)) a.start a.head (the_internals (decode_graph a.graph.now) (watch (decode_rules a.rules.now)) a.start (place a.g a.q)) a.tail a.work.now l.j l.work l.end l.invariant.1 (place a.g a.q) c.requires.1.0, one_may (decode_graph a.graph.now) (watch (decode_rules a.rules.now)) a.start a.head (the_internals (decode_graph a.graph.now) (watch (decode_rules a.rules.now)) a.start (place a.g a.q)) a.tail a.work.now l.j l.work l.end l.invariant.1 o c.requires.1.1))))
-
-pub overflow_add-j : goal.overflow_add-j
-overflow_add-j c = omega (arith, c.loop-j-test.true)
-
-pub loop-j-smaller : goal.loop-j-smaller
-loop-j-smaller c = omega (arith, c.loop-j-test.true)
 
 pub loop-j-preserved : goal.loop-j-preserved
 loop-j-preserved c =
     let a = c.args in
     let l = c.loop-j in
     let x = c.look_internal-end in
-    let d = edge_owned a.s a.graph.now a.rules.now c.requires.0 a.g a.work.now c.requires.1.0.at_node _ l.j c.requires.1.1.searching.tables c.get16-last.ensures l.invariant.0 c.loop-j-test.true in
+    let d = edge_owned a.s a.graph.now a.rules.now c.requires.0 a.g a.work.now c.requires.1.0.at_node _ l.j c.requires.1.1.searching.tables c.get-last.ensures l.invariant.0 c.loop-j-test.true in
     let o = internals_next (decode_graph a.graph.now) (watch (decode_rules a.rules.now)) a.start (place a.g a.q) l.j d.2 in
     (omega (arith, l.invariant.0), one_looked (decode_graph a.graph.now) (watch (decode_rules a.rules.now)) a.start a.head (the_internals (decode_graph a.graph.now) (watch (decode_rules a.rules.now)) a.start (place a.g a.q)) a.tail a.work.now l.j l.work l.end l.invariant.1 o x.result x.new.work x.auto.work x.ensures)
 
@@ -56,5 +28,5 @@ pub returns : goal.returns
 returns c =
     let a = c.args in
     let l = c.loop-j in
-    let past = edges_past a.s a.graph.now a.rules.now c.requires.0 a.g a.work.now c.requires.1.0.at_node _ l.j c.requires.1.1.searching.tables c.get16-last.ensures (omega (arith, c.loop-j-test.false)) in
+    let past = edges_past a.s a.graph.now a.rules.now c.requires.0 a.g a.work.now c.requires.1.0.at_node _ l.j c.requires.1.1.searching.tables c.get-last.ensures (omega (arith, c.loop-j-test.false)) in
     series_end (decode_graph a.graph.now) (watch (decode_rules a.rules.now)) a.start a.head (the_internals (decode_graph a.graph.now) (watch (decode_rules a.rules.now)) a.start (place a.g a.q)) a.tail a.work.now l.j l.work l.end l.invariant.1 (internals_out (decode_graph a.graph.now) (watch (decode_rules a.rules.now)) a.start (place a.g a.q) l.j past)

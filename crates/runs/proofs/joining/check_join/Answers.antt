@@ -1,85 +1,85 @@
 -- Each check settles its numbers, in the published order; 9 is asked where the four files are accepted, and each graph's view is handed on.
--- the four files, one after the other
-use mathlib.Core.Path.{◌≡◌, sym}
-use mathlib.Core.List.{List}
-use Prim.Native.Nat.{ℕ}
-use Rattle.files.specs.Checking.{checked}
 use Rattle.files.specs.Decode.{decode_interface}
-use Rattle.files.specs.Outcome.{file_checks}
-use Rattle.files.specs.Refusal.{graph, interface}
-use Rattle.files.specs.Settling.{and_then, file_settled, Settles}
-use Rattle.files.specs.Settling.Laws.{whole_settles, found_settles, file_settles, next_settles, settled_as, passed_before}
+use Rattle.files.specs.Refusal.{interface}
+use Rattle.files.specs.Settling.Laws.{whole_settles, found_settles, file_settles, graph_settles, passed_then, refused_then, hands_on, handed_on}
 use Rattle.files.specs.Sides.{first_foreign, shares}
-use Rattle.files.specs.declared.record.Limits.{Limits}
-use Rattle.files.specs.declared.settle.Settled.{Settled}
-use Rattle.files.specs.declared.settle.Settled.TheVariants.{Passed}
-use Rattle.runs.specs.Joining.Work.{Joinable, files_known}
+use Rattle.files.specs.View.{accepted_interface}
 use Rattle.runs.proofs.joining.check_join.Goals as goal
 
-module _ (L : Limits) (i1 g1 i2 g2 : List ℕ) {sided1 drawn1 sided2 drawn2 : Settled} (a : sided1 ≡ file_settled (checked L interface i1 1))
-    (b : drawn1 ≡ and_then sided1 (file_settled (checked L graph g1 2))) (c : sided2 ≡ and_then drawn1 (file_settled (checked L interface i2 3)))
-    (d : drawn2 ≡ and_then sided2 (file_settled (checked L graph g2 4))) where
-  files-settle : Settles (λ cs. file_checks L 1 interface i1 (file_checks L 2 graph g1 (file_checks L 3 interface i2 (file_checks L 4 graph g2 cs)))) drawn2
-  files-settle =
-      let s1 = settled_as (file_settles L 1 interface i1) a in
-      let s2 = next_settles s1 (file_settles L 2 graph g1) b in
-      let s3 = next_settles s2 (file_settles L 3 interface i2) c in
-      next_settles s3 (file_settles L 4 graph g2) d
-
-  accepted : drawn2 ≡ Passed → Joinable L i1 g1 i2 g2
-  accepted e = files_known L i1 g1 i2 g2 (λ cs. cs) (settled_as files-settle (sym e))
-
-pub then_own-own1-requires : goal.then_own-own1-requires
-then_own-own1-requires c =
+pub returns-in_err-check-clause-settles : goal.returns-in_err-check-clause-settles
+returns-in_err-check-clause-settles c =
     let a = c.args in
-    let sided1 = c.then_file-sided1.ensures in
-    let drawn1 = c.then_graph-drawn1.ensures.0 in
-    let sided2 = c.then_file-sided2.ensures in
-    let drawn2 = c.then_graph-drawn2.ensures.0 in
-    let known = accepted a.limits a.interface1.now a.graph1.now a.interface2.now a.graph2.now sided1 drawn1 sided2 drawn2 in
-    λ e. (record { limits = a.limits; accepted = (known e).first_within }, (known e).first_interface)
+    refused_then (file_settles a.limits 1 interface a.interface1.now) c.in_err-check.ensures (handed_on _ c.from_residual.ensures.1)
 
-pub then_own-own2-requires : goal.then_own-own2-requires
-then_own-own2-requires c =
+pub returns-in_err-first-clause-settles : goal.returns-in_err-first-clause-settles
+returns-in_err-first-clause-settles c =
     let a = c.args in
-    let sided1 = c.then_file-sided1.ensures in
-    let drawn1 = c.then_graph-drawn1.ensures.0 in
-    let sided2 = c.then_file-sided2.ensures in
-    let drawn2 = c.then_graph-drawn2.ensures.0 in
-    let known = accepted a.limits a.interface1.now a.graph1.now a.interface2.now a.graph2.now sided1 drawn1 sided2 drawn2 in
-    λ e.
-    let k = known (passed_before _ _ c.then_own-own1.ensures e) in
-    (record { limits = a.limits; accepted = k.second_within }, k.second_interface)
+    passed_then (file_settles a.limits 1 interface a.interface1.now) c.in_ok-check.ensures
+    (refused_then (graph_settles a.limits 2 a.graph1.now) c.in_err-first.ensures.counted (handed_on _ c.from_residual-in_err-first.ensures.1))
 
-pub then_apart-settled-requires : goal.then_apart-settled-requires
-then_apart-settled-requires c =
+pub returns-in_err-check-2-clause-settles : goal.returns-in_err-check-2-clause-settles
+returns-in_err-check-2-clause-settles c =
     let a = c.args in
-    let sided1 = c.then_file-sided1.ensures in
-    let drawn1 = c.then_graph-drawn1.ensures.0 in
-    let sided2 = c.then_file-sided2.ensures in
-    let drawn2 = c.then_graph-drawn2.ensures.0 in
-    let known = accepted a.limits a.interface1.now a.graph1.now a.interface2.now a.graph2.now sided1 drawn1 sided2 drawn2 in
-    λ e.
-    let k = known (passed_before _ _ c.then_own-own1.ensures (passed_before _ _ c.then_own-own2.ensures e)) in
-    (k.first_interface, k.second_interface)
+    passed_then (file_settles a.limits 1 interface a.interface1.now) c.in_ok-check.ensures
+    (passed_then (graph_settles a.limits 2 a.graph1.now) c.in_ok-first.ensures.counted
+    (refused_then (file_settles a.limits 3 interface a.interface2.now) c.in_err-check-2.ensures (handed_on _ c.from_residual-in_err-check-2.ensures.1)))
 
-pub returns : goal.returns
-returns c =
+pub returns-in_err-second-clause-settles : goal.returns-in_err-second-clause-settles
+returns-in_err-second-clause-settles c =
     let a = c.args in
-    let I = decode_interface a.interface1.now in
-    let J = decode_interface a.interface2.now in
-    let sided1 = c.then_file-sided1.ensures in
-    let drawn1 = c.then_graph-drawn1.ensures in
-    let sided2 = c.then_file-sided2.ensures in
-    let drawn2 = c.then_graph-drawn2.ensures in
-    let own1 = c.then_own-own1.ensures in
-    let own2 = c.then_own-own2.ensures in
-    let apart = c.then_apart-settled.ensures in
-    let s4 = files-settle a.limits a.interface1.now a.graph1.now a.interface2.now a.graph2.now sided1 drawn1.0 sided2 drawn2.0 in
-    let s5 = next_settles s4 (found_settles 9 2 (first_foreign I a.graph1.now)) own1 in
-    let s6 = next_settles s5 (found_settles 9 4 (first_foreign J a.graph2.now)) own2 in (
-      next_settles s6 (whole_settles 9 (shares I J)) apart,
-      λ e.
-          let d = passed_before _ _ own1 (passed_before _ _ own2 (passed_before _ _ apart e)) in
-          (drawn1.1 (passed_before _ _ sided2 (passed_before _ _ drawn2.0 d)), drawn2.1 d),
-    )
+    passed_then (file_settles a.limits 1 interface a.interface1.now) c.in_ok-check.ensures
+    (passed_then (graph_settles a.limits 2 a.graph1.now) c.in_ok-first.ensures.counted
+    (passed_then (file_settles a.limits 3 interface a.interface2.now) c.in_ok-check-2.ensures
+    (refused_then (graph_settles a.limits 4 a.graph2.now) c.in_err-second.ensures.counted (handed_on _ c.from_residual-in_err-second.ensures.1))))
+
+pub returns-in_err-check_own-clause-settles : goal.returns-in_err-check_own-clause-settles
+returns-in_err-check_own-clause-settles c =
+    let a = c.args in
+    passed_then (file_settles a.limits 1 interface a.interface1.now) c.in_ok-check.ensures
+    (passed_then (graph_settles a.limits 2 a.graph1.now) c.in_ok-first.ensures.counted
+    (passed_then (file_settles a.limits 3 interface a.interface2.now) c.in_ok-check-2.ensures
+    (passed_then (graph_settles a.limits 4 a.graph2.now) c.in_ok-second.ensures.counted
+    (refused_then (found_settles 9 2 (first_foreign (decode_interface a.interface1.now) a.graph1.now)) c.in_err-check_own.ensures (handed_on _ c.from_residual-in_err-check_own.ensures.1)))))
+
+pub returns-in_err-check_own-2-clause-settles : goal.returns-in_err-check_own-2-clause-settles
+returns-in_err-check_own-2-clause-settles c =
+    let a = c.args in
+    passed_then (file_settles a.limits 1 interface a.interface1.now) c.in_ok-check.ensures
+    (passed_then (graph_settles a.limits 2 a.graph1.now) c.in_ok-first.ensures.counted
+    (passed_then (file_settles a.limits 3 interface a.interface2.now) c.in_ok-check-2.ensures
+    (passed_then (graph_settles a.limits 4 a.graph2.now) c.in_ok-second.ensures.counted
+    (passed_then (found_settles 9 2 (first_foreign (decode_interface a.interface1.now) a.graph1.now)) c.in_ok-check_own.ensures
+    (refused_then (found_settles 9 4 (first_foreign (decode_interface a.interface2.now) a.graph2.now)) c.in_err-check_own-2.ensures (handed_on _ c.from_residual-in_err-check_own-2.ensures.1))))))
+
+pub returns-in_err-check_apart-clause-settles : goal.returns-in_err-check_apart-clause-settles
+returns-in_err-check_apart-clause-settles c =
+    let a = c.args in
+    passed_then (file_settles a.limits 1 interface a.interface1.now) c.in_ok-check.ensures
+    (passed_then (graph_settles a.limits 2 a.graph1.now) c.in_ok-first.ensures.counted
+    (passed_then (file_settles a.limits 3 interface a.interface2.now) c.in_ok-check-2.ensures
+    (passed_then (graph_settles a.limits 4 a.graph2.now) c.in_ok-second.ensures.counted
+    (passed_then (found_settles 9 2 (first_foreign (decode_interface a.interface1.now) a.graph1.now)) c.in_ok-check_own.ensures
+    (passed_then (found_settles 9 4 (first_foreign (decode_interface a.interface2.now) a.graph2.now)) c.in_ok-check_own-2.ensures
+    (refused_then (whole_settles 9 (shares (decode_interface a.interface1.now) (decode_interface a.interface2.now))) c.in_err-check_apart.ensures (handed_on _ c.from_residual-in_err-check_apart.ensures.1)))))))
+
+pub check_own-requires : goal.check_own-requires
+check_own-requires c = (c.in_ok-first.ensures.views.graph_file, accepted_interface c.args.limits c.args.interface1.now 1 c.in_ok-check.ensures)
+
+pub check_own-requires-2 : goal.check_own-requires-2
+check_own-requires-2 c = (c.in_ok-second.ensures.views.graph_file, accepted_interface c.args.limits c.args.interface2.now 3 c.in_ok-check-2.ensures)
+
+pub check_apart-requires : goal.check_apart-requires
+check_apart-requires c =
+    let a = c.args in
+    (accepted_interface a.limits a.interface1.now 1 c.in_ok-check.ensures, accepted_interface a.limits a.interface2.now 3 c.in_ok-check-2.ensures)
+
+pub returns-clause-settles : goal.returns-clause-settles
+returns-clause-settles c =
+    let a = c.args in
+    passed_then (file_settles a.limits 1 interface a.interface1.now) c.in_ok-check.ensures
+    (passed_then (graph_settles a.limits 2 a.graph1.now) c.in_ok-first.ensures.counted
+    (passed_then (file_settles a.limits 3 interface a.interface2.now) c.in_ok-check-2.ensures
+    (passed_then (graph_settles a.limits 4 a.graph2.now) c.in_ok-second.ensures.counted
+    (passed_then (found_settles 9 2 (first_foreign (decode_interface a.interface1.now) a.graph1.now)) c.in_ok-check_own.ensures
+    (passed_then (found_settles 9 4 (first_foreign (decode_interface a.interface2.now) a.graph2.now)) c.in_ok-check_own-2.ensures
+    (hands_on (whole_settles 9 (shares (decode_interface a.interface1.now) (decode_interface a.interface2.now))) c.in_ok-check_apart.ensures))))))

@@ -1,5 +1,3 @@
-use native.Mathlib.Omega.{arith}
-use Rattle.runs.specs.Joining.Sizes.{nodes_few}
 use Rattle.runs.specs.Joining.Work.{large_refused, short_refused, join_written}
 use Rattle.runs.proofs.joining.join_sizes.Goals as goal
 
@@ -14,13 +12,6 @@ returns-then-out-nodes c =
     let a = c.args in
     short_refused a.limits a.interface1.now a.graph1.now a.interface2.now a.graph2.now a.out.now
     a.s c.requires.1.1.0 c.if-limits-nodes.false c.if-out-nodes.true c.whole-then-out-nodes.result c.whole-then-out-nodes.ensures
-
-pub write_join-requires : goal.write_join-requires
-write_join-requires c =
-    let a = c.args in
-    let both = c.requires.1.1.0 in
-    let few = nodes_few a.limits a.s a.graph1.now a.graph2.now both c.if-limits-nodes.false in
-    (both, (omega (arith, few, c.requires.1.1.1.nodes_fit), omega (arith, c.if-out-nodes.false)))
 
 pub returns : goal.returns
 returns c =

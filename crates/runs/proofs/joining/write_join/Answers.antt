@@ -11,33 +11,13 @@ pub slice_bounds-copy_at-end : goal.slice_bounds-copy_at-end
 slice_bounds-copy_at-end c =
     sym (first_cut c.args.s c.args.graph1.now c.args.graph2.now c.requires.0)
 
-pub copy_at-requires : goal.copy_at-requires
-copy_at-requires c =
-    omega (arith, first_cut c.args.s c.args.graph1.now c.args.graph2.now c.requires.0, c.requires.1.1)
-
 pub slice_bounds-copy_at-end-2 : goal.slice_bounds-copy_at-end-2
 slice_bounds-copy_at-end-2 c =
     sym (second_cut c.args.s c.args.graph1.now c.args.graph2.now c.requires.0)
 
-pub copy_at-requires-2 : goal.copy_at-requires-2
-copy_at-requires-2 c =
-    omega (arith, second_cut c.args.s c.args.graph1.now c.args.graph2.now c.requires.0, c.requires.1.1, c.copy_at.auto.dst)
-
 pub slice_bounds-copy_at-end-3 : goal.slice_bounds-copy_at-end-3
 slice_bounds-copy_at-end-3 c =
     first_room c.args.s c.args.graph1.now c.args.graph2.now c.requires.0
-
-pub overflow_add-end-2 : goal.overflow_add-end-2
-overflow_add-end-2 c =
-    omega (arith, c.requires.1.0, c.requires.0.first_held.few_edges)
-
-pub write_all_moved-requires : goal.write_all_moved-requires
-write_all_moved-requires c =
-    let b = c.requires.0 in
-    let c1 = c.copy_at in
-    let c2 = c.copy_at-2 in
-    let c3 = c.copy_at-3 in
-    (b.second_held.views, (c.requires.1.0, omega (arith, c.requires.1.1, c3.auto.dst, c2.auto.dst, c1.auto.dst)))
 
 pub returns : goal.returns
 returns c =

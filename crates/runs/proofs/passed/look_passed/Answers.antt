@@ -7,16 +7,9 @@ use Rattle.files.specs.Rules.{watch}
 use Rattle.runs.specs.Prepared.Files.{monitor_small}
 use Rattle.runs.specs.Searching.{place, passed_recs, passed_at}
 use Rattle.runs.specs.Searching.Looks.{may_same}
-use Rattle.runs.proofs.SearchLaws.{looked_named, node_small, no_pass, passed_list, call_fits, ends_are}
+use Rattle.runs.proofs.SearchLaws.{node_small, passed_list, call_fits, ends_are}
 use Rattle.runs.proofs.SummaryLaws.{to_in, to_is, label_is}
 use Rattle.runs.proofs.passed.look_passed.Goals as goal
-
-pub returns-then-e-eq0 : goal.returns-then-e-eq0
-returns-then-e-eq0 c =
-    let a = c.args in
-    let at = c.requires.1.1.1.1.1.0 in
-    let h = c.edge_at-e.ensures in
-    no_pass a.s a.graph.now a.rules.now c.requires.0 a.start a.head a.tail a.work.now a.g a.q at a.j c.requires.1.1.0 c.requires.1.1.1.0 _ h c.if-e-eq0.true
 
 pub step-p-requires : goal.step-p-requires
 step-p-requires c =
@@ -98,14 +91,3 @@ look_states-requires c =
         ),
       ),
     )
-
-pub returns : goal.returns
-returns c =
-    let a = c.args in
-    let at = c.requires.1.1.1.1.1.0 in
-    let h = c.edge_at-e.ensures in
-    looked_named (decode_graph a.graph.now) (watch (decode_rules a.rules.now)) a.start a.head
-    (passed_at (decode_graph a.graph.now) (watch (decode_rules a.rules.now)) (place a.g a.q) a.j)
-    (passed_recs (decode_graph a.graph.now) (watch (decode_rules a.rules.now)) (place a.g a.q) a.j (span 0 8)) a.tail c.look_states.result a.work.now
-    c.look_states.new.work (passed_list a.s a.graph.now a.rules.now c.requires.0 a.start a.head a.tail a.work.now a.g a.q at a.j
-    c.requires.1.1.0 c.requires.1.1.1.0 _ h c.if-e-eq0.false) c.look_states.ensures

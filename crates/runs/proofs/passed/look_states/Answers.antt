@@ -5,20 +5,9 @@ use Rattle.files.specs.Decode.{decode_graph, decode_rules}
 use Rattle.files.specs.Rules.{watch}
 use Rattle.runs.specs.Searching.{place}
 use Rattle.runs.specs.Searching.Outgoing.{states_out}
-use Rattle.runs.proofs.SearchLaws.{Upto, series_start, series_here, series_end, one_may, one_looked, the_states, states_next, node_small, may_pass, did_pass, no_state}
+use Rattle.runs.proofs.SearchLaws.{Upto, series_here, series_end, one_may, one_looked, the_states, states_next, may_pass, did_pass, no_state}
 use Rattle.runs.proofs.passed.look_states.Goals as goal
 use Rattle.runs.proofs.passed.look_states.Goals.{else-has_state, then-has_state}
-
-pub loop-r-init : goal.loop-r-init
-loop-r-init c = let a = c.args in series_start (decode_graph a.graph.now) (watch (decode_rules a.rules.now)) a.start a.head (the_states (decode_graph a.graph.now) (watch (decode_rules a.rules.now)) a.start (place a.g a.q) a.j) a.tail a.work.now 0 refl
-
-pub has_state-requires : goal.has_state-requires
-has_state-requires c = c.loop-r-test.true
-
-pub overflow_cast-g : goal.overflow_cast-g
-overflow_cast-g c =
-    let a = c.args in
-    omega (arith, node_small a.s a.graph.now a.rules.now c.requires.0 a.g c.requires.1.1.1.1.1.1.1.0.at_node)
 
 pub push-end-requires : goal.push-end-requires
 push-end-requires c =
@@ -29,12 +18,6 @@ push-end-requires c =
     let may = one_may (decode_graph a.graph.now) (watch (decode_rules a.rules.now)) a.start a.head (the_states (decode_graph a.graph.now) (watch (decode_rules a.rules.now)) a.start (place a.g a.q) a.j) a.tail a.work.now l.r l.work l.end l.invariant o c.requires.1.1.1.1.1.1.1.1 in
     may_pass a.s a.graph.now a.rules.now c.requires.0 a.start a.head l.end l.work a.g a.q at a.j c.requires.1.0 c.requires.1.1.0 a.label a.to a.ends c.requires.1.1.1.0 c.requires.1.1.1.1.0 c.requires.1.1.1.1.1.0 c.requires.1.1.1.1.1.1.0 l.r c.loop-r-test.true
     c.has_state.result c.has_state.ensures c.if-has_state.true may
-
-pub overflow_add-r : goal.overflow_add-r
-overflow_add-r c = omega (arith, c.loop-r-test.true)
-
-pub loop-r-smaller : goal.loop-r-smaller
-loop-r-smaller c = omega (arith, c.loop-r-test.true)
 
 pub loop-r-preserved : goal.loop-r-preserved
 loop-r-preserved c =

@@ -1,31 +1,12 @@
-use mathlib.Core.Path.{refl, ◌∙◌}
-use native.Mathlib.Omega.{arith}
 use lib.ListN.{get_or}
-use Rattle.files.specs.Decode.{decode_graph, decode_rules}
-use Rattle.files.specs.Rules.{watch}
-use Rattle.runs.specs.Worklist.Growth.{grew_none}
 use Rattle.runs.proofs.SummaryLaws.{node_in, may_add, row_more}
 use Rattle.runs.proofs.points.add_each.Goals as goal
-
-pub loop-p-init : goal.loop-p-init
-loop-p-init c =
-    let a = c.args in
-    (omega arith, refl, grew_none (decode_graph a.graph.now) (watch (decode_rules a.rules.now)) a.tail a.work.now c.requires.1.1.0, λ i h. absurd (omega (arith, h)))
-
-pub bounds-row-p : goal.bounds-row-p
-bounds-row-p c = omega (arith, c.loop-p-test.true)
 
 pub add-end-requires : goal.add-end-requires
 add-end-requires c =
     let a = c.args in
     let l = c.loop-p in
-    may_add a.s a.graph.now a.rules.now c.requires.0 l.end l.work l.invariant.2.holding a.g l.p (get_or a.row.now l.p 0) (node_in a.s a.graph.now a.rules.now c.requires.0 a.g c.requires.1.0) c.loop-p-test.true (c.requires.1.1.1 l.p c.loop-p-test.true).0
-
-pub overflow_add-p : goal.overflow_add-p
-overflow_add-p c = omega (arith, c.loop-p-test.true)
-
-pub loop-p-smaller : goal.loop-p-smaller
-loop-p-smaller c = omega (arith, c.loop-p-test.true)
+    may_add a.s a.graph.now a.rules.now c.requires.0 l.end l.work l.invariant.0.holding a.g l.p (get_or a.row.now l.p 0) (node_in a.s a.graph.now a.rules.now c.requires.0 a.g c.requires.1.0) c.loop-p-test.true (c.requires.1.1.1 l.p c.loop-p-test.true).0
 
 pub loop-p-preserved : goal.loop-p-preserved
 loop-p-preserved c =
@@ -33,9 +14,6 @@ loop-p-preserved c =
     let l = c.loop-p in
     let x = c.add-end in
     let h = c.loop-p-test.true in
-    let n = row_more a.s a.graph.now a.rules.now c.requires.0 a.tail l.end a.work.now l.work l.invariant.2 a.g c.requires.1.0 a.row.now c.requires.1.1.1 l.p h l.invariant.3
+    let n = row_more a.s a.graph.now a.rules.now c.requires.0 a.tail l.end a.work.now l.work l.invariant.0 a.g c.requires.1.0 a.row.now c.requires.1.1.1 l.p h l.invariant.1
     x.result x.new.work x.ensures in
-    (omega (arith, h), x.auto.work ∙ l.invariant.1, n.0, n.1)
-
-pub returns : goal.returns
-returns c = let l = c.loop-p in (l.invariant.2, λ p h. l.invariant.3 p (omega (arith, c.loop-p-test.false, h)))
+    n

@@ -1,4 +1,4 @@
-use mathlib.Core.Path.{◌≡◌, refl, subst, ◌∙◌}
+use mathlib.Core.Path.{◌≡◌, subst}
 use native.Mathlib.Omega.{arith}
 use lib.ListN.{length}
 use Rattle.files.specs.Decode.{decode_graph}
@@ -9,12 +9,6 @@ use Rattle.runs.proofs.PrepareLaws.{opened_below, opened_on}
 use Rattle.runs.specs.Regions.{label_heads_base, label_nexts_base}
 use Rattle.runs.proofs.prepare.link_groups.Goals as goal
 
-pub loop-e-init : goal.loop-e-init
-loop-e-init c = (omega arith, refl, c.requires.1.1, λ q d. refl)
-
-pub opened_label-label-requires : goal.opened_label-label-requires
-opened_label-label-requires c = (c.requires.0, c.loop-e-test.true)
-
 pub link-requires : goal.link-requires
 link-requires c =
     let a = c.args in
@@ -22,15 +16,9 @@ link-requires c =
     let l = c.loop-e in
     let x = c.opened_label-label in
     let b = opened_below a.s a.graph.now a.rules.now c.requires.0 l.e x.result t x.ensures in (
-      omega (arith, b, l.invariant.1, c.requires.1.0),
-      (omega (arith, t, l.invariant.1, c.requires.1.0, c.requires.0.held.few_edges), omega (arith, t, c.requires.0.held.few_edges)),
+      omega (arith, b, c.requires.1.0),
+      (omega (arith, t, c.requires.1.0, c.requires.0.held.few_edges), omega (arith, t, c.requires.0.held.few_edges)),
     )
-
-pub overflow_add-e : goal.overflow_add-e
-overflow_add-e c = omega (arith, c.loop-e-test.true, c.requires.0.held.few_edges)
-
-pub loop-e-smaller : goal.loop-e-smaller
-loop-e-smaller c = omega (arith, c.loop-e-test.true)
 
 pub loop-e-preserved : goal.loop-e-preserved
 loop-e-preserved c =
@@ -41,12 +29,12 @@ loop-e-preserved c =
     let p = c.link in
     let n =
     opened_on a.s a.graph.now a.rules.now c.requires.0 l.e x.result t x.ensures a.work.now l.work _
-    (omega (arith, l.invariant.1, c.requires.1.0)) l.invariant.2 l.invariant.3 p.ensures in
-    (omega (arith, t), p.auto.work ∙ l.invariant.1, n.0, n.1)
+    (omega (arith, c.requires.1.0)) l.invariant.0 l.invariant.1 p.ensures in
+    n
 
 pub returns : goal.returns
 returns c =
     let a = c.args in
     let l = c.loop-e in
-    let n : l.e ≡ length (decode_graph a.graph.now).edges = omega (arith, c.loop-e-test.false, l.invariant.0, edges_is a.s a.graph.now a.rules.now c.requires.0) in
-    (subst (Chained l.work label_heads_base label_nexts_base (opens (decode_graph a.graph.now)) 9) n l.invariant.2, l.invariant.3)
+    let n : l.e ≡ length (decode_graph a.graph.now).edges = omega (arith, c.loop-e-test.false, edges_is a.s a.graph.now a.rules.now c.requires.0) in
+    (subst (Chained l.work label_heads_base label_nexts_base (opens (decode_graph a.graph.now)) 9) n l.invariant.0, l.invariant.1)

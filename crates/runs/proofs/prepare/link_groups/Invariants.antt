@@ -1,6 +1,3 @@
-use mathlib.Core.Path.{◌≡◌}
-use Prim.Native.Nat.{◌-◌, ◌≤◌}
-use lib.ListN.{length}
 use Rattle.files.specs.Decode.{decode_graph}
 use Rattle.judging.specs.Chains.{Chained, Outside}
 use Rattle.runs.specs.Prepared.{opens}
@@ -9,10 +6,5 @@ use Rattle.runs.proofs.prepare.link_groups.Given as goal
 
 abbrev pub invariant-loop-e : goal.invariant-loop-e
 invariant-loop-e l =
-    (l.e ≤ l.s.edges)
-    × (length l.work ≡ length l.initial.work)
-    × (Chained l.work label_heads_base label_nexts_base (opens (decode_graph l.graph)) 9 l.e)
+    (Chained l.work label_heads_base label_nexts_base (opens (decode_graph l.graph)) 9 l.e)
     × (Outside label_heads_base reached_base l.initial.work l.work)
-
-abbrev pub decreases-loop-e : goal.decreases-loop-e
-decreases-loop-e l = l.s.edges - l.e

@@ -11,6 +11,6 @@ slot-requires c =
 pub returns : goal.returns
 returns c =
     let x = c.rule_at-rule in
-    let p = c.put8 in
+    let p = c.put in
     rule_put c.args.rules.now c.requires.0 c.args.j c.requires.1.0 _ x.ensures
     c.args.work.now _ _ (ap (λ (n : ℕ). n + x.result.state) c.slot.ensures.0) c.requires.1.1.0 p.ensures c.requires.1.1.1

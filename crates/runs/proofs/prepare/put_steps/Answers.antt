@@ -1,44 +1,14 @@
-use mathlib.Core.Path.{◌≡◌, refl, subst, ◌∙◌}
-use Prim.Native.Nat.{ℕ, ◌+◌, ◌-◌}
+use mathlib.Core.Path.{◌≡◌, subst, ◌∙◌}
+use Prim.Native.Nat.{ℕ}
 use native.Mathlib.Omega.{arith}
 use Rattle.runs.specs.Prepared.{SteppedFrom}
 use Rattle.runs.proofs.PrepareLaws.{steps_all}
 use Rattle.runs.proofs.prepare.put_steps.Goals as goal
 
-pub start_steps-requires : goal.start_steps-requires
-start_steps-requires c = c.requires
-
-pub loop-j-init : goal.loop-j-init
-loop-j-init c = (omega arith, refl, c.start_steps.ensures.0, λ q d. refl)
-
-pub overflow_sub-j : goal.overflow_sub-j
-overflow_sub-j c = omega (arith, c.loop-j-test.true)
-
-pub put_rule-requires : goal.put_rule-requires
-put_rule-requires c =
-    let l = c.loop-j in
-    let t = c.loop-j-test.true in
-    let e : l.j ≡ l.j - 1 + 1 = omega (arith, t) in (
-      c.requires.0,
-      (
-        omega (arith, t, l.invariant.0),
-        (omega (arith, l.invariant.1, c.start_steps.auto.work, c.requires.1), subst (λ (n : ℕ). SteppedFrom c.args.rules.now n l.work) e l.invariant.2),
-      ),
-    )
-
-pub loop-j-smaller : goal.loop-j-smaller
-loop-j-smaller c = omega (arith, c.loop-j-test.true)
-
-pub loop-j-preserved : goal.loop-j-preserved
-loop-j-preserved c =
-    let l = c.loop-j in
-    let p = c.put_rule in
-    (omega (arith, l.invariant.0), p.auto.work ∙ l.invariant.1, p.ensures.0, λ q d. p.ensures.1 q d ∙ l.invariant.3 q d)
-
 pub returns : goal.returns
 returns c =
     let l = c.loop-j in
     let e : l.j ≡ 0 = omega (arith, c.loop-j-test.false) in (
-      steps_all c.args.rules.now c.requires.0 l.work (subst (λ (n : ℕ). SteppedFrom c.args.rules.now n l.work) e l.invariant.2),
-      λ q d. l.invariant.3 q d ∙ c.start_steps.ensures.1 q d,
+      steps_all c.args.rules.now c.requires.0 l.work (subst (λ (n : ℕ). SteppedFrom c.args.rules.now n l.work) e l.invariant.0),
+      λ q d. l.invariant.1 q d ∙ c.start_steps.ensures.1 q d,
     )

@@ -1,4 +1,4 @@
-use mathlib.Core.Path.{refl, ◌∙◌}
+use mathlib.Core.Path.{refl}
 use Prim.Native.Nat.{◌%◌}
 use native.Mathlib.Omega.{arith}
 use Rattle.files.specs.Cells.Laws.{cells_on}
@@ -6,33 +6,16 @@ use Rattle.runs.proofs.PrepareLaws.{put_outside, steps_none}
 use Rattle.runs.specs.Regions.{firsts_base, monitor_base}
 use Rattle.runs.proofs.prepare.start_steps.Goals as goal
 
-pub loop-i-init : goal.loop-i-init
-loop-i-init c = (omega arith, refl, (λ u h. absurd (omega arith)), λ q d. refl)
-
-pub overflow_cast-i : goal.overflow_cast-i
-overflow_cast-i c = omega arith
-
-pub put8-requires : goal.put8-requires
-put8-requires c = omega (arith, c.loop-i-test.true, c.loop-i.invariant.1, c.requires.1)
-
-pub overflow_add-i : goal.overflow_add-i
-overflow_add-i c = omega (arith, c.loop-i-test.true)
-
-pub loop-i-smaller : goal.loop-i-smaller
-loop-i-smaller c = omega (arith, c.loop-i-test.true)
-
 pub loop-i-preserved : goal.loop-i-preserved
 loop-i-preserved c =
     let l = c.loop-i in
     let t = c.loop-i-test.true in
-    let p = c.put8 in (
-      omega (arith, t),
-      p.auto.work ∙ l.invariant.1,
-      cells_on (λ n. n % 8) l.work _ monitor_base 1 l.i (l.i % 8) p.ensures (omega (arith, t, l.invariant.1, c.requires.1)) (omega arith) refl l.invariant.2,
-      put_outside c.args.work.now l.work _ monitor_base 1 l.i (l.i % 8) monitor_base firsts_base p.ensures (omega arith) (omega (arith, t)) l.invariant.3,
+    let p = c.put in (
+      cells_on (λ n. n % 8) l.work _ monitor_base 1 l.i (l.i % 8) p.ensures (omega (arith, t, c.requires.1)) (omega arith) refl l.invariant.0,
+      put_outside c.args.work.now l.work _ monitor_base 1 l.i (l.i % 8) monitor_base firsts_base p.ensures (omega arith) (omega (arith, t)) l.invariant.1,
     )
 
 pub returns : goal.returns
 returns c =
     let l = c.loop-i in
-    (steps_none c.args.rules.now c.requires.0 l.work (λ i h. l.invariant.2 i (omega (arith, c.loop-i-test.false))), l.invariant.3)
+    (steps_none c.args.rules.now c.requires.0 l.work (λ i h. l.invariant.0 i (omega (arith, c.loop-i-test.false))), l.invariant.1)

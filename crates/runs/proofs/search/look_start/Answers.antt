@@ -1,5 +1,5 @@
 -- The one record of the list is pushed, or the list is empty.
-use Rattle.runs.proofs.SearchLaws.{may_start, did_start, no_start}
+use Rattle.runs.proofs.SearchLaws.{may_start, did_start}
 use Rattle.runs.proofs.search.look_start.Goals as goal
 
 pub push-requires : goal.push-requires
@@ -12,8 +12,3 @@ returns-then-is_entry c =
     let a = c.args in
     let x = c.push in
     did_start a.s a.graph.now a.rules.now c.requires.0 a.start a.tail a.work.now c.requires.1.1.0 a.n c.requires.1.0 c.is_entry.result c.is_entry.ensures c.if-is_entry.true c.requires.1.1.1 x.result x.new.work x.ensures
-
-pub returns : goal.returns
-returns c =
-    let a = c.args in
-    no_start a.s a.graph.now a.rules.now c.requires.0 a.start a.tail a.work.now c.requires.1.1.0 a.n c.requires.1.0 c.is_entry.result c.is_entry.ensures c.if-is_entry.false

@@ -3,12 +3,9 @@ use Rattle.files.specs.Decode.{decode_graph, decode_rules}
 use Rattle.files.specs.Rules.{watch}
 use Rattle.runs.specs.Prepared.Files.{size_is}
 use Rattle.runs.specs.Searching.Outgoing.{starts_out}
-use Rattle.runs.proofs.SearchLaws.{series_start, series_end, one_may, one_looked, the_starts, starts_first, starts_next}
+use Rattle.runs.proofs.SearchLaws.{series_end, one_may, one_looked, the_starts, starts_next}
 use Rattle.runs.proofs.SummaryLaws.{node_in}
 use Rattle.runs.proofs.search.look_starts.Goals as goal
-
-pub loop-n-init : goal.loop-n-init
-loop-n-init c = let a = c.args in series_start (decode_graph a.graph.now) (watch (decode_rules a.rules.now)) a.start 0 (the_starts (decode_graph a.graph.now) (watch (decode_rules a.rules.now)) a.start) 1 a.work.now 0 (starts_first (decode_graph a.graph.now) (watch (decode_rules a.rules.now)) a.start)
 
 pub look_start-end-requires : goal.look_start-end-requires
 look_start-end-requires c =
@@ -16,12 +13,6 @@ look_start-end-requires c =
     let l = c.loop-n in
     let h = c.loop-n-test.true in
     (c.requires.0, (h, (omega (arith, l.invariant.1.longer), one_may (decode_graph a.graph.now) (watch (decode_rules a.rules.now)) a.start 0 (the_starts (decode_graph a.graph.now) (watch (decode_rules a.rules.now)) a.start) 1 a.work.now l.n l.work l.end l.invariant (starts_next (decode_graph a.graph.now) (watch (decode_rules a.rules.now)) a.start l.n (node_in a.s a.graph.now a.rules.now c.requires.0 l.n h)) c.requires.1)))
-
-pub overflow_add-n : goal.overflow_add-n
-overflow_add-n c = omega (arith, c.loop-n-test.true)
-
-pub loop-n-smaller : goal.loop-n-smaller
-loop-n-smaller c = omega (arith, c.loop-n-test.true)
 
 pub loop-n-preserved : goal.loop-n-preserved
 loop-n-preserved c =

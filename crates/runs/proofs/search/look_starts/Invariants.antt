@@ -1,5 +1,4 @@
 -- One node after the other: what is left is that of the nodes from n on.
-use Prim.Native.Nat.{◌-◌}
 use Rattle.files.specs.Decode.{decode_graph, decode_rules}
 use Rattle.files.specs.Rules.{watch}
 use Rattle.runs.proofs.SearchLaws.{Upto, the_starts}
@@ -7,6 +6,3 @@ use Rattle.runs.proofs.search.look_starts.Given as goal
 
 abbrev pub invariant-loop-n : goal.invariant-loop-n
 invariant-loop-n l = Upto (decode_graph l.graph) (watch (decode_rules l.rules)) l.start 0 (the_starts (decode_graph l.graph) (watch (decode_rules l.rules)) l.start) l.n 1 l.initial.work l.work l.end
-
-abbrev pub decreases-loop-n : goal.decreases-loop-n
-decreases-loop-n l = l.s.nodes - l.n

@@ -6,49 +6,17 @@ use lib.Dec.{eqb}
 use borrow.Author.Tests.{eq-eqb, ne_eqb}
 use Rattle.files.specs.Decode.{decode_rules}
 use Rattle.files.specs.Rules.{watch, calls}
-use Rattle.runs.proofs.SummaryLaws.{Picked, picked_none, picked_yes, picked_no, step_held}
+use Rattle.runs.proofs.SummaryLaws.{Picked, picked_yes, picked_no, step_held}
 use Rattle.runs.proofs.sets.entering.Goals as goal
-use Rattle.runs.proofs.sets.entering.Goals.{else-get8-p, then-get8-p}
-
-pub slot-at-requires : goal.slot-at-requires
-slot-at-requires c = (omega arith, (omega arith, c.requires.1.1))
-
-pub loop-q-init : goal.loop-q-init
-loop-q-init c = (omega arith, picked_none (λ (i : ℕ). eqb (watch (decode_rules c.args.rules.now) i (calls c.args.a c.args.m)) c.args.p))
-
-pub overflow_cast-q : goal.overflow_cast-q
-overflow_cast-q c = omega (arith, c.loop-q-test.true)
-
-pub overflow_add-at : goal.overflow_add-at
-overflow_add-at c = omega (arith, c.slot-at.ensures.1, c.loop-q-test.true)
-
-pub get8-requires : goal.get8-requires
-get8-requires c = omega (arith, c.slot-at.ensures.1, c.loop-q-test.true, c.requires.1.0)
-
-pub overflow_cast-get8 : goal.overflow_cast-get8
-overflow_cast-get8 c = omega arith
-
-pub one_state-y-requires : goal.one_state-y-requires
-one_state-y-requires c = c.loop-q-test.true
-
-pub overflow_add-q : goal.overflow_add-q
-overflow_add-q c = omega (arith, c.loop-q-test.true)
-
-pub loop-q-smaller : goal.loop-q-smaller
-loop-q-smaller c = omega (arith, c.loop-q-test.true)
+use Rattle.runs.proofs.sets.entering.Goals.{else-get-p, then-get-p}
 
 pub loop-q-preserved : goal.loop-q-preserved
 loop-q-preserved c =
     let a = c.args in
     let l = c.loop-q in
     let test = c.loop-q-test in
-    let x = c.get8 in
+    let x = c.get in
     let f : ℕ → Bool = λ i. eqb (watch (decode_rules a.rules.now) i (calls a.a a.m)) a.p in
     let held = step_held (watch (decode_rules a.rules.now)) a.work.now c.slot-at.result l.q 1 a.a a.m x.result c.requires.0 test.true (omega arith, (omega arith, c.requires.1.1))
-    c.slot-at.ensures.0 x.ensures in (
-      omega (arith, test.true),
-      elim c.if-get8-p.branch [ then-get8-p w ↦ subst (λ (y : ℕ). Picked f y (l.q + 1)) (sym w.y-is) (picked_yes f l.y l.q l.invariant.1 w.one_state-y.result w.one_state-y.ensures (eq-eqb _ a.p (sym held ∙ w.if-get8-p.true))) | else-get8-p w ↦ subst (λ (y : ℕ). Picked f y (l.q + 1)) (sym w.y-is) (picked_no f l.y l.q l.invariant.1 (ne_eqb _ a.p (λ e. w.if-get8-p.false (held ∙ e)))) ],
-    )
-
-pub returns : goal.returns
-returns c = λ q h. c.loop-q.invariant.1.0 q (omega (arith, c.loop-q-test.false, h))
+    c.slot-at.ensures.0 x.ensures in
+    elim c.if-get-p.branch [ then-get-p w ↦ subst (λ (y : ℕ). Picked f y (l.q + 1)) (sym w.y-is) (picked_yes f l.y l.q l.invariant w.one_state-y.result w.one_state-y.ensures (eq-eqb _ a.p (sym held ∙ w.if-get-p.true))) | else-get-p w ↦ subst (λ (y : ℕ). Picked f y (l.q + 1)) (sym w.y-is) (picked_no f l.y l.q l.invariant (ne_eqb _ a.p (λ e. w.if-get-p.false (held ∙ e)))) ]

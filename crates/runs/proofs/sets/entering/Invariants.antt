@@ -1,4 +1,4 @@
-use Prim.Native.Nat.{ℕ, ◌-◌, ◌≤◌}
+use Prim.Native.Nat.{ℕ}
 use lib.Dec.{eqb}
 use Rattle.files.specs.Decode.{decode_rules}
 use Rattle.files.specs.Rules.{watch, calls}
@@ -6,7 +6,4 @@ use Rattle.runs.proofs.SummaryLaws.{Picked}
 use Rattle.runs.proofs.sets.entering.Given as goal
 
 abbrev pub invariant-loop-q : goal.invariant-loop-q
-invariant-loop-q l = (l.q ≤ 8) × Picked (λ (i : ℕ). eqb (watch (decode_rules l.rules) i (calls l.a l.m)) l.p) l.y l.q
-
-abbrev pub decreases-loop-q : goal.decreases-loop-q
-decreases-loop-q l = 8 - l.q
+invariant-loop-q l = Picked (λ (i : ℕ). eqb (watch (decode_rules l.rules) i (calls l.a l.m)) l.p) l.y l.q

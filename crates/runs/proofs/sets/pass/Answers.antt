@@ -1,14 +1,8 @@
-use native.Mathlib.Omega.{arith}
 use Rattle.files.specs.Decode.{decode_rules}
 use Rattle.files.specs.Rules.{watch}
 use Rattle.runs.specs.Worklist.{sums}
 use Rattle.runs.proofs.SummaryLaws.{passed_by}
 use Rattle.runs.proofs.sets.pass.Goals as goal
-
-pub step_set-requires : goal.step_set-requires
-step_set-requires c =
-    let p = c.requires in
-    (p.0, (p.1.0, (p.1.1.0, (omega arith, (omega arith, (p.1.1.1.1.1.0, (p.1.1.1.1.1.1, (p.1.1.1.0, p.1.1.1.1.0))))))))
 
 pub returns : goal.returns
 returns c =

@@ -4,28 +4,9 @@ use native.Mathlib.Omega.{arith}
 use Rattle.files.specs.Decode.{decode_rules}
 use Rattle.files.specs.Rules.{watch}
 use Rattle.runs.specs.Prepared.Files.{monitor_small}
-use Rattle.runs.specs.Worklist.Unions.{union_none}
 use Rattle.runs.proofs.SummaryLaws.{union_with, union_without, union_all, onto, step_held}
 use Rattle.runs.proofs.sets.step_set.Goals as goal
 use Rattle.runs.proofs.sets.step_set.Goals.{else-has_state, then-has_state}
-
-pub slot-at-requires : goal.slot-at-requires
-slot-at-requires c = c.requires.1.1.1
-
-pub loop-q-init : goal.loop-q-init
-loop-q-init c =
-    let a = c.args in
-    let f = onto (watch (decode_rules a.rules.now)) a.event a.m1 a.m2 in
-    (omega arith, union_none f a.x)
-
-pub has_state-requires : goal.has_state-requires
-has_state-requires c = c.loop-q-test.true
-
-pub overflow_add-at : goal.overflow_add-at
-overflow_add-at c = omega (arith, c.slot-at.ensures.1)
-
-pub get8-requires : goal.get8-requires
-get8-requires c = omega (arith, c.slot-at.ensures.1, c.requires.1.1.0)
 
 pub one_state-y-requires : goal.one_state-y-requires
 one_state-y-requires c =
@@ -34,15 +15,9 @@ one_state-y-requires c =
     let a = c.args in
     let l = c.loop-q in
     subst (λ (i : ℕ). i < 8)
-    (sym (step_held (watch (decode_rules a.rules.now)) a.work.now slot.result l.q a.event a.m1 a.m2 c.get8.result c.requires.1.0 loop-test.true c.requires.1.1.1
-    slot.ensures.0 c.get8.ensures))
+    (sym (step_held (watch (decode_rules a.rules.now)) a.work.now slot.result l.q a.event a.m1 a.m2 c.get.result c.requires.1.0 loop-test.true c.requires.1.1.1
+    slot.ensures.0 c.get.ensures))
     (monitor_small a.s a.graph.now a.rules.now c.requires.0 l.q (record { kind = a.event; m1 = a.m1; m2 = a.m2 }) loop-test.true)
-
-pub overflow_add-q : goal.overflow_add-q
-overflow_add-q c = omega arith
-
-pub loop-q-smaller : goal.loop-q-smaller
-loop-q-smaller c = omega arith
 
 pub loop-q-preserved : goal.loop-q-preserved
 loop-q-preserved c =
@@ -52,16 +27,14 @@ loop-q-preserved c =
     let a = c.args in
     let l = c.loop-q in
     let mon = watch (decode_rules a.rules.now) in
-    let f = onto (watch (decode_rules a.rules.now)) a.event a.m1 a.m2 in (
-      omega arith,
-      elim c.if-has_state.branch [
-        | then-has_state w ↦ w.y-is ∙ union_with f a.x l.q l.y w.one_state-y.result l.invariant.1
-            (w.one_state-y.ensures ∙ ap (λ (i : ℕ). 2 ^ i)
-            (step_held mon a.work.now slot.result l.q a.event a.m1 a.m2 w.get8.result c.requires.1.0 loop-test.true c.requires.1.1.1 slot.ensures.0 w.get8.ensures))
-            (omega arith) (sym has-state.ensures ∙ w.if-has_state.true)
-        | else-has_state w ↦ w.y-is ∙ union_without f a.x l.q l.y l.invariant.1 (sym has-state.ensures ∙ w.if-has_state.false)
-      ],
-    )
+    let f = onto (watch (decode_rules a.rules.now)) a.event a.m1 a.m2 in
+    elim c.if-has_state.branch [
+      | then-has_state w ↦ w.y-is ∙ union_with f a.x l.q l.y w.one_state-y.result l.invariant
+          (w.one_state-y.ensures ∙ ap (λ (i : ℕ). 2 ^ i)
+          (step_held mon a.work.now slot.result l.q a.event a.m1 a.m2 w.get.result c.requires.1.0 loop-test.true c.requires.1.1.1 slot.ensures.0 w.get.ensures))
+          (omega arith) (sym has-state.ensures ∙ w.if-has_state.true)
+      | else-has_state w ↦ w.y-is ∙ union_without f a.x l.q l.y l.invariant (sym has-state.ensures ∙ w.if-has_state.false)
+    ]
 
 pub returns : goal.returns
 returns c =
@@ -69,4 +42,4 @@ returns c =
     let l = c.loop-q in
     let e : l.q ≡ 8 = omega arith in
     let f = onto (watch (decode_rules a.rules.now)) a.event a.m1 a.m2 in
-    union_all f a.x l.q l.y e l.invariant.1
+    union_all f a.x l.q l.y e l.invariant

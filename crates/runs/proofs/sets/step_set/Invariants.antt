@@ -1,5 +1,4 @@
 use mathlib.Core.Path.{◌≡◌}
-use Prim.Native.Nat.{◌-◌, ◌≤◌}
 use Rattle.files.specs.Decode.{decode_rules}
 use Rattle.files.specs.Rules.{watch}
 use Rattle.runs.specs.Worklist.Unions.{union_to}
@@ -7,7 +6,4 @@ use Rattle.runs.proofs.SummaryLaws.{onto}
 use Rattle.runs.proofs.sets.step_set.Given as goal
 
 abbrev pub invariant-loop-q : goal.invariant-loop-q
-invariant-loop-q l = (l.q ≤ 8) × (l.y ≡ union_to (onto (watch (decode_rules l.rules)) l.event l.m1 l.m2) l.x l.q)
-
-abbrev pub decreases-loop-q : goal.decreases-loop-q
-decreases-loop-q l = 8 - l.q
+invariant-loop-q l = l.y ≡ union_to (onto (watch (decode_rules l.rules)) l.event l.m1 l.m2) l.x l.q

@@ -32,18 +32,3 @@ run_calls-requires c =
         ),
       ),
     )
-
-pub returns : goal.returns
-returns c =
-    let a = c.args in
-    let x = c.run_calls in
-    let into = c.entering_by-callers in
-    let back = c.returning_by-ends.ensures in (
-      x.ensures.0,
-      (
-        into.result,
-        into.ensures,
-        x.ensures.1 a.p c.requires.1.1.1.0 into.ensures
-            (λ b hb. back b hb ∙ ap (union (λ (n : ℕ). 2 ^ watch (decode_rules a.rules.now) n (returns_to a.m (suc b)))) c.requires.1.1.1.1.0),
-      ),
-    )

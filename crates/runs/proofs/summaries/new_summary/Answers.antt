@@ -15,12 +15,12 @@ pub returns-then-new-old : goal.returns-then-new-old
 returns-then-new-old c =
     let a = c.args in
     let o = c.sum_of-old in
-    let y = c.get8 in
+    let y = c.get in
     joined_same a.v.returns (sums a.table.now a.v.method (a.at % 8)) (cell a.work.now reached_base 1 a.at) c.if-not-v.false o.result y.result o.ensures y.ensures c.if-new-old.true
 
 pub returns : goal.returns
 returns c =
     let a = c.args in
     let o = c.sum_of-old in
-    let y = c.get8 in
+    let y = c.get in
     joined_new a.v.returns (sums a.table.now a.v.method (a.at % 8)) (cell a.work.now reached_base 1 a.at) c.if-not-v.false o.result y.result o.ensures y.ensures c.if-new-old.false

@@ -1,4 +1,3 @@
-use mathlib.Core.Path.{refl, ◌∙◌}
 use Prim.Native.Nat.{ℕ, ◌≤◌, ◌<◌}
 use native.Mathlib.Omega.{arith}
 use lib.ListN.{get_or}
@@ -7,25 +6,9 @@ use Rattle.files.specs.Decode.{decode_graph, decode_rules}
 use Rattle.files.specs.Graph.{no_edge}
 use Rattle.files.specs.Rules.{watch}
 use Rattle.runs.specs.Worklist.{RanIn}
-use Rattle.runs.specs.Worklist.Growth.{grew_none, grew_on}
-use Rattle.runs.proofs.SummaryLaws.{to_is, group_in, group_ends, may_get, row_runs, ran_in_kept}
+use Rattle.runs.specs.Worklist.Growth.{grew_on}
+use Rattle.runs.proofs.SummaryLaws.{to_is, group_in, may_get, row_runs, ran_in_kept}
 use Rattle.runs.proofs.summaries.run_group.Goals as goal
-
-pub loop-j-init : goal.loop-j-init
-loop-j-init c =
-    let a = c.args in
-    (omega arith, refl, grew_none (decode_graph a.graph.now) (watch (decode_rules a.rules.now)) a.tail a.work.now c.requires.1.1.1.1.0, λ i h f. absurd (omega (arith, h, f)))
-
-pub edge_at-e-requires : goal.edge_at-e-requires
-edge_at-e-requires c = (c.requires.0.held.views.graph_file, c.requires.0.held.views.nodes_are, omega (arith, c.loop-j-test.true, c.requires.0.held.views.edges_are, c.requires.0.held.views.nodes_are))
-
-pub returns-then-e-g : goal.returns-then-e-g
-returns-then-e-g c =
-    let a = c.args in
-    let l = c.loop-j in (
-      l.invariant.2,
-      λ i f h grouped. l.invariant.3 i (group_ends a.s a.graph.now a.rules.now c.requires.0 l.j c.loop-j-test.true _ c.edge_at-e.ensures a.g a.m a.first l.invariant.0 c.if-e-g.true i grouped) f h,
-    )
 
 pub add_row-end-requires : goal.add_row-end-requires
 add_row-end-requires c =
@@ -34,13 +17,7 @@ add_row-end-requires c =
     let u = c.edge_at-e.ensures in
     let d = group_in a.s a.graph.now a.rules.now c.requires.0 l.j c.loop-j-test.true _ u a.g a.m c.if-e-g.false in
     let n = may_get a.s a.graph.now a.rules.now c.requires.0 a.tail a.work.now c.requires.1.1.1.1.0 a.table.now c.requires.1.1.1.0 a.g a.m a.set a.y c.requires.1.0 c.requires.1.1.0 a.row.now c.requires.1.1.1.1.1.0 c.requires.1.1.1.1.1.1 l.j c.loop-j-test.true d.0 d.1 (omega arith) (omega arith) _ (to_is a.s a.graph.now a.rules.now c.requires.0 l.j c.loop-j-test.true _ u) in
-    (c.requires.0, (n.0, (l.invariant.2.holding, n.1)))
-
-pub overflow_add-j : goal.overflow_add-j
-overflow_add-j c = omega (arith, c.loop-j-test.true, c.requires.0.held.few_edges)
-
-pub loop-j-smaller : goal.loop-j-smaller
-loop-j-smaller c = omega (arith, c.loop-j-test.true)
+    (c.requires.0, (n.0, (l.invariant.0.holding, n.1)))
 
 pub loop-j-preserved : goal.loop-j-preserved
 loop-j-preserved c =
@@ -50,14 +27,9 @@ loop-j-preserved c =
     let x = c.add_row-end in
     let u = c.edge_at-e.ensures in
     let d = group_in a.s a.graph.now a.rules.now c.requires.0 l.j hj _ u a.g a.m c.if-e-g.false in
-    let grew = grew_on (decode_graph a.graph.now) (watch (decode_rules a.rules.now)) a.tail l.end x.result a.work.now l.work x.new.work l.invariant.2 x.ensures.0 in (
-      omega (arith, l.invariant.0),
-      x.auto.work ∙ l.invariant.1,
+    let grew = grew_on (decode_graph a.graph.now) (watch (decode_rules a.rules.now)) a.tail l.end x.result a.work.now l.work x.new.work l.invariant.0 x.ensures.0 in (
       grew,
       below_more (λ (i : ℕ). a.first ≤ i → i < a.s.edges → (p : ℕ) → p < 8 → RanIn (decode_graph a.graph.now) (watch (decode_rules a.rules.now)) a.set a.y a.table.now a.work.now x.new.work (get_or (decode_graph a.graph.now).edges i no_edge) p) l.j
-          (λ i h f e p hp. ran_in_kept a.s a.graph.now a.rules.now c.requires.0 l.end x.result l.work x.new.work x.ensures.0 a.table.now i e a.set a.y p a.work.now hp (l.invariant.3 i h f e p hp))
+          (λ i h f e p hp. ran_in_kept a.s a.graph.now a.rules.now c.requires.0 l.end x.result l.work x.new.work x.ensures.0 a.table.now i e a.set a.y p a.work.now hp (l.invariant.1 i h f e p hp))
           (λ f e. row_runs a.s a.graph.now a.rules.now c.requires.0 a.tail a.work.now c.requires.1.1.1.1.0 a.table.now c.requires.1.1.1.0 a.g a.m a.set a.y c.requires.1.0 c.requires.1.1.0 a.row.now c.requires.1.1.1.1.1.0 c.requires.1.1.1.1.1.1 l.j hj d.0 d.1 _ (to_is a.s a.graph.now a.rules.now c.requires.0 l.j hj _ u) x.result x.new.work grew x.ensures.1),
     )
-
-pub returns : goal.returns
-returns c = let l = c.loop-j in (l.invariant.2, λ i f h grouped. l.invariant.3 i (omega (arith, c.loop-j-test.false, h)) f h)

@@ -1,7 +1,6 @@
 -- Each edge gets the row, up to the first one that leaves another node or has another label: the group ends there.
-use mathlib.Core.Path.{◌≡◌}
-use Prim.Native.Nat.{ℕ, ◌-◌, ◌≤◌, ◌<◌}
-use lib.ListN.{length, get_or}
+use Prim.Native.Nat.{ℕ, ◌≤◌, ◌<◌}
+use lib.ListN.{get_or}
 use Rattle.files.specs.Decode.{decode_graph, decode_rules}
 use Rattle.files.specs.Graph.{no_edge}
 use Rattle.files.specs.Rules.{watch}
@@ -10,8 +9,5 @@ use Rattle.runs.proofs.summaries.run_group.Given as goal
 
 abbrev pub invariant-loop-j : goal.invariant-loop-j
 invariant-loop-j l =
-    (l.first ≤ l.j) × (length l.work ≡ length l.initial.work) × (Grew (decode_graph l.graph) (watch (decode_rules l.rules)) l.tail l.end l.initial.work l.work)
+    (Grew (decode_graph l.graph) (watch (decode_rules l.rules)) l.tail l.end l.initial.work l.work)
     × ((i : ℕ) → i < l.j → l.first ≤ i → i < l.s.edges → (p : ℕ) → p < 8 → RanIn (decode_graph l.graph) (watch (decode_rules l.rules)) l.set l.y l.table l.initial.work l.work (get_or (decode_graph l.graph).edges i no_edge) p)
-
-abbrev pub decreases-loop-j : goal.decreases-loop-j
-decreases-loop-j l = l.s.edges - l.j

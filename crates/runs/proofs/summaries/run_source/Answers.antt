@@ -3,7 +3,7 @@ use native.Mathlib.Omega.{arith}
 use Rattle.files.specs.Decode.{decode_graph, decode_rules}
 use Rattle.files.specs.Rules.{watch}
 use Rattle.runs.specs.Worklist.Growth.{grew_none}
-use Rattle.runs.proofs.SummaryLaws.{node_readable, label_is, from_in, from_fits, caller_in, goes_on, source_links, group_returns, group_unreached, group_ran}
+use Rattle.runs.proofs.SummaryLaws.{node_readable, from_in, from_fits, caller_in, group_unreached, group_ran}
 use Rattle.runs.proofs.summaries.run_source.Goals as goal
 
 pub node_at-v-requires : goal.node_at-v-requires
@@ -11,13 +11,6 @@ node_at-v-requires c =
     let a = c.args in
     let u = c.edge_at-e.ensures in
     (c.requires.0.held.views.graph_file, node_readable a.s a.graph.now a.rules.now c.requires.0 c.edge_at-e.result.from (from_in a.s a.graph.now a.rules.now c.requires.0 a.first c.requires.1.0 _ u))
-
-pub returns-then-v : goal.returns-then-v
-returns-then-v c =
-    let a = c.args in
-    let u = c.edge_at-e.ensures in
-    let v = c.node_at-v.ensures in
-    (grew_none (decode_graph a.graph.now) (watch (decode_rules a.rules.now)) a.tail a.work.now c.requires.1.1.1.1.0, group_returns a.s a.graph.now a.rules.now c.requires.0 a.first c.requires.1.0 _ u _ v a.callers.now a.ends.now a.table.now a.work.now a.work.now c.if-v.true)
 
 pub overflow_sub-set : goal.overflow_sub-set
 overflow_sub-set c =
@@ -60,22 +53,6 @@ row_of-row-requires c =
     let a = c.args in
     let u = c.edge_at-e.ensures in
     (from_fits a.s a.graph.now a.rules.now c.requires.0 a.first c.requires.1.0 _ u, c.requires.1.1.1.1.0.room)
-
-pub run_group-requires : goal.run_group-requires
-run_group-requires c =
-    let a = c.args in
-    let u = c.edge_at-e.ensures in
-    let v = c.node_at-v.ensures in
-    let lk = c.requires.1.1.1.1.1 in (
-      c.requires.0,
-      (
-        omega (arith, c.requires.1.1.0, label_is a.s a.graph.now a.rules.now c.requires.0 a.first c.requires.1.0 _ u),
-        (
-          goes_on a.s a.graph.now a.rules.now c.requires.0 a.first c.requires.1.0 _ u _ v c.if-v.false,
-          (c.requires.1.1.1.0, (c.requires.1.1.1.1.0, (c.row_of-row.ensures, (lk.0, lk.1, source_links a.s a.graph.now a.rules.now c.requires.0 a.first c.requires.1.0 _ u _ v lk.0 a.callers.now a.ends.now a.table.now lk.2)))),
-        ),
-      ),
-    )
 
 pub returns-then-reached_any-set-gt0 : goal.returns-then-reached_any-set-gt0
 returns-then-reached_any-set-gt0 c =

@@ -1,6 +1,3 @@
-use mathlib.Core.Path.{◌≡◌}
-use Prim.Native.Nat.{◌-◌, ◌≤◌}
-use lib.ListN.{length}
 use Rattle.files.specs.Decode.{decode_graph, decode_rules}
 use Rattle.files.specs.Rules.{watch}
 use Rattle.runs.specs.Worklist.{Grew, EntriesIn}
@@ -8,7 +5,4 @@ use Rattle.runs.proofs.summaries.seed.Given as goal
 
 abbrev pub invariant-loop-g : goal.invariant-loop-g
 invariant-loop-g l =
-    (l.g ≤ l.s.nodes) × (length l.work ≡ length l.initial.work) × (Grew (decode_graph l.graph) (watch (decode_rules l.rules)) 0 l.end l.initial.work l.work) × (EntriesIn (decode_graph l.graph) (watch (decode_rules l.rules)) l.g l.work)
-
-abbrev pub decreases-loop-g : goal.decreases-loop-g
-decreases-loop-g l = l.s.nodes - l.g
+    (Grew (decode_graph l.graph) (watch (decode_rules l.rules)) 0 l.end l.initial.work l.work) × (EntriesIn (decode_graph l.graph) (watch (decode_rules l.rules)) l.g l.work)

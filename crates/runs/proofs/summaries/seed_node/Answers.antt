@@ -1,4 +1,3 @@
-use mathlib.Core.Path.{refl, ◌∙◌}
 use Prim.Native.Nat.{ℕ}
 use native.Mathlib.Nat.{lt_trans}
 use native.Mathlib.Omega.{arith}
@@ -8,46 +7,17 @@ use Rattle.files.specs.Decode.{decode_graph, decode_rules}
 use Rattle.files.specs.Rules.{watch}
 use Rattle.maximal.specs.Masks.{member}
 use Rattle.runs.specs.Worklist.{reach}
-use Rattle.runs.specs.Worklist.Growth.{grew_none, grew_on}
-use Rattle.runs.proofs.SummaryLaws.{node_in, node_readable, may_add, seeds_none, seeds}
+use Rattle.runs.specs.Worklist.Growth.{grew_on}
+use Rattle.runs.proofs.SummaryLaws.{node_in, may_add, seeds}
 use Rattle.runs.proofs.summaries.seed_node.Goals as goal
-
-pub node_at-v-requires : goal.node_at-v-requires
-node_at-v-requires c =
-    let a = c.args in
-    (c.requires.0.held.views.graph_file, node_readable a.s a.graph.now a.rules.now c.requires.0 a.g (node_in a.s a.graph.now a.rules.now c.requires.0 a.g c.requires.1.0))
-
-pub returns-then-not-v : goal.returns-then-not-v
-returns-then-not-v c =
-    let node_at = c.node_at-v in
-    let a = c.args in (
-      grew_none (decode_graph a.graph.now) (watch (decode_rules a.rules.now)) a.tail a.work.now c.requires.1.1,
-      λ t. absurd
-          (seeds_none a.s a.graph.now a.rules.now c.requires.0 a.g _ node_at.ensures
-          c.if-not-v.true t),
-    )
-
-pub loop-p-init : goal.loop-p-init
-loop-p-init c =
-    let a = c.args in
-    (omega arith, refl, grew_none (decode_graph a.graph.now) (watch (decode_rules a.rules.now)) a.tail a.work.now c.requires.1.1, λ i h. absurd (omega arith))
-
-pub one_state-requires : goal.one_state-requires
-one_state-requires c = omega arith
 
 pub add-end-requires : goal.add-end-requires
 add-end-requires c =
     let loop-test = c.loop-p-test in
     let a = c.args in
     let l = c.loop-p in
-    may_add a.s a.graph.now a.rules.now c.requires.0 l.end l.work l.invariant.2.holding a.g l.p c.one_state.result
+    may_add a.s a.graph.now a.rules.now c.requires.0 l.end l.work l.invariant.0.holding a.g l.p c.one_state.result
     (node_in a.s a.graph.now a.rules.now c.requires.0 a.g c.requires.1.0) loop-test.true (omega arith)
-
-pub overflow_add-p : goal.overflow_add-p
-overflow_add-p c = omega arith
-
-pub loop-p-smaller : goal.loop-p-smaller
-loop-p-smaller c = omega arith
 
 pub loop-p-preserved : goal.loop-p-preserved
 loop-p-preserved c =
@@ -59,14 +29,9 @@ loop-p-preserved c =
     let x = c.add-end in
     let y = c.one_state in
     let d = seeds a.s a.graph.now a.rules.now c.requires.0 a.g _ c.requires.1.0
-    node_at.ensures if1.false l.end l.work l.invariant.2.holding l.p y.result
+    node_at.ensures if1.false l.end l.work l.invariant.0.holding l.p y.result
     loop-test.true (omega arith) y.ensures x.result x.new.work x.ensures in (
-      omega (arith, loop-test.true),
-      x.auto.work ∙ l.invariant.1,
-      grew_on (decode_graph a.graph.now) (watch (decode_rules a.rules.now)) a.tail l.end x.result a.work.now l.work x.new.work l.invariant.2 d.0,
+      grew_on (decode_graph a.graph.now) (watch (decode_rules a.rules.now)) a.tail l.end x.result a.work.now l.work x.new.work l.invariant.0 d.0,
       below_more (λ (i : ℕ). T (member (reach x.new.work a.g i) i)) l.p
-          (λ i h. d.0.reach_kept a.g i i (node_in a.s a.graph.now a.rules.now c.requires.0 a.g c.requires.1.0) (lt_trans h loop-test.true) (l.invariant.3 i h)) d.1,
+          (λ i h. d.0.reach_kept a.g i i (node_in a.s a.graph.now a.rules.now c.requires.0 a.g c.requires.1.0) (lt_trans h loop-test.true) (l.invariant.1 i h)) d.1,
     )
-
-pub returns : goal.returns
-returns c = let l = c.loop-p in (l.invariant.2, λ t i h. l.invariant.3 i (omega (arith, c.loop-p-test.false, h)))

@@ -1,6 +1,3 @@
-use mathlib.Core.Path.{◌∙◌}
-use mathlib.Core.Logic.{inr}
-use native.Mathlib.Omega.{arith}
 use Rattle.runs.proofs.SummaryLaws.{starts, seeded}
 use Rattle.runs.proofs.summaries.summarize.Goals as goal
 
@@ -17,9 +14,3 @@ settle-requires c =
       seeded a.s a.graph.now a.rules.now c.requires.0 a.work.now c.requires.1.1.0 c.requires.1.0 c.requires.1.1.1 x.result x.new.work x.ensures.0
           x.ensures.1,
     )
-
-pub returns : goal.returns
-returns c =
-    let x = c.seed-tail in
-    let y = c.settle in
-    (y.ensures.0, (y.ensures.1.0, λ q h. y.ensures.1.1 q h ∙ x.ensures.0.rest_kept q (inr (omega (arith, h)))))

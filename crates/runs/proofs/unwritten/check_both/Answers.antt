@@ -1,58 +1,96 @@
 -- Each check settles its numbers, in the published order; 9 and 10 are asked where the files before them are accepted.
--- 13 of the two buffers
-use mathlib.Core.Bool.{Bool, ◌||◌}
-use mathlib.Core.Path.{sym}
+use mathlib.Core.Bool.{◌||◌}
 use Rattle.files.specs.Decode.{decode_interface}
-use Rattle.files.specs.Outcome.{whole_check, file_checks, short, no_start}
+use Rattle.files.specs.Outcome.{short, no_start}
 use Rattle.files.specs.Refusal.{property, rules, interface}
-use Rattle.files.specs.Settling.{Settles}
-use Rattle.files.specs.Settling.Laws.{whole_settles, file_settles, next_settles, settled_as}
+use Rattle.files.specs.Settling.Laws.{whole_settles, file_settles, settled_as, passed_then, refused_then, handed_on}
 use Rattle.files.specs.Sides.{shares, unprovided}
+use Rattle.files.specs.View.{accepted_interface}
 use Rattle.runs.specs.Unwritten.{both_store, both_work, both_sides}
-use Rattle.runs.specs.Unwritten.Work.{both_interfaces}
 use Rattle.runs.proofs.unwritten.check_both.Goals as goal
-use Rattle.runs.proofs.unwritten.check_both.Goals.{After-then_whole-started}
 
-abbrev too_short : After-then_whole-started → Bool
-too_short y = let a = y.args in short both_store a.store || short both_work a.work
-
--- what the checks up to the start method come to
-abbrev ToStart : After-then_whole-started → Type 0
-ToStart y =
-    let a = y.args in
-    Settles
-    (λ cs. whole_check 13 (too_short y) (file_checks a.limits 1 interface a.interface1.now (file_checks a.limits 2 property a.property1.now
-    (file_checks a.limits 3 interface a.interface2.now (file_checks a.limits 4 property a.property2.now (file_checks a.limits 5 rules a.rules.now (whole_check 3 (no_start a.start) cs)))))))
-    y.then_whole-started.result
-
-to_start : (y : After-then_whole-started) → ToStart y
-to_start y =
-    let a = y.args in
-    let s0 = settled_as (whole_settles 13 (too_short y)) y.whole_settled-room.ensures in
-    let s1 = next_settles s0 (file_settles a.limits 1 interface a.interface1.now) y.then_file-sided1.ensures in
-    let s2 = next_settles s1 (file_settles a.limits 2 property a.property1.now) y.then_file-bound1.ensures in
-    let s3 = next_settles s2 (file_settles a.limits 3 interface a.interface2.now) y.then_file-sided2.ensures in
-    let s4 = next_settles s3 (file_settles a.limits 4 property a.property2.now) y.then_file-bound2.ensures in
-    let s5 = next_settles s4 (file_settles a.limits 5 rules a.rules.now) y.then_file-ruled.ensures in
-    next_settles s5 (whole_settles 3 (no_start a.start)) y.then_whole-started.ensures
-
-pub then_apart-apart-requires : goal.then_apart-apart-requires
-then_apart-apart-requires c e =
+pub returns-in_err-check : goal.returns-in_err-check
+returns-in_err-check c =
     let a = c.args in
-    both_interfaces a.limits a.interface1.now a.property1.now a.interface2.now a.property2.now (too_short c)
-    (λ cs. file_checks a.limits 5 rules a.rules.now (whole_check 3 (no_start a.start) cs)) (settled_as (to_start c) (sym e))
+    passed_then (whole_settles 13 (short both_store a.store || short both_work a.work)) c.in_ok-refuse_if.ensures
+    (refused_then (file_settles a.limits 1 interface a.interface1.now) c.in_err-check.ensures (handed_on _ c.from_residual-in_err-check.ensures.1))
 
-pub then_united-requires : goal.then_united-requires
-then_united-requires c e =
+pub returns-in_err-check-2 : goal.returns-in_err-check-2
+returns-in_err-check-2 c =
     let a = c.args in
-    let shared = shares (decode_interface a.interface1.now) (decode_interface a.interface2.now) in
-    both_interfaces a.limits a.interface1.now a.property1.now a.interface2.now a.property2.now (too_short (goal.at.then_united-requires c).After-then_whole-started)
-    (λ cs. file_checks a.limits 5 rules a.rules.now (whole_check 3 (no_start a.start) (whole_check 9 shared cs)))
-    (settled_as (next_settles (to_start (goal.at.then_united-requires c).After-then_whole-started) (whole_settles 9 shared) c.then_apart-apart.ensures) (sym e))
+    passed_then (whole_settles 13 (short both_store a.store || short both_work a.work)) c.in_ok-refuse_if.ensures
+    (passed_then (file_settles a.limits 1 interface a.interface1.now) c.in_ok-check.ensures
+    (refused_then (file_settles a.limits 2 property a.property1.now) c.in_err-check-2.ensures (handed_on _ c.from_residual-in_err-check-2.ensures.1)))
+
+pub returns-in_err-check-3 : goal.returns-in_err-check-3
+returns-in_err-check-3 c =
+    let a = c.args in
+    passed_then (whole_settles 13 (short both_store a.store || short both_work a.work)) c.in_ok-refuse_if.ensures
+    (passed_then (file_settles a.limits 1 interface a.interface1.now) c.in_ok-check.ensures
+    (passed_then (file_settles a.limits 2 property a.property1.now) c.in_ok-check-2.ensures
+    (refused_then (file_settles a.limits 3 interface a.interface2.now) c.in_err-check-3.ensures (handed_on _ c.from_residual-in_err-check-3.ensures.1))))
+
+pub returns-in_err-check-4 : goal.returns-in_err-check-4
+returns-in_err-check-4 c =
+    let a = c.args in
+    passed_then (whole_settles 13 (short both_store a.store || short both_work a.work)) c.in_ok-refuse_if.ensures
+    (passed_then (file_settles a.limits 1 interface a.interface1.now) c.in_ok-check.ensures
+    (passed_then (file_settles a.limits 2 property a.property1.now) c.in_ok-check-2.ensures
+    (passed_then (file_settles a.limits 3 interface a.interface2.now) c.in_ok-check-3.ensures
+    (refused_then (file_settles a.limits 4 property a.property2.now) c.in_err-check-4.ensures (handed_on _ c.from_residual-in_err-check-4.ensures.1)))))
+
+pub returns-in_err-check-5 : goal.returns-in_err-check-5
+returns-in_err-check-5 c =
+    let a = c.args in
+    passed_then (whole_settles 13 (short both_store a.store || short both_work a.work)) c.in_ok-refuse_if.ensures
+    (passed_then (file_settles a.limits 1 interface a.interface1.now) c.in_ok-check.ensures
+    (passed_then (file_settles a.limits 2 property a.property1.now) c.in_ok-check-2.ensures
+    (passed_then (file_settles a.limits 3 interface a.interface2.now) c.in_ok-check-3.ensures
+    (passed_then (file_settles a.limits 4 property a.property2.now) c.in_ok-check-4.ensures
+    (refused_then (file_settles a.limits 5 rules a.rules.now) c.in_err-check-5.ensures (handed_on _ c.from_residual-in_err-check-5.ensures.1))))))
+
+pub returns-in_err-refuse_if-2 : goal.returns-in_err-refuse_if-2
+returns-in_err-refuse_if-2 c =
+    let a = c.args in
+    passed_then (whole_settles 13 (short both_store a.store || short both_work a.work)) c.in_ok-refuse_if.ensures
+    (passed_then (file_settles a.limits 1 interface a.interface1.now) c.in_ok-check.ensures
+    (passed_then (file_settles a.limits 2 property a.property1.now) c.in_ok-check-2.ensures
+    (passed_then (file_settles a.limits 3 interface a.interface2.now) c.in_ok-check-3.ensures
+    (passed_then (file_settles a.limits 4 property a.property2.now) c.in_ok-check-4.ensures
+    (passed_then (file_settles a.limits 5 rules a.rules.now) c.in_ok-check-5.ensures
+    (refused_then (whole_settles 3 (no_start a.start)) c.in_err-refuse_if-2.ensures (handed_on _ c.from_residual-in_err-refuse_if-2.ensures.1)))))))
+
+pub returns-in_err-check_apart : goal.returns-in_err-check_apart
+returns-in_err-check_apart c =
+    let a = c.args in
+    passed_then (whole_settles 13 (short both_store a.store || short both_work a.work)) c.in_ok-refuse_if.ensures
+    (passed_then (file_settles a.limits 1 interface a.interface1.now) c.in_ok-check.ensures
+    (passed_then (file_settles a.limits 2 property a.property1.now) c.in_ok-check-2.ensures
+    (passed_then (file_settles a.limits 3 interface a.interface2.now) c.in_ok-check-3.ensures
+    (passed_then (file_settles a.limits 4 property a.property2.now) c.in_ok-check-4.ensures
+    (passed_then (file_settles a.limits 5 rules a.rules.now) c.in_ok-check-5.ensures
+    (passed_then (whole_settles 3 (no_start a.start)) c.in_ok-refuse_if-2.ensures
+    (refused_then (whole_settles 9 (shares (decode_interface a.interface1.now) (decode_interface a.interface2.now))) c.in_err-check_apart.ensures (handed_on _ c.from_residual-in_err-check_apart.ensures.1))))))))
+
+pub check_apart-requires : goal.check_apart-requires
+check_apart-requires c =
+    let a = c.args in
+    (accepted_interface a.limits a.interface1.now 1 c.in_ok-check.ensures, accepted_interface a.limits a.interface2.now 3 c.in_ok-check-3.ensures)
+
+pub check_united-requires : goal.check_united-requires
+check_united-requires c =
+    let a = c.args in
+    (accepted_interface a.limits a.interface1.now 1 c.in_ok-check.ensures, accepted_interface a.limits a.interface2.now 3 c.in_ok-check-3.ensures)
 
 pub returns : goal.returns
 returns c =
     let a = c.args in
-    let shared = shares (decode_interface a.interface1.now) (decode_interface a.interface2.now) in
-    let apart = next_settles (to_start (goal.at.returns c).After-then_whole-started) (whole_settles 9 shared) c.then_apart-apart.ensures in
-    next_settles apart (whole_settles 10 (unprovided (both_sides a.interface1.now a.interface2.now) a.start)) c.then_united.ensures
+    passed_then (whole_settles 13 (short both_store a.store || short both_work a.work)) c.in_ok-refuse_if.ensures
+    (passed_then (file_settles a.limits 1 interface a.interface1.now) c.in_ok-check.ensures
+    (passed_then (file_settles a.limits 2 property a.property1.now) c.in_ok-check-2.ensures
+    (passed_then (file_settles a.limits 3 interface a.interface2.now) c.in_ok-check-3.ensures
+    (passed_then (file_settles a.limits 4 property a.property2.now) c.in_ok-check-4.ensures
+    (passed_then (file_settles a.limits 5 rules a.rules.now) c.in_ok-check-5.ensures
+    (passed_then (whole_settles 3 (no_start a.start)) c.in_ok-refuse_if-2.ensures
+    (passed_then (whole_settles 9 (shares (decode_interface a.interface1.now) (decode_interface a.interface2.now))) c.in_ok-check_apart.ensures
+    (settled_as (whole_settles 10 (unprovided (both_sides a.interface1.now a.interface2.now) a.start)) c.check_united.ensures))))))))

@@ -1,64 +1,77 @@
 -- Each check settles its numbers, in the published order; 9 and 10 are asked where the files before them are accepted; the graph's check hands its view on.
--- what the checks up to the start method come to
-use mathlib.Core.Path.{sym}
 use Rattle.files.specs.Decode.{decode_interface}
-use Rattle.files.specs.Outcome.{whole_check, scan_check, file_checks, short, no_start}
-use Rattle.files.specs.Refusal.{graph, rules, interface}
-use Rattle.files.specs.Settling.{Settles, WherePassed}
-use Rattle.files.specs.Settling.Laws.{whole_settles, found_settles, file_settles, next_settles, settled_as, passed_before}
+use Rattle.files.specs.Outcome.{short, no_start}
+use Rattle.files.specs.Refusal.{interface, rules}
+use Rattle.files.specs.Settling.Laws.{whole_settles, found_settles, file_settles, graph_settles, passed_then, refused_then, hands_on, handed_on}
 use Rattle.files.specs.Sides.{first_foreign, unprovided}
-use Rattle.files.specs.View.{Views}
+use Rattle.files.specs.View.{accepted_interface}
 use Rattle.runs.specs.Regions.{watch_room}
-use Rattle.runs.specs.Watching.Work.{side_files}
 use Rattle.runs.proofs.watching.check_watch.Goals as goal
-use Rattle.runs.proofs.watching.check_watch.Goals.{After-then_whole-started}
 
-abbrev ToStart : After-then_whole-started → Type 0
-ToStart y =
-    let a = y.args in
-    Settles
-    (λ cs. whole_check 13 (short watch_room a.work) (file_checks a.limits 1 interface a.interface.now (file_checks a.limits 2 graph a.graph.now
-    (file_checks a.limits 3 rules a.rules.now (whole_check 3 (no_start a.start) cs)))))
-    y.then_whole-started.result
-
-to_start : (y : After-then_whole-started) → ToStart y
-to_start y =
-    let a = y.args in
-    let s0 = settled_as (whole_settles 13 (short watch_room a.work)) y.whole_settled-room.ensures in
-    let s1 = next_settles s0 (file_settles a.limits 1 interface a.interface.now) y.then_file-sided.ensures in
-    let s2 = next_settles s1 (file_settles a.limits 2 graph a.graph.now) y.then_graph-drawn.ensures.0 in
-    let s3 = next_settles s2 (file_settles a.limits 3 rules a.rules.now) y.then_file-ruled.ensures in
-    next_settles s3 (whole_settles 3 (no_start a.start)) y.then_whole-started.ensures
-
--- where they pass, the view is the graph's
-abbrev Viewing : After-then_whole-started → Type 0
-Viewing y = WherePassed y.then_whole-started.result (Views y.then_graph-drawn.result.view y.args.graph.now)
-
-viewing : (y : After-then_whole-started) → Viewing y
-viewing y e =
-    let ruled = passed_before _ _ y.then_whole-started.ensures e in
-    y.then_graph-drawn.ensures.1 (passed_before _ _ y.then_file-ruled.ensures ruled)
-
-pub then_own-own-requires : goal.then_own-own-requires
-then_own-own-requires c =
+pub returns-in_err-check-clause-settles : goal.returns-in_err-check-clause-settles
+returns-in_err-check-clause-settles c =
     let a = c.args in
-    λ e. side_files a.limits a.interface.now a.graph.now (short watch_room a.work)
-    (λ cs. file_checks a.limits 3 rules a.rules.now (whole_check 3 (no_start a.start) cs)) (settled_as (to_start c) (sym e))
+    passed_then (whole_settles 13 (short watch_room a.work)) c.in_ok-refuse_if.ensures
+    (refused_then (file_settles a.limits 1 interface a.interface.now) c.in_err-check.ensures (handed_on _ c.from_residual-in_err-check.ensures.1))
 
-pub then_provided-settled-requires : goal.then_provided-settled-requires
-then_provided-settled-requires c =
+pub returns-in_err-view-clause-settles : goal.returns-in_err-view-clause-settles
+returns-in_err-view-clause-settles c =
     let a = c.args in
-    let own = found_settles 9 2 (first_foreign (decode_interface a.interface.now) a.graph.now) in
-    λ e. (side_files a.limits a.interface.now a.graph.now (short watch_room a.work)
-    (λ cs. file_checks a.limits 3 rules a.rules.now
-    (whole_check 3 (no_start a.start) (scan_check 9 2 (first_foreign (decode_interface a.interface.now) a.graph.now) cs)))
-    (settled_as (next_settles (to_start (goal.at.then_provided-settled-requires c).After-then_whole-started) own c.then_own-own.ensures) (sym e))).1
+    passed_then (whole_settles 13 (short watch_room a.work)) c.in_ok-refuse_if.ensures
+    (passed_then (file_settles a.limits 1 interface a.interface.now) c.in_ok-check.ensures
+    (refused_then (graph_settles a.limits 2 a.graph.now) c.in_err-view.ensures.counted (handed_on _ c.from_residual-in_err-view.ensures.1)))
 
-pub returns : goal.returns
-returns c =
+pub returns-in_err-check-2-clause-settles : goal.returns-in_err-check-2-clause-settles
+returns-in_err-check-2-clause-settles c =
     let a = c.args in
-    let own = found_settles 9 2 (first_foreign (decode_interface a.interface.now) a.graph.now) in
-    let s = next_settles (to_start (goal.at.returns c).After-then_whole-started) own c.then_own-own.ensures in (
-      next_settles s (whole_settles 10 (unprovided (decode_interface a.interface.now) a.start)) c.then_provided-settled.ensures,
-      λ e. viewing (goal.at.returns c).After-then_whole-started (passed_before _ _ c.then_own-own.ensures (passed_before _ _ c.then_provided-settled.ensures e)),
-    )
+    passed_then (whole_settles 13 (short watch_room a.work)) c.in_ok-refuse_if.ensures
+    (passed_then (file_settles a.limits 1 interface a.interface.now) c.in_ok-check.ensures
+    (passed_then (graph_settles a.limits 2 a.graph.now) c.in_ok-view.ensures.counted
+    (refused_then (file_settles a.limits 3 rules a.rules.now) c.in_err-check-2.ensures (handed_on _ c.from_residual-in_err-check-2.ensures.1))))
+
+pub returns-in_err-refuse_if-2-clause-settles : goal.returns-in_err-refuse_if-2-clause-settles
+returns-in_err-refuse_if-2-clause-settles c =
+    let a = c.args in
+    passed_then (whole_settles 13 (short watch_room a.work)) c.in_ok-refuse_if.ensures
+    (passed_then (file_settles a.limits 1 interface a.interface.now) c.in_ok-check.ensures
+    (passed_then (graph_settles a.limits 2 a.graph.now) c.in_ok-view.ensures.counted
+    (passed_then (file_settles a.limits 3 rules a.rules.now) c.in_ok-check-2.ensures
+    (refused_then (whole_settles 3 (no_start a.start)) c.in_err-refuse_if-2.ensures (handed_on _ c.from_residual-in_err-refuse_if-2.ensures.1)))))
+
+pub returns-in_err-check_own-clause-settles : goal.returns-in_err-check_own-clause-settles
+returns-in_err-check_own-clause-settles c =
+    let a = c.args in
+    passed_then (whole_settles 13 (short watch_room a.work)) c.in_ok-refuse_if.ensures
+    (passed_then (file_settles a.limits 1 interface a.interface.now) c.in_ok-check.ensures
+    (passed_then (graph_settles a.limits 2 a.graph.now) c.in_ok-view.ensures.counted
+    (passed_then (file_settles a.limits 3 rules a.rules.now) c.in_ok-check-2.ensures
+    (passed_then (whole_settles 3 (no_start a.start)) c.in_ok-refuse_if-2.ensures
+    (refused_then (found_settles 9 2 (first_foreign (decode_interface a.interface.now) a.graph.now)) c.in_err-check_own.ensures (handed_on _ c.from_residual-in_err-check_own.ensures.1))))))
+
+pub returns-in_err-check_provided-clause-settles : goal.returns-in_err-check_provided-clause-settles
+returns-in_err-check_provided-clause-settles c =
+    let a = c.args in
+    passed_then (whole_settles 13 (short watch_room a.work)) c.in_ok-refuse_if.ensures
+    (passed_then (file_settles a.limits 1 interface a.interface.now) c.in_ok-check.ensures
+    (passed_then (graph_settles a.limits 2 a.graph.now) c.in_ok-view.ensures.counted
+    (passed_then (file_settles a.limits 3 rules a.rules.now) c.in_ok-check-2.ensures
+    (passed_then (whole_settles 3 (no_start a.start)) c.in_ok-refuse_if-2.ensures
+    (passed_then (found_settles 9 2 (first_foreign (decode_interface a.interface.now) a.graph.now)) c.in_ok-check_own.ensures
+    (refused_then (whole_settles 10 (unprovided (decode_interface a.interface.now) a.start)) c.in_err-check_provided.ensures (handed_on _ c.from_residual-in_err-check_provided.ensures.1)))))))
+
+pub check_own-requires : goal.check_own-requires
+check_own-requires c = (c.in_ok-view.ensures.views.graph_file, accepted_interface c.args.limits c.args.interface.now 1 c.in_ok-check.ensures)
+
+pub check_provided-requires : goal.check_provided-requires
+check_provided-requires c = accepted_interface c.args.limits c.args.interface.now 1 c.in_ok-check.ensures
+
+pub returns-clause-settles : goal.returns-clause-settles
+returns-clause-settles c =
+    let a = c.args in
+    passed_then (whole_settles 13 (short watch_room a.work)) c.in_ok-refuse_if.ensures
+    (passed_then (file_settles a.limits 1 interface a.interface.now) c.in_ok-check.ensures
+    (passed_then (graph_settles a.limits 2 a.graph.now) c.in_ok-view.ensures.counted
+    (passed_then (file_settles a.limits 3 rules a.rules.now) c.in_ok-check-2.ensures
+    (passed_then (whole_settles 3 (no_start a.start)) c.in_ok-refuse_if-2.ensures
+    (passed_then (found_settles 9 2 (first_foreign (decode_interface a.interface.now) a.graph.now)) c.in_ok-check_own.ensures
+    (hands_on (whole_settles 10 (unprovided (decode_interface a.interface.now) a.start)) c.in_ok-check_provided.ensures))))))

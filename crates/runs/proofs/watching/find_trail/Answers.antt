@@ -9,16 +9,6 @@ use Rattle.files.specs.Cells.Laws.{zero_byte}
 use Rattle.runs.specs.Worklist.Loops.{table_yields}
 use Rattle.runs.proofs.watching.find_trail.Goals as goal
 
-pub prepare-requires : goal.prepare-requires
-prepare-requires c = let x = c.clear in (c.requires.0, (x.ensures ∙ ap (λ (n : ℕ). replicate n 0) (sym x.auto.work), omega (arith, x.auto.work, c.requires.1)))
-
-pub summarize-table-requires : goal.summarize-table-requires
-summarize-table-requires c =
-    let x = c.clear in
-    let zeros = x.ensures ∙ ap (λ (n : ℕ). replicate n 0) (sym x.auto.work) in
-    let p = c.prepare in
-    (c.requires.0, (p.ensures.0, (omega (arith, p.auto.work, x.auto.work, c.requires.1), λ q h. p.ensures.1 q (inr h) ∙ zero_byte x.new.work zeros q)))
-
 pub search-requires : goal.search-requires
 search-requires c =
     let a = c.args in

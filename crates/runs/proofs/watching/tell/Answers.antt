@@ -11,11 +11,6 @@ returns-then-i-eq0 c =
     clean_told (decode_graph a.graph.now) (watch (decode_rules a.rules.now)) a.start a.out.now
     (says_zero (decode_graph a.graph.now) (watch (decode_rules a.rules.now)) a.start a.i a.work.now c.requires.0 c.if-i-eq0.true)
 
-pub count_records-n-requires : goal.count_records-n-requires
-count_records-n-requires c =
-    let a = c.args in
-    ((says_item (decode_graph a.graph.now) (watch (decode_rules a.rules.now)) a.start a.i a.work.now c.requires.0 c.if-i-eq0.false).1, c.requires.1)
-
 pub overflow_mul-n : goal.overflow_mul-n
 overflow_mul-n c =
     let a = c.args in
@@ -28,12 +23,6 @@ returns-then-out-n c =
     let b = says_item (decode_graph a.graph.now) (watch (decode_rules a.rules.now)) a.start a.i a.work.now c.requires.0 c.if-i-eq0.false in
     bad_short (decode_graph a.graph.now) (watch (decode_rules a.rules.now)) a.start a.out.now b.0 c.count_records-n.result
     c.count_records-n.ensures c.if-out-n.true c.whole.result c.whole.ensures
-
-pub write_trail-requires : goal.write_trail-requires
-write_trail-requires c =
-    let a = c.args in
-    let b = says_item (decode_graph a.graph.now) (watch (decode_rules a.rules.now)) a.start a.i a.work.now c.requires.0 c.if-i-eq0.false in
-    (b.1, (c.requires.1, (c.count_records-n.ensures, omega (arith, c.if-out-n.false))))
 
 pub returns : goal.returns
 returns c =

@@ -1,7 +1,0 @@
-use Rattle.exports.proofs.assembled_answer.Goals as goal
-
-pub returns-in-Written : goal.returns-in-Written
-returns-in-Written c = rw c.in-Written.is
-
-pub returns-in-Refused : goal.returns-in-Refused
-returns-in-Refused c = rw c.in-Refused.is c.refused.ensures

@@ -1,0 +1,6 @@
+use native.Mathlib.Omega.{arith}
+use Rattle.files.specs.Cells.Laws.{little_two}
+use Rattle.files.proofs.cells.U16Cell.load.Goals as goal
+
+pub returns : goal.returns
+returns c = omega (arith, little_two c.args.work.now c.args.at, c.from_le_bytes.ensures)

@@ -1,8 +1,0 @@
--- One case of the definition for each case of what came before.
-use Rattle.files.proofs.settle.then_whole.Goals as goal
-
-pub returns-in-Refused : goal.returns-in-Refused
-returns-in-Refused c = rw c.in-Refused.is
-
-pub returns-in-Passed : goal.returns-in-Passed
-returns-in-Passed c = rw c.in-Passed.is c.whole_settled.ensures
