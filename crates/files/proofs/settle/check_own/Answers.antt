@@ -12,8 +12,11 @@ pub returns-in-Some : goal.returns-in-Some
 returns-in-Some c =
     let g = c.args.graph.now in
     let n = count g in
-    rw (c.at.ensures, record_found (decode_interface c.args.interface.now) g c.in-Some.foreign (sym (ap (λ o. unwrap_or o n) c.in-Some.is) ∙ c.first_foreign.ensures.0)
-        (subst (λ o. IfSome o (λ v. v < n)) c.in-Some.is c.first_foreign.ensures.1))
+    rw (
+      c.at.ensures,
+      record_found (decode_interface c.args.interface.now) g c.in-Some.foreign (sym (ap (λ o. unwrap_or o n) c.in-Some.is) ∙ c.first_foreign.ensures.0)
+          (subst (λ o. IfSome o (λ v. v < n)) c.in-Some.is c.first_foreign.ensures.1),
+    )
 
 pub returns-in-None : goal.returns-in-None
 returns-in-None c =
