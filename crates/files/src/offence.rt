@@ -12,7 +12,7 @@ use crate::parse::{kind_at, parse_as, read};
 use crate::record::{Parsed, Record};
 use crate::refusal::Refusal;
 
-// What a file is read as.
+// What a file is read as. Where it is a parameter the function matches it once, or hands it to one that does.
 #[derive(Clone, Copy)]
 pub enum FileKind {
     Graph,

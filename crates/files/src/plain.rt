@@ -23,7 +23,7 @@ pub(crate) fn leading_nodes(records: &[u8]) -> usize
     n
 }
 
-// An edge's key as one number, which ascends with it. (By `from_be_bytes` checking a graph takes up to 70 % longer.)
+// An edge's key as one number, which ascends with it. (By `from_be_bytes` checking a graph takes up to a fifth longer.)
 fn edge_number(r: Record) -> u32
     ensures { result ≡ edge_number r }
 {

@@ -78,8 +78,8 @@ impl PropertyRow {
     }
 }
 
-// The same of bytes, which may be any: whether an operator is a box's, and the row that a row with these bytes obliges to. For callers that hold bytes, as docs/DECISIONS.md
-// names them; here a row is a `PropertyRow`.
+// The same of bytes, which may be any: whether an operator is a box's, and the row that a row with these bytes obliges to. Public functions that docs/DECISIONS.md names took any
+// operator, and any three bytes, before a `PropertyRow` was an enum, which has fewer values: they stay beside its methods.
 pub fn is_box(operator: u8) -> bool
     ensures { result ≡ is_box operator }
 {

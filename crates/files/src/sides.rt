@@ -1,8 +1,9 @@
 // Refusals 9, 10 and 16 of accepted graphs and interfaces: the first record of a graph that is not of its interface, a method that two sides provide, one that nobody
 // provides, and one that has no entry.
-ghost use Rattle.std.specs.Prelude.{◌≡◌, ◌+◌, ◌*◌, ◌≤◌, length};
+ghost use Rattle.std.specs.Option.{unwrap_or};
+ghost use Rattle.std.specs.Prelude.{◌≡◌, ◌+◌, ◌*◌, ◌≤◌, ◌<◌, IfSome, length};
 ghost use Rattle.files.specs.Places.{record_len};
-ghost use Rattle.files.specs.Record.{parsed_at};
+ghost use Rattle.files.specs.Record.{count, parsed_at};
 ghost use Rattle.files.specs.Decode.{decode_graph, decode_interface};
 ghost use Rattle.files.specs.Sides.{foreign_of, first_foreign_record, shares, lacks, unprovided, has_entry, lacks_entry};
 ghost use Rattle.files.specs.Refusal.{nodes_of};
@@ -25,20 +26,19 @@ fn foreign(graph: &[u8], i: usize, provided: u8, required: u8) -> bool
     }
 }
 
-// The first record of the graph that is not of the interface, or the count of records.
-pub(crate) fn first_foreign(graph: &[u8], interface: &[u8]) -> usize
+// The first record of the graph that is not of the interface, if there is one.
+pub(crate) fn first_foreign(graph: &[u8], interface: &[u8]) -> Option<usize>
     requires { (GraphFile graph.now) × (InterfaceFile interface.now) }
-    ensures { result ≡ first_foreign_record (decode_interface interface.now) graph.now }
+    ensures { (unwrap_or result (count graph.now) ≡ first_foreign_record (decode_interface interface.now) graph.now) × (IfSome result (λ i. i < count graph.now)) }
 {
     let provided = provided_methods(interface);
     let required = required_methods(interface);
-    let n = graph.len() / Record::LEN;
-    for i in 0..n {
+    for i in 0..graph.len() / Record::LEN {
         if foreign(graph, i, provided, required) {
-            return i;
+            return Some(i);
         }
     }
-    n
+    None
 }
 
 // Two sides provide one method.

@@ -4,7 +4,7 @@ use mathlib.Core.Logic.{inl}
 use mathlib.Core.Bool.{Bool, true, false, not, cond, ◌&&◌, ◌||◌}
 use mathlib.Core.List.{List, [], ◌∷◌}
 use mathlib.Core.Option.{Option, none, some}
-use Rattle.std.specs.Prelude.{Option as OptionOf, None, Some, MatchOption}
+use Rattle.std.specs.Prelude.{Option as OptionOf, None, Some, IfSome, MatchOption}
 use Rattle.std.specs.Option.{unwrap_or}
 use Prim.Native.Nat.{ℕ, suc, ◌+◌, ◌*◌, ◌≤◌, ◌<◌}
 use native.Mathlib.Nat.{mul-le-mul}
@@ -62,9 +62,9 @@ module _ (s : Shape) (g p : List ℕ) (ready : Ready s g p) where
 
   -- ---- the lowest failing entry, from what a search of the nodes gives
 
-  pub lowest_failing : (r : OptionOf ℕ) → MatchOption r ((v : ℕ) → 0 ≤ v → v < s.graph.nodes → T (not (fails_at G P v))) (λ v. (0 ≤ v) × (v < s.graph.nodes) × T (fails_at G P v) × ((u : ℕ) → 0 ≤ u → u < v → T (not (fails_at G P u)))) → unwrap_or r s.graph.nodes ≡ failing G P
-  lowest_failing None h = sym (size_is s g p ready) ∙ sym (failing_none G P (λ v l. h v (omega arith) (omega (arith, l, size_is s g p ready))))
-  lowest_failing (Some v) h = sym (failing_at G P v (as_node v h.1) (λ u l. h.3 u (omega arith) l) h.2)
+  pub lowest_failing : (r : OptionOf ℕ) → MatchOption r ((v : ℕ) → 0 ≤ v → v < s.graph.nodes → T (not (fails_at G P v))) (λ v. (0 ≤ v) × (v < s.graph.nodes) × T (fails_at G P v) × ((u : ℕ) → 0 ≤ u → u < v → T (not (fails_at G P u)))) → (unwrap_or r s.graph.nodes ≡ failing G P) × IfSome r (λ v. v < s.graph.nodes)
+  lowest_failing None h = (sym (size_is s g p ready) ∙ sym (failing_none G P (λ v l. h v (omega arith) (omega (arith, l, size_is s g p ready)))), tt)
+  lowest_failing (Some v) h = (sym (failing_at G P v (as_node v h.1) (λ u l. h.3 u (omega arith) l) h.2), h.1)
 
   module _ (w : List ℕ) (found : Ranked G P w) where
     module _ (v r x : ℕ) (hv : v < s.graph.nodes) (hr : r < s.rows) (is : x ≡ rank_at w v r) where

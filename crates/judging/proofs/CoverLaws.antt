@@ -12,7 +12,7 @@ use Rattle.files.specs.Cells.{has_bit, put_at}
 use Rattle.files.specs.Decode.{decode_graph}
 use Rattle.files.specs.Graph.{Graph, node}
 use Rattle.files.specs.Line.{relation_line}
-use Rattle.std.specs.Prelude.{Option, None, Some, MatchOption}
+use Rattle.std.specs.Prelude.{Option, None, Some, IfSome, MatchOption}
 use Rattle.std.specs.Option.{unwrap_or}
 use Rattle.files.specs.Places.{max_nodes}
 use Rattle.judging.specs.declared.sizes.Sizes.{Sizes}
@@ -31,9 +31,9 @@ module _ (s : Sizes) (f g : List ℕ) (both : Both s f g) where
 
   -- ---- the lowest uncovered entry
 
-  pub lowest_uncovered : (r : Option ℕ) → MatchOption r ((v : ℕ) → 0 ≤ v → v < s.first.nodes → T (not (misses G H v))) (λ v. (0 ≤ v) × (v < s.first.nodes) × T (misses G H v) × ((u : ℕ) → 0 ≤ u → u < v → T (not (misses G H u)))) → unwrap_or r s.first.nodes ≡ uncovered G H
-  lowest_uncovered None h = sym (first_size s f g both) ∙ sym (uncovered_none G H (λ v l. h v (omega arith) (omega (arith, l, first_size s f g both))))
-  lowest_uncovered (Some v) h = sym (uncovered_at G H v (omega (arith, h.1, first_size s f g both)) (λ u l. h.3 u (omega arith) l) h.2)
+  pub lowest_uncovered : (r : Option ℕ) → MatchOption r ((v : ℕ) → 0 ≤ v → v < s.first.nodes → T (not (misses G H v))) (λ v. (0 ≤ v) × (v < s.first.nodes) × T (misses G H v) × ((u : ℕ) → 0 ≤ u → u < v → T (not (misses G H u)))) → (unwrap_or r s.first.nodes ≡ uncovered G H) × IfSome r (λ v. v < s.first.nodes)
+  lowest_uncovered None h = (sym (first_size s f g both) ∙ sym (uncovered_none G H (λ v l. h v (omega arith) (omega (arith, l, first_size s f g both)))), tt)
+  lowest_uncovered (Some v) h = (sym (uncovered_at G H v (omega (arith, h.1, first_size s f g both)) (λ u l. h.3 u (omega arith) l) h.2), h.1)
 
   module _ (w : List ℕ) (found : Settled G H w) where
     -- ---- whether an entry is related to a node, by a row of the entries

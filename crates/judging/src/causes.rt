@@ -1,6 +1,7 @@
 // Why a pair of a node and a row is false, read off the ranks: its rank, the lowest failing entry, and its causes.
 ghost use Rattle.files.specs.Access.{looked_at, aims_along, operator_of};
-ghost use Rattle.std.specs.Prelude.{◌≡◌, ◌+◌, ◌*◌, ◌≤◌, ◌<◌, T, length, get_or};
+ghost use Rattle.std.specs.Option.{unwrap_or};
+ghost use Rattle.std.specs.Prelude.{◌≡◌, ◌+◌, ◌*◌, ◌≤◌, ◌<◌, T, IfSome, length, get_or};
 ghost use Rattle.files.specs.Basics.First.{first_or};
 ghost use Rattle.files.specs.Property.{is_box};
 ghost use Rattle.files.specs.Decode.{decode_graph, decode_property};
@@ -55,14 +56,12 @@ fn fails_at(graph: &[u8], property: &[u8], s: Shape, work: &[u8], g: usize) -> b
     v.entry & !(x == 0)
 }
 
-// The lowest failing entry, or the number of nodes.
-pub(crate) fn first_failing(graph: &[u8], property: &[u8], s: Shape, work: &[u8]) -> usize
+// The lowest failing entry, if there is one.
+pub(crate) fn first_failing(graph: &[u8], property: &[u8], s: Shape, work: &[u8]) -> Option<usize>
     requires { (Ready s graph.now property.now) × ((judge_room ≤ length work.now) × (Ranked (decode_graph graph.now) (decode_property property.now) work.now)) }
-    ensures { result ≡ failing (decode_graph graph.now) (decode_property property.now) }
+    ensures { (unwrap_or result s.graph.nodes ≡ failing (decode_graph graph.now) (decode_property property.now)) × (IfSome result (λ g. g < s.graph.nodes)) }
 {
-    (0..s.graph.nodes)
-        .find(|g| fails_at(graph, property, s, work, *g))
-        .unwrap_or(s.graph.nodes)
+    (0..s.graph.nodes).find(|g| fails_at(graph, property, s, work, *g))
 }
 
 // Puts the first edge of each node, and the number of edges, into the buffer.

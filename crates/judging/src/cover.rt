@@ -1,5 +1,6 @@
 // The largest simulation once it is found: which entries it covers, the lowest that it does not, and its bytes.
-ghost use Rattle.std.specs.Prelude.{◌≡◌, ◌&&◌, not, ◌++◌, ◌*◌, ◌≤◌, ◌<◌, length, drop};
+ghost use Rattle.std.specs.Option.{unwrap_or};
+ghost use Rattle.std.specs.Prelude.{◌≡◌, ◌&&◌, not, ◌++◌, ◌*◌, ◌≤◌, ◌<◌, IfSome, length, drop};
 ghost use Rattle.files.specs.Graph.{node};
 ghost use Rattle.files.specs.Decode.{decode_graph};
 ghost use Rattle.files.specs.Places.{line_bytes};
@@ -61,15 +62,13 @@ fn is_uncovered(
     v.entry & !covered
 }
 
-// The lowest uncovered entry, or the number of nodes.
-pub(crate) fn first_uncovered(first: &[u8], second: &[u8], s: Sizes, work: &[u8]) -> usize
+// The lowest uncovered entry, if there is one.
+pub(crate) fn first_uncovered(first: &[u8], second: &[u8], s: Sizes, work: &[u8]) -> Option<usize>
     requires { ((Both s first.now second.now)) × ((compare_room ≤ length work.now) × (Settled (decode_graph first.now) (decode_graph second.now) work.now)) }
-    ensures { result ≡ uncovered (decode_graph first.now) (decode_graph second.now) }
+    ensures { (unwrap_or result s.first.nodes ≡ uncovered (decode_graph first.now) (decode_graph second.now)) × (IfSome result (λ g. g < s.first.nodes)) }
 {
     let row = entries(first, second, s);
-    (0..s.first.nodes)
-        .find(|g| is_uncovered(first, second, s, work, &row, *g))
-        .unwrap_or(s.first.nodes)
+    (0..s.first.nodes).find(|g| is_uncovered(first, second, s, work, &row, *g))
 }
 
 // Writes the relation, 32 bytes for each node of the first graph.

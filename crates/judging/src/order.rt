@@ -1,6 +1,7 @@
 // The first graph's nodes in the order in which a walk in depth leaves them: a node comes after its successors wherever there is no cycle, so that what rows lose is handed on
 // in few and large parts. What is proved of it is that it touches its own part of the buffer only: the search is right in every order, and ends in every order.
-ghost use Rattle.std.specs.Prelude.{◌≤◌, ◌<◌, length};
+ghost use Rattle.std.specs.ControlFlow.{MatchControlFlow};
+ghost use Rattle.std.specs.Prelude.{◌≤◌, ◌<◌, length, ⊤};
 ghost use Rattle.judging.specs.Chains.{Outside};
 ghost use Rattle.judging.specs.Places.{compare_room, cursors_base, neighbours_base};
 ghost use Rattle.judging.specs.Refinement.{Both};
@@ -9,42 +10,52 @@ use crate::matches::source_of;
 use crate::sizes::Sizes;
 use files::cells::{get, has_bit, put, put_bit};
 use files::graph::edge_at;
+use std::ops::ControlFlow;
 
-// The node at which the walk stands, how many nodes it has left, and whether it has left the root.
+// The node at which the walk stands, and how many nodes it has left.
 #[derive(Clone, Copy)]
 struct Place {
     node: usize,
     left: usize,
-    ended: bool,
 }
 
-// Leaves the node, for the one from which it was met; a root was met from itself.
-fn leave(first: &[u8], second: &[u8], s: Sizes, work: &mut [u8], w: Place) -> Place
+// Leaves the node, for the one from which it was met. A root was met from itself: the walk breaks off with the number of nodes left.
+fn leave(
+    first: &[u8],
+    second: &[u8],
+    s: Sizes,
+    work: &mut [u8],
+    w: Place,
+) -> ControlFlow<usize, Place>
     requires { (Both s first.now second.now) × ((w.node < s.first.nodes) × (compare_room ≤ length work.old)) }
-    ensures { (result.node < s.first.nodes) × (Outside cursors_base neighbours_base work.old work.new) }
+    ensures { MatchControlFlow result (λ w. w.node < s.first.nodes) (λ left. ⊤) × (Outside cursors_base neighbours_base work.old work.new) }
 {
     let at = w.node;
     let left = w.left;
     let up = get::<u8>(work, Sizes::PARENTS, at) as usize;
     if (s.first.nodes <= left) | (s.first.nodes <= up) {
-        return Place {
-            node: at,
-            left: left,
-            ended: true,
-        };
+        return ControlFlow::Break(left);
     }
     put(work, Sizes::ORDER, left, at as u8);
-    Place {
+    if up == at {
+        return ControlFlow::Break(left + 1);
+    }
+    ControlFlow::Continue(Place {
         node: up,
         left: left + 1,
-        ended: up == at,
-    }
+    })
 }
 
 // Goes along the next edge of the node, or leaves it.
-fn step(first: &[u8], second: &[u8], s: Sizes, work: &mut [u8], w: Place) -> Place
+fn step(
+    first: &[u8],
+    second: &[u8],
+    s: Sizes,
+    work: &mut [u8],
+    w: Place,
+) -> ControlFlow<usize, Place>
     requires { (Both s first.now second.now) × ((w.node < s.first.nodes) × (compare_room ≤ length work.old)) }
-    ensures { (result.node < s.first.nodes) × (Outside cursors_base neighbours_base work.old work.new) }
+    ensures { MatchControlFlow result (λ w. w.node < s.first.nodes) (λ left. ⊤) × (Outside cursors_base neighbours_base work.old work.new) }
 {
     let at = w.node;
     let e = get::<u16>(work, Sizes::CURSORS, at) as usize;
@@ -57,15 +68,14 @@ fn step(first: &[u8], second: &[u8], s: Sizes, work: &mut [u8], w: Place) -> Pla
     }
     put(work, Sizes::CURSORS, at, (e + 1) as u16);
     if has_bit(work, Sizes::SEEN, x.to) {
-        return w;
+        return ControlFlow::Continue(w);
     }
     put_bit(work, Sizes::SEEN, x.to);
     put(work, Sizes::PARENTS, x.to, at as u8);
-    Place {
+    ControlFlow::Continue(Place {
         node: x.to,
         left: w.left,
-        ended: false,
-    }
+    })
 }
 
 // Walks until the root is left: each step takes an edge or leaves a node, so there are no more steps than edges and nodes.
@@ -80,16 +90,12 @@ fn walk_from(
     requires { (Both s first.now second.now) × ((root < s.first.nodes) × (compare_room ≤ length work.old)) }
     ensures { Outside cursors_base neighbours_base work.old work.new }
 {
-    let mut w = Place {
-        node: root,
-        left: left,
-        ended: false,
-    };
+    let mut w = Place { node: root, left };
     for _ in 0..s.first.edges + s.first.nodes {
-        if w.ended {
-            return w.left;
+        match step(first, second, s, work, w) {
+            ControlFlow::Continue(next) => w = next,
+            ControlFlow::Break(left) => return left,
         }
-        w = step(first, second, s, work, w);
     }
     w.left
 }

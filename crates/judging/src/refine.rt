@@ -1,6 +1,6 @@
 // The largest simulation: every node holds the whole second graph at first, and what lacks a label is dropped; then, until no row has lost anything since it was last taken,
 // what it has lost is handed on. The order in which rows are taken changes no result. `refine` states that at the end the relation is the largest simulation.
-ghost use Rattle.std.specs.Prelude.{◌≡◌, not, ℕ, ◌≤◌, ◌<◌, T, ltb, length};
+ghost use Rattle.std.specs.Prelude.{◌≡◌, not, ℕ, ◌≤◌, ◌<◌, T, MatchOption, ltb, length};
 ghost use Rattle.files.specs.Decode.{decode_graph};
 ghost use Rattle.files.specs.Cells.{has_bit};
 ghost use Rattle.files.specs.Places.{max_nodes, line_bytes};
@@ -116,17 +116,17 @@ fn sweep(first: &[u8], second: &[u8], s: Sizes, work: &mut [u8])
     }
 }
 
-// The lowest node that has lost anything, or the number of nodes.
-fn lowest_unsettled(first: &[u8], second: &[u8], s: Sizes, work: &[u8]) -> usize
+// The lowest node that has lost anything, if there is one.
+fn lowest_unsettled(first: &[u8], second: &[u8], s: Sizes, work: &[u8]) -> Option<usize>
     requires { (Both s first.now second.now) × (compare_room ≤ length work.now) }
-    ensures { (result < s.first.nodes → (h : ℕ) × (h < max_nodes) × T (held work.now result h) × (T (rel work.now result h) → ⊥)) × (s.first.nodes ≤ result → (v h : ℕ) → v < s.first.nodes → h < max_nodes → T (held work.now v h) → T (rel work.now v h)) }
+    ensures { MatchOption result ((v h : ℕ) → v < s.first.nodes → h < max_nodes → T (held work.now v h) → T (rel work.now v h)) (λ v. (v < s.first.nodes) × ((h : ℕ) × (h < max_nodes) × T (held work.now v h) × (T (rel work.now v h) → ⊥))) }
 {
     for v in 0..s.first.nodes {
         if has_lost(first, second, s, work, v) {
-            return v;
+            return Some(v);
         }
     }
-    s.first.nodes
+    None
 }
 
 // Takes rows until none has lost anything: sweep by sweep, and after each the lowest that is left.
@@ -135,12 +135,10 @@ fn settle(first: &[u8], second: &[u8], s: Sizes, work: &mut [u8])
     ensures { Settled (decode_graph first.now) (decode_graph second.now) work.new }
 {
     sweep(first, second, s, work);
-    let mut v = lowest_unsettled(first, second, s, work);
     // Until nothing is lost: how often is known only by the measure.
-    while v < s.first.nodes {
+    while let Some(v) = lowest_unsettled(first, second, s, work) {
         take(first, second, s, work, v);
         sweep(first, second, s, work);
-        v = lowest_unsettled(first, second, s, work);
     }
 }
 

@@ -1,5 +1,6 @@
 // What the programs print on standard output: words with numbers in them, and bytes as decimals, a record or a relation's line to a line; and what they are given, arguments and
-// files. What is printed is tested, not proved; it is proved that nothing is read past its end and that every call returns.
+// files. What is printed is tested, not proved; it is proved that nothing is read past its end and that every call returns. A line of several parts is printed by a function
+// `say_..`, and what stands inside a line is a `Display`: a `Display` of each line would only wrap its function.
 #![tactic(auto)]
 
 ghost use Rattle.std.specs.Prelude.{◌≡◌, ◌/◌, length, take};

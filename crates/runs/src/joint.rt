@@ -24,7 +24,7 @@ use files::sides::lacks_entry;
 use files::view::GraphView;
 use judging::sizes::Sizes;
 
-// What became of a join, three ways, so no Option or Result: it stands at the start of `work`; it would be past the limits; or it is not asked for, since nothing can be loaded where one of the graphs stands.
+// What became of a join, three ways: it stands at the start of `work`; it would be past the limits; or it is not asked for, since nothing can be loaded where one of the graphs stands.
 #[derive(Clone, Copy)]
 pub enum Joint {
     Written,

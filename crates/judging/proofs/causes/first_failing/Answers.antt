@@ -1,6 +1,6 @@
 use borrow.Author.Tests.{tests}
 use Rattle.std.specs.Prelude.{not, T}
-use Rattle.std.proofs.Common.{◌∙◌, rules}
+use Rattle.std.proofs.Common.{rules}
 use Rattle.std.proofs.lemmas.Iterator.{first_from_Range}
 use Rattle.files.specs.Decode.{decode_graph, decode_property}
 use Rattle.judging.specs.Sheets.{fails_at}
@@ -12,4 +12,4 @@ returns c =
     let a = c.args in
     let fails = fails_at (decode_graph a.graph.now) (decode_property a.property.now) in
     let found = first_from_Range _ _ _ _ (λ g. T (fails g)) (λ g. T (not (fails g))) c.find.ensures.ran (λ g q k. search (rules, tests)) (λ g q k. search (rules, tests)) in
-    c.unwrap_or.ensures ∙ lowest_failing a.s a.graph.now a.property.now c.requires.0 c.find.result found
+    lowest_failing a.s a.graph.now a.property.now c.requires.0 c.find.result found
