@@ -1,4 +1,0 @@
-use Rattle.exports.proofs.tintboulder_check_interface.Goals as goal
-
-pub returns : goal.returns
-returns c = rw (c.checked_answer.ensures, c.check.ensures, c.desk.ensures)

@@ -1,8 +1,0 @@
-use mathlib.Core.Path.{ap, ◌∙◌}
-use Rattle.exports.specs.Boundary.{answer_numbers}
-use Rattle.exports.proofs.tintboulder_join.Goals as goal
-
-pub returns : goal.returns
-returns c =
-    let j = c.join in
-    record { numbers_are = c.joined_answer.ensures ∙ ap answer_numbers j.ensures.answer_is; out_is = j.ensures.out_is }
