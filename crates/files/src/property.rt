@@ -96,8 +96,14 @@ pub fn obliged(operator: u8, a: u8, b: u8, label: u8) -> Looks
 {
     match operator {
         Operator::BOX_ALL => Looks { along: true, at: a },
-        Operator::BOX => Looks { along: a == label, at: b },
-        _ => Looks { along: false, at: b },
+        Operator::BOX => Looks {
+            along: a == label,
+            at: b,
+        },
+        _ => Looks {
+            along: false,
+            at: b,
+        },
     }
 }
 

@@ -212,8 +212,7 @@ fn row_on(
         }
         PropertyRow::And(..) => give(work, tail, v, q, k),
         PropertyRow::Or(a, b)
-            if is_false(work, v, a as usize, k) & is_false(work, v, b as usize, k) =>
-        {
+            if is_false(work, v, a as usize, k) & is_false(work, v, b as usize, k) => {
             give(work, tail, v, q, k)
         }
         _ => tail,

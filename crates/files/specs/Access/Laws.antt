@@ -59,8 +59,7 @@ pub reads_row : (l : List ℕ) → AcceptedAs property l → (i : ℕ) → i < c
     → (row_by r.first r.second r.third ≡ row_held (row (decode_property l) i)) × ((r.first ≡ operator_of (row_held (row (decode_property l) i)))
     × ((r.second ≡ first_of (row_held (row (decode_property l) i))) × (r.third ≡ second_of (row_held (row (decode_property l) i)))))
 reads_row l a i h r e =
-    let x = row (decode_property l) i in
-    (
+    let x = row (decode_property l) i in (
       ap row_read as_record ∙ held x,
       (ap (λ (y : Record). y.first) as_record ∙ sym (held_record x).0, (ap (λ (y : Record). y.second) as_record ∙ sym (held_record x).1.0, ap (λ (y : Record). y.third) as_record ∙ sym (held_record x).1.1)),
     )
