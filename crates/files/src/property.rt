@@ -94,17 +94,12 @@ pub struct Looks {
 pub fn obliged(operator: u8, a: u8, b: u8, label: u8) -> Looks
     ensures { result ≡ record { along = aims operator a label; at = box_row operator a b } }
 {
-    match operator {
-        Operator::BOX_ALL => Looks { along: true, at: a },
-        Operator::BOX => Looks {
-            along: a == label,
-            at: b,
-        },
-        _ => Looks {
-            along: false,
-            at: b,
-        },
-    }
+    let (along, at) = match operator {
+        Operator::BOX_ALL => (true, a),
+        Operator::BOX => (a == label, b),
+        _ => (false, b),
+    };
+    Looks { along, at }
 }
 
 // The row that a record is. An accepted one has one of ten operators, of which the first is left at the end.
