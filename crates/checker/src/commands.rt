@@ -1,5 +1,8 @@
 // The calls on files by name: argument 2 is the first file. `at` is the argument that names the output file, if there is one.
 use crate::arguments::number;
+use crate::buffers::{
+    compare_buffer, compose_buffer, judge_buffer, model_buffer, store_buffer, watch_buffer,
+};
 use crate::command::Unwritten;
 use crate::load::{load, load_two};
 use crate::refusals::say_refused;
@@ -8,14 +11,9 @@ use files::check::check;
 use files::offence::FileKind;
 use files::record::Limits;
 use files::refusal::Refusal;
-use judging::shape::Shape;
-use judging::sizes::Sizes;
-use maximal::places::Places;
 use printing::input::large_buffer;
 use printing::stdout::Buffered;
-use printing::zeros;
 use runs::answers::Verdict;
-use runs::regions::Regions;
 
 pub fn judge(stdout: &mut Buffered, at: Option<usize>) {
     let mut graph = large_buffer();
@@ -24,7 +22,7 @@ pub fn judge(stdout: &mut Buffered, at: Option<usize>) {
         return;
     };
     let mut out = large_buffer();
-    let mut work = zeros::<{ Shape::ROOM }>();
+    let mut work = judge_buffer();
     let answer = judging::judge(graph, property, &mut out, &mut work);
     say_judged(stdout, answer, &out, property, at);
 }
@@ -43,8 +41,8 @@ pub fn judge_deliveries(stdout: &mut Buffered, deliveries: &[u8], at: Option<usi
         return;
     };
     let mut out = large_buffer();
-    let mut store = zeros::<{ Shape::STORE }>();
-    let mut work = zeros::<{ Shape::ROOM }>();
+    let mut store = store_buffer();
+    let mut work = judge_buffer();
     let answer = judging::judge_deliveries(deliveries, property, &mut out, &mut store, &mut work);
     say_judged(stdout, answer, &out, property, at);
 }
@@ -61,7 +59,7 @@ pub fn compare(stdout: &mut Buffered, at: Option<usize>) {
         return;
     };
     let mut out = large_buffer();
-    let mut work = zeros::<{ Sizes::ROOM }>();
+    let mut work = compare_buffer();
     let answer = judging::compare(first, second, &mut out, &mut work);
     let nodes = nodes_in(first);
     say_compared(stdout, answer, &out, nodes, at);
@@ -74,7 +72,7 @@ pub fn model(stdout: &mut Buffered, at: Option<usize>) {
         return;
     };
     let mut out = large_buffer();
-    let mut work = zeros::<{ Places::ROOM }>();
+    let mut work = model_buffer();
     let answer = maximal::model(interface, property, &mut out, &mut work);
     say_written(stdout, answer, &out, at);
 }
@@ -126,7 +124,7 @@ pub fn watch(stdout: &mut Buffered, at: Option<usize>) {
     };
     let start = method_of(start);
     let mut out = large_buffer();
-    let mut work = zeros::<{ Regions::ROOM }>();
+    let mut work = watch_buffer();
     let answer = runs::watch(interface, graph, rules, start, &mut out, &mut work);
     say_watched(
         stdout,
@@ -160,9 +158,8 @@ fn composed(
         interface2,
         property2,
     } = sides;
-    // That of two unwritten sides is the longer store.
-    let mut store = zeros::<{ Regions::TWO_GRAPHS }>();
-    let mut work = zeros::<{ Places::ROOM }>();
+    let mut store = compose_buffer();
+    let mut work = model_buffer();
     match unwritten {
         Unwritten::Second => runs::compose(
             interface1, first, interface2, property2, rules, start, out, &mut store, &mut work,

@@ -11,6 +11,7 @@ use std::io;
 
 mod arguments;
 mod arrows;
+mod buffers;
 mod command;
 mod commands;
 mod dot;

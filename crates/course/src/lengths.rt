@@ -1,5 +1,9 @@
 // What an example tells at its start: numbers of two bytes, and whether a call is lent a buffer of its published length.
-ghost use Rattle.std.specs.Prelude.{◌+◌, ◌≤◌, ◌<◌, length};
+ghost use Rattle.std.specs.Prelude.{◌≡◌, ◌+◌, ◌≤◌, ◌<◌, length};
+ghost use Rattle.judging.specs.Places.{compare_room};
+
+use judging::sizes::Sizes;
+use printing::zeros;
 
 // Bytes of an output.
 pub(crate) const OUTPUT: usize = 65536;
@@ -12,6 +16,13 @@ pub(crate) fn two_bytes(head: &[u8], i: usize) -> u16
     requires { i + 1 < length head.now }
 {
     u16::from_le_bytes([head[i], head[i + 1]])
+}
+
+// The work buffer of comparing, which is the longest.
+pub(crate) fn work_buffer() -> [u8; Sizes::ROOM]
+    ensures { compare_room ≡ length result }
+{
+    zeros()
 }
 
 // The buffer, or none of it where the flag is 0.

@@ -1,8 +1,7 @@
 // Examples of two files: judging, comparing and modelling.
 use crate::answers::{say_compared, say_judged, say_written};
-use crate::lengths::{OUTPUT, lent, two_bytes};
+use crate::lengths::{OUTPUT, lent, two_bytes, work_buffer};
 use judging::shape::Shape;
-use judging::sizes::Sizes;
 use maximal::places::Places;
 use printing::stdout::Buffered;
 use printing::zeros;
@@ -46,7 +45,7 @@ pub(crate) fn compare(stdout: &mut Buffered, example: &[u8]) {
         return;
     };
     let mut out = zeros::<OUTPUT>();
-    let mut work = zeros::<{ Sizes::ROOM }>();
+    let mut work = work_buffer();
     let out = &mut out[..pair.room as usize];
     let answer = judging::compare(pair.first, pair.second, out, lent(&mut work, pair.flag));
     say_compared(stdout, answer, out);

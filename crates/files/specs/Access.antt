@@ -59,7 +59,7 @@ row_by o a b =
     cond (eqb o 2) False (cond (eqb o 3) (InMethod a) (cond (eqb o 4) (NotInMethod a) (cond (eqb o 5) Returns (cond (eqb o 6) NotReturns (cond (eqb o 7) (And a b)
     (cond (eqb o 8) (Or a b) (cond (eqb o 9) (Box a b) (cond (eqb o 10) (BoxAll a) True))))))))
 
--- the operator of a row that is held, and its operands, 0 where it has none, as they stand in its record
+-- the operator of a row that is held, and its operands, 0 where it has none, as they stand in its record (Laws, `held_record`)
 abbrev pub operator_of : PropertyRow → ℕ
 operator_of True = 1
 operator_of False = 2

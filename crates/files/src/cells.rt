@@ -117,10 +117,12 @@ pub fn clear(work: &mut [u8])
     work.fill(0);
 }
 
-// Stores src from place `at` on.
+// Stores src from place `at` on. A byte a turn: `copy_from_slice` is the C library's `memmove`, and the archive for C asks for nothing but `memset` (docs/DECISIONS.md).
 pub fn copy_at(dst: &mut [u8], at: usize, src: &[u8])
     requires { at + length src.now ≤ length dst.old }
     ensures { dst.new ≡ put_at dst.old at src.now }
 {
-    dst[at..at + src.len()].copy_from_slice(src);
+    for i in 0..src.len() {
+        dst[at + i] = src[i];
+    }
 }

@@ -1,9 +1,9 @@
 // The rows of an accepted property file.
-ghost use Rattle.std.specs.Prelude.{◌≡◌, ◌<◌, T, cond, Some, None};
+ghost use Rattle.std.specs.Prelude.{◌≡◌, ◌<◌};
 ghost use Rattle.files.specs.Record.{count};
 ghost use Rattle.files.specs.Property.{row, is_box, aims, box_row};
 ghost use Rattle.files.specs.Decode.{decode_property};
-ghost use Rattle.files.specs.Access.{PropertyFile, row_held, row_by, operator_of, looks, looked_at};
+ghost use Rattle.files.specs.Access.{PropertyFile, row_held, row_by, operator_of, first_of, second_of, looks, looked_at};
 
 use crate::parse::read;
 use crate::record::{Operator, Record};
@@ -59,26 +59,24 @@ impl PropertyRow {
         }
     }
 
-    // The row that a box looks at, whatever the label.
+    // The row that a box looks at, whatever the label: of any other row its second operand, as `box_row` has it.
     pub fn looked_at(self) -> u8
-        requires { T (is_box (operator_of self)) }
         ensures { result ≡ looked_at self }
     {
         match self {
             PropertyRow::Box { row, .. } | PropertyRow::BoxAll(row) => row,
+            PropertyRow::And(_, b) | PropertyRow::Or(_, b) => b,
             PropertyRow::True
             | PropertyRow::False
             | PropertyRow::InMethod(_)
             | PropertyRow::NotInMethod(_)
             | PropertyRow::Returns
-            | PropertyRow::NotReturns
-            | PropertyRow::And(..)
-            | PropertyRow::Or(..) => 0,
+            | PropertyRow::NotReturns => 0,
         }
     }
 }
 
-// The same of bytes, which may be any: whether an operator is a box's, and the row that a row with these bytes obliges to. Public functions that docs/DECISIONS.md names took any
+// The same of bytes, which may be any: whether an operator is a box's, and what a row with these bytes obliges to. Public functions that docs/DECISIONS.md names took any
 // operator, and any three bytes, before a `PropertyRow` was an enum, which has fewer values: they stay beside its methods.
 pub fn is_box(operator: u8) -> bool
     ensures { result ≡ is_box operator }
@@ -86,14 +84,22 @@ pub fn is_box(operator: u8) -> bool
     Operator::BOX <= operator
 }
 
-pub fn obliged(operator: u8, a: u8, b: u8, label: u8) -> Option<u8>
-    ensures { result ≡ cond (aims operator a label) (Some (box_row operator a b)) None }
+// Whether a row looks along a label, and at which row. No Option: the row that it looks at hangs on no label, and is told whether or not it looks along this one.
+#[derive(Clone, Copy)]
+pub struct Looks {
+    pub along: bool,
+    pub at: u8,
+}
+
+pub fn obliged(operator: u8, a: u8, b: u8, label: u8) -> Looks
+    ensures { result ≡ record { along = aims operator a label; at = box_row operator a b } }
 {
-    match operator {
-        Operator::BOX_ALL => Some(a),
-        Operator::BOX => (a == label).then_some(b),
-        _ => None,
-    }
+    let (along, at) = match operator {
+        Operator::BOX_ALL => (true, a),
+        Operator::BOX => (a == label, b),
+        _ => (false, b),
+    };
+    Looks { along, at }
 }
 
 // The row that a record is. An accepted one has one of ten operators, of which the first is left at the end.
@@ -115,6 +121,15 @@ fn row_by(r: Record) -> PropertyRow
         Operator::BOX_ALL => PropertyRow::BoxAll(r.second),
         _ => PropertyRow::True,
     }
+}
+
+// The operands of row r, 0 where it has none, as they stand in its record.
+pub fn operands_at(property: &[u8], r: usize) -> (u8, u8)
+    requires { (PropertyFile property.now) × (r < count property.now) }
+    ensures { (result.0 ≡ first_of (row_held (row (decode_property property.now) r))) × (result.1 ≡ second_of (row_held (row (decode_property property.now) r))) }
+{
+    let x = read(property, r);
+    (x.second, x.third)
 }
 
 // Row r.

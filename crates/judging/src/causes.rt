@@ -1,9 +1,8 @@
 // Why a pair of a node and a row is false, read off the ranks: its rank, the lowest failing entry, and its causes.
-ghost use Rattle.files.specs.Access.{looked_at, aims_along, operator_of};
+ghost use Rattle.files.specs.Access.{looked_at, aims_along};
 ghost use Rattle.std.specs.Option.{unwrap_or};
-ghost use Rattle.std.specs.Prelude.{◌≡◌, ◌+◌, ◌*◌, ◌≤◌, ◌<◌, T, IfSome, length, get_or};
+ghost use Rattle.std.specs.Prelude.{◌≡◌, ◌+◌, ◌*◌, ◌≤◌, ◌<◌, IfSome, length, get_or};
 ghost use Rattle.files.specs.Basics.First.{first_or};
-ghost use Rattle.files.specs.Property.{is_box};
 ghost use Rattle.files.specs.Decode.{decode_graph, decode_property};
 ghost use Rattle.judging.specs.Levels.{rank};
 ghost use Rattle.judging.specs.Levels.Sheet.{no_cause, ahead, lower, failing};
@@ -162,7 +161,7 @@ fn box_cause(
     g: usize,
     x: PropertyRow,
 ) -> Cause
-    requires { (Ready s graph.now property.now) × ((g < s.graph.nodes) × ((looked_at x < s.rows) × ((Settled (decode_graph graph.now) (decode_property property.now) work.now) × (T (is_box (operator_of x)))))) }
+    requires { (Ready s graph.now property.now) × ((g < s.graph.nodes) × ((looked_at x < s.rows) × (Settled (decode_graph graph.now) (decode_property property.now) work.now))) }
     ensures { result ≡ cause_held (get_or (as_causes (looked_at x) (best_target (decode_graph graph.now) (decode_property property.now) g (aims_along x) (looked_at x) s.graph.edges)) 0 no_cause) }
 {
     let t = foremost(graph, property, s, work, g, x);

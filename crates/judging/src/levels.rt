@@ -211,18 +211,11 @@ fn row_on(
             boxes(graph, property, s, work, tail, v, x, q, k)
         }
         PropertyRow::And(..) => give(work, tail, v, q, k),
-        PropertyRow::Or(a, b) => {
-            if is_false(work, v, a as usize, k) & is_false(work, v, b as usize, k) {
-                return give(work, tail, v, q, k);
-            }
-            tail
+        PropertyRow::Or(a, b)
+            if is_false(work, v, a as usize, k) & is_false(work, v, b as usize, k) => {
+            give(work, tail, v, q, k)
         }
-        PropertyRow::True
-        | PropertyRow::False
-        | PropertyRow::InMethod(_)
-        | PropertyRow::NotInMethod(_)
-        | PropertyRow::Returns
-        | PropertyRow::NotReturns => tail,
+        _ => tail,
     }
 }
 

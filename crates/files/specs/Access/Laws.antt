@@ -20,7 +20,7 @@ use Rattle.files.specs.Decode.Properties.{is_row, right, decoded_row}
 use Rattle.files.specs.Decode.RuleFiles.{decoded_count, decoded_rule}
 use Rattle.files.specs.Decode.Interfaces.{one_record, decoded_interface}
 use Rattle.files.specs.Decode.Values.{row_same, of_kind_three}
-use Rattle.files.specs.Access.{AcceptedAs, node_held, edge_held, row_held, row_by, rule_held, first_edge}
+use Rattle.files.specs.Access.{AcceptedAs, node_held, edge_held, row_held, row_by, operator_of, first_of, second_of, rule_held, first_edge}
 use Rattle.files.specs.declared.record.Limits.{Limits}
 use Rattle.files.specs.declared.record.Record.{Record}
 use Rattle.files.specs.declared.property.PropertyRow.{PropertyRow}
@@ -42,9 +42,27 @@ module _ (l : List ℕ) (a : AcceptedAs graph l) where
       ap (λ (x : Record). edge_held (to_edge x)) (e ∙ ap (λ (m : ℕ). record_at l (m + j)) d)
       ∙ ap edge_held (sym (decoded_edge a.limits l a.accepted j k))
 
+-- a row that is held has the operator and the operands of its record
+pub held_record : (x : Row) → (operator_of (row_held x) ≡ (row_rec x).first) × ((first_of (row_held x) ≡ (row_rec x).second) × (second_of (row_held x) ≡ (row_rec x).third))
+held_record always = (refl, (refl, refl))
+held_record never = (refl, (refl, refl))
+held_record returns = (refl, (refl, refl))
+held_record not_returns = (refl, (refl, refl))
+held_record (in_method a) = (refl, (refl, refl))
+held_record (not_in_method a) = (refl, (refl, refl))
+held_record (both a b) = (refl, (refl, refl))
+held_record (either a b) = (refl, (refl, refl))
+held_record (box l b) = (refl, (refl, refl))
+held_record (box_all a) = (refl, (refl, refl))
+
 pub reads_row : (l : List ℕ) → AcceptedAs property l → (i : ℕ) → i < count l → (r : Record) → r ≡ record_at l i
-    → row_by r.first r.second r.third ≡ row_held (row (decode_property l) i)
-reads_row l a i h r e = ap row_read (e ∙ sym same) ∙ held (row (decode_property l) i)
+    → (row_by r.first r.second r.third ≡ row_held (row (decode_property l) i)) × ((r.first ≡ operator_of (row_held (row (decode_property l) i)))
+    × ((r.second ≡ first_of (row_held (row (decode_property l) i))) × (r.third ≡ second_of (row_held (row (decode_property l) i)))))
+reads_row l a i h r e =
+    let x = row (decode_property l) i in (
+      ap row_read as_record ∙ held x,
+      (ap (λ (y : Record). y.first) as_record ∙ sym (held_record x).0, (ap (λ (y : Record). y.second) as_record ∙ sym (held_record x).1.0, ap (λ (y : Record). y.third) as_record ∙ sym (held_record x).1.1)),
+    )
   where
     row_read : Record → PropertyRow
     row_read x = row_by x.first x.second x.third
@@ -66,6 +84,9 @@ reads_row l a i h r e = ap row_read (e ∙ sym same) ∙ held (row (decode_prope
         ap row_rec (decoded_row a.limits l a.accepted i h)
         ∙ row_same _ _ _ (record_at l i).fourth (record_at l i).fifth (right a.limits l a.accepted i h)
         ∙ of_kind_three (record_at l i) (is_row a.limits l a.accepted i h)
+
+    as_record : r ≡ row_rec (row (decode_property l) i)
+    as_record = e ∙ sym same
 
 pub reads_rule : (l : List ℕ) → AcceptedAs rules l → (j : ℕ) → j < count l → (r : Record) → r ≡ record_at l j
     → rule_held (to_rule r) ≡ rule_held (get_or (decode_rules l) j no_rule)

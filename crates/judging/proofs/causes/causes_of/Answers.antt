@@ -23,7 +23,7 @@ returns-in-Or c =
 pub box_cause-requires : goal.box_cause-requires
 box_cause-requires c =
     let a = c.args in
-    (c.requires.0, (c.requires.1.0, (box_row_in a.s a.graph.now a.property.now c.requires.0 a.g a.r c.requires.1.1.0 _ c.row_at-x.ensures (search rules), (c.requires.1.1.1, search rules))))
+    (c.requires.0, (c.requires.1.0, (box_row_in a.s a.graph.now a.property.now c.requires.0 a.g a.r c.requires.1.1.0 _ c.row_at-x.ensures (search rules), c.requires.1.1.1)))
 
 pub returns-in-Box : goal.returns-in-Box
 returns-in-Box c =

@@ -37,25 +37,25 @@ is_false-requires c =
     let a = c.args in
     a_fits a.s a.graph.now a.property.now c.requires.0 a.k a.tail a.work.now c.requires.1.1.1.1.0 a.v a.r a.q c.requires.1.0 c.requires.1.1.1.0 c.requires.1.1.1.1.1.0 c.requires.1.1.1.1.1.1 _ (sym c.in-Or.is ∙ c.row_at-x.ensures) refl
 
-pub is_false-requires-in-Or : goal.is_false-requires-in-Or
-is_false-requires-in-Or c =
+pub is_false-requires-in-Or-1 : goal.is_false-requires-in-Or-1
+is_false-requires-in-Or-1 c =
     let a = c.args in
     b_fits a.s a.graph.now a.property.now c.requires.0 a.k a.tail a.work.now c.requires.1.1.1.1.0 a.v a.r a.q c.requires.1.0 c.requires.1.1.1.0 c.requires.1.1.1.1.1.0 c.requires.1.1.1.1.1.1 _ (sym c.in-Or.is ∙ c.row_at-x.ensures) refl
 
-pub give-requires-then-is_false : goal.give-requires-then-is_false
-give-requires-then-is_false c =
+pub give-requires-in-Or : goal.give-requires-in-Or
+give-requires-in-Or c =
     let a = c.args in
     let h = sym c.in-Or.is ∙ c.row_at-x.ensures in
-    may_give a.s a.graph.now a.property.now c.requires.0 a.k a.tail a.work.now c.requires.1.1.1.1.0 a.v a.q c.requires.1.0 c.requires.1.1.1.0 (row_turns a.s a.graph.now a.property.now c.requires.0 a.k a.tail a.work.now c.requires.1.1.1.1.0 a.v a.r a.q c.requires.1.0 c.requires.1.1.1.0 c.requires.1.1.1.1.1.0 c.requires.1.1.1.1.1.1 _ h refl _ _ c.is_false.ensures c.is_false-in-Or.ensures c.if-is_false.true)
+    may_give a.s a.graph.now a.property.now c.requires.0 a.k a.tail a.work.now c.requires.1.1.1.1.0 a.v a.q c.requires.1.0 c.requires.1.1.1.0 (row_turns a.s a.graph.now a.property.now c.requires.0 a.k a.tail a.work.now c.requires.1.1.1.1.0 a.v a.r a.q c.requires.1.0 c.requires.1.1.1.0 c.requires.1.1.1.1.1.0 c.requires.1.1.1.1.1.1 _ h refl _ _ c.is_false.ensures c.is_false-in-Or-1.ensures c.if-is_false.true)
 
-pub returns-then-is_false : goal.returns-then-is_false
-returns-then-is_false c =
+pub returns-in-Or : goal.returns-in-Or
+returns-in-Or c =
     let a = c.args in
     let h = sym c.in-Or.is ∙ c.row_at-x.ensures in
-    let x = gave a.s a.graph.now a.property.now c.requires.0 a.k a.tail a.work.now c.requires.1.1.1.1.0 a.v a.q c.requires.1.0 c.requires.1.1.1.0 (row_turns a.s a.graph.now a.property.now c.requires.0 a.k a.tail a.work.now c.requires.1.1.1.1.0 a.v a.r a.q c.requires.1.0 c.requires.1.1.1.0 c.requires.1.1.1.1.1.0 c.requires.1.1.1.1.1.1 _ h refl _ _ c.is_false.ensures c.is_false-in-Or.ensures c.if-is_false.true) c.give-then-is_false.result c.give-then-is_false.new.work c.give-then-is_false.ensures in
-    (x.0, given_done a.s a.graph.now a.property.now c.requires.0 a.k a.tail a.work.now c.requires.1.1.1.1.0 a.v a.r a.q c.requires.1.0 c.requires.1.1.1.0 c.requires.1.1.1.1.1.0 c.requires.1.1.1.1.1.1 _ h refl c.give-then-is_false.new.work x.1)
+    let x = gave a.s a.graph.now a.property.now c.requires.0 a.k a.tail a.work.now c.requires.1.1.1.1.0 a.v a.q c.requires.1.0 c.requires.1.1.1.0 (row_turns a.s a.graph.now a.property.now c.requires.0 a.k a.tail a.work.now c.requires.1.1.1.1.0 a.v a.r a.q c.requires.1.0 c.requires.1.1.1.0 c.requires.1.1.1.1.1.0 c.requires.1.1.1.1.1.1 _ h refl _ _ c.is_false.ensures c.is_false-in-Or-1.ensures c.if-is_false.true) c.give-in-Or.result c.give-in-Or.new.work c.give-in-Or.ensures in
+    (x.0, given_done a.s a.graph.now a.property.now c.requires.0 a.k a.tail a.work.now c.requires.1.1.1.1.0 a.v a.r a.q c.requires.1.0 c.requires.1.1.1.0 c.requires.1.1.1.1.1.0 c.requires.1.1.1.1.1.1 _ h refl c.give-in-Or.new.work x.1)
 
-pub returns-else-is_false : goal.returns-else-is_false
-returns-else-is_false c =
+pub returns-in_default : goal.returns-in_default
+returns-in_default c =
     let a = c.args in
-    (grew_none (decode_graph a.graph.now) (decode_property a.property.now) a.k a.tail a.work.now c.requires.1.1.1.1.0, row_stays a.s a.graph.now a.property.now c.requires.0 a.k a.tail a.work.now c.requires.1.1.1.1.0 a.v a.r a.q c.requires.1.0 c.requires.1.1.1.0 c.requires.1.1.1.1.1.0 c.requires.1.1.1.1.1.1 _ (sym c.in-Or.is ∙ c.row_at-x.ensures) refl _ _ c.is_false.ensures c.is_false-in-Or.ensures c.if-is_false.false)
+    (grew_none (decode_graph a.graph.now) (decode_property a.property.now) a.k a.tail a.work.now c.requires.1.1.1.1.0, row_stays a.s a.graph.now a.property.now c.requires.0 a.k a.tail a.work.now c.requires.1.1.1.1.0 a.v a.r a.q c.requires.1.0 c.requires.1.1.1.0 c.requires.1.1.1.1.1.0 c.requires.1.1.1.1.1.1 _ (sym c.in-Or.is ∙ c.row_at-x.ensures) refl _ _ c.is_false.ensures c.is_false-in-Or-1.ensures c.if-is_false.false)

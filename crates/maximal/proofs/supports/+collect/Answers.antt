@@ -13,7 +13,7 @@ use Rattle.maximal.specs.declared.supports.Opened.{Opened}
 use Rattle.maximal.specs.Collected.{listed, inserted, collected}
 use Rattle.maximal.specs.Collected.Search.{collected_cut, collected_leaf, collected_last}
 use Rattle.maximal.proofs.RowLaws.{rows_are}
-use Rattle.maximal.proofs.SupportLaws.{tables_kept, at_leaf, at_split, open_below, or_is, b_row, first_row, second_row, branch_bounded, both_collected, twice_below}
+use Rattle.maximal.proofs.SupportLaws.{tables_kept, at_leaf, at_split, open_below, b_row, first_row, second_row, branch_bounded, both_collected, twice_below}
 use Rattle.maximal.proofs.supports.+collect.Goals as goal
 
 pub returns-then-not-bound-forbidden : goal.returns-then-not-bound-forbidden
@@ -40,28 +40,20 @@ returns-then-left-eq0 t c =
     let e = ap (λ (i : ℕ). collected (decode_property a.property.now) i a.set a.worked a.bound a.forbidden (listed a.work.now a.found)) c.if-left-eq0.true in
     (sym (e ∙ collected_last (decode_property a.property.now) a.set a.worked a.bound a.forbidden (listed a.work.now a.found) (not-false (apart a.bound a.forbidden) c.if-not-bound-forbidden.false-raw) (at_split a.property.now c.requires.0 a.n c.requires.1.0 c.requires.1.1.0 a.set a.worked a.bound c.requires.1.1.1.1.1.1 o.result o.ensures split)), (omega arith, λ q d. refl))
 
-pub row_at-requires : goal.row_at-requires
-row_at-requires t c =
+pub operands_at-a-requires : goal.operands_at-a-requires
+operands_at-a-requires t c =
     let a = c.args in
     let o = c.next_open-o in
     let split = c.if-o-n.false in
     (c.requires.0, omega (arith, open_below a.property.now c.requires.0 a.n c.requires.1.0 c.requires.1.1.0 a.set a.worked a.bound c.requires.1.1.1.1.1.1 o.result o.ensures split, c.requires.1.0))
-
--- the open row is an "or"
-pub returns-in_default : goal.returns-in_default
-returns-in_default t c =
-    let a = c.args in
-    let o = c.next_open-o in
-    let split = c.if-o-n.false in
-    absurd (c.in_default.not-Or _ _ (or_is a.property.now c.requires.0 a.n c.requires.1.0 c.requires.1.1.0 a.set a.worked a.bound c.requires.1.1.1.1.1.1 o.result o.ensures split _ c.row_at.ensures))
 
 pub has_row-b_first-requires : goal.has_row-b_first-requires
 has_row-b_first-requires t c =
     let a = c.args in
     let o = c.next_open-o in
     let split = c.if-o-n.false in
-    let read = c.in-Or.ensures in
-    omega (arith, b_row a.property.now c.requires.0 a.n c.requires.1.0 c.requires.1.1.0 a.set a.worked a.bound c.requires.1.1.1.1.1.1 o.result o.ensures split _ read, c.requires.1.1.0)
+    let read = c.operands_at-a.ensures in
+    omega (arith, b_row a.property.now c.requires.0 a.n c.requires.1.0 c.requires.1.1.0 a.set a.worked a.bound c.requires.1.1.1.1.1.1 o.result o.ensures split _ _ read.0 read.1, c.requires.1.1.0)
 
 pub one_row-requires : goal.one_row-requires
 one_row-requires t c =
@@ -75,27 +67,27 @@ one_row-one_first-requires t c =
     let a = c.args in
     let o = c.next_open-o in
     let split = c.if-o-n.false in
-    let read = c.in-Or.ensures in
+    let read = c.operands_at-a.ensures in
     let f = c.has_row-b_first.result in
     let i = c.pick-first in
-    omega (arith, first_row a.property.now c.requires.0 a.n c.requires.1.0 c.requires.1.1.0 a.set a.worked a.bound c.requires.1.1.1.1.1.1 o.result o.ensures split _ read f i.result i.ensures, c.requires.1.1.0)
+    omega (arith, first_row a.property.now c.requires.0 a.n c.requires.1.0 c.requires.1.1.0 a.set a.worked a.bound c.requires.1.1.1.1.1.1 o.result o.ensures split _ _ read.0 read.1 f i.result i.ensures, c.requires.1.1.0)
 
 pub one_row-one_second-requires : goal.one_row-one_second-requires
 one_row-one_second-requires t c =
     let a = c.args in
     let o = c.next_open-o in
     let split = c.if-o-n.false in
-    let read = c.in-Or.ensures in
+    let read = c.operands_at-a.ensures in
     let f = c.has_row-b_first.result in
     let i = c.pick-second in
-    omega (arith, second_row a.property.now c.requires.0 a.n c.requires.1.0 c.requires.1.1.0 a.set a.worked a.bound c.requires.1.1.1.1.1.1 o.result o.ensures split _ read f i.result i.ensures, c.requires.1.1.0)
+    omega (arith, second_row a.property.now c.requires.0 a.n c.requires.1.0 c.requires.1.1.0 a.set a.worked a.bound c.requires.1.1.1.1.1.1 o.result o.ensures split _ _ read.0 read.1 f i.result i.ensures, c.requires.1.1.0)
 
 pub collect-listed-requires : goal.collect-listed-requires
 collect-listed-requires t c =
     let a = c.args in
     let o = c.next_open-o in
     let split = c.if-o-n.false in
-    let read = c.in-Or.ensures in
+    let read = c.operands_at-a.ensures in
     let f = c.has_row-b_first.result in
     let i = c.pick-first in
     let some = c.if-left-eq0.false in
@@ -103,7 +95,7 @@ collect-listed-requires t c =
     let one-r = c.one_row in
     let one-c = c.one_row-one_first in
     let closed-c = c.get-2 in
-    let bounded = branch_bounded a.property.now c.requires.0 a.n c.requires.1.0 c.requires.1.1.0 a.set a.worked a.bound c.requires.1.1.1.1.1.1 o.result o.ensures split _ read a.work.now c.requires.1.1.1.1.1.0 i.result one-c.result one-r.result closed-c.result (first_row a.property.now c.requires.0 a.n c.requires.1.0 c.requires.1.1.0 a.set a.worked a.bound c.requires.1.1.1.1.1.1 o.result o.ensures split _ read f i.result i.ensures) one-c.ensures one-r.ensures closed-c.ensures in
+    let bounded = branch_bounded a.property.now c.requires.0 a.n c.requires.1.0 c.requires.1.1.0 a.set a.worked a.bound c.requires.1.1.1.1.1.1 o.result o.ensures split _ _ read.0 read.1 a.work.now c.requires.1.1.1.1.1.0 i.result one-c.result one-r.result closed-c.result (first_row a.property.now c.requires.0 a.n c.requires.1.0 c.requires.1.1.0 a.set a.worked a.bound c.requires.1.1.1.1.1.1 o.result o.ensures split _ _ read.0 read.1 f i.result i.ensures) one-c.ensures one-r.ensures closed-c.ensures in
     (omega (arith, some), (c.requires.0, (c.requires.1.0, (c.requires.1.1.0, (omega (arith, d, c.requires.1.1.1.0), (c.requires.1.1.1.1.0, (c.requires.1.1.1.1.1.0, bounded)))))))
 
 pub collect-requires : goal.collect-requires
@@ -111,7 +103,7 @@ collect-requires t c =
     let a = c.args in
     let o = c.next_open-o in
     let split = c.if-o-n.false in
-    let read = c.in-Or.ensures in
+    let read = c.operands_at-a.ensures in
     let f = c.has_row-b_first.result in
     let i = c.pick-second in
     let some = c.if-left-eq0.false in
@@ -123,7 +115,7 @@ collect-requires t c =
     let one-r = c.one_row in
     let one-c = c.one_row-one_second in
     let closed-c = c.get-3 in
-    let bounded = branch_bounded a.property.now c.requires.0 a.n c.requires.1.0 c.requires.1.1.0 a.set a.worked a.bound c.requires.1.1.1.1.1.1 o.result o.ensures split _ read a.work.now c.requires.1.1.1.1.1.0 i.result one-c.result one-r.result closed-c.result (second_row a.property.now c.requires.0 a.n c.requires.1.0 c.requires.1.1.0 a.set a.worked a.bound c.requires.1.1.1.1.1.1 o.result o.ensures split _ read f i.result i.ensures) one-c.ensures one-r.ensures closed-c.ensures in
+    let bounded = branch_bounded a.property.now c.requires.0 a.n c.requires.1.0 c.requires.1.1.0 a.set a.worked a.bound c.requires.1.1.1.1.1.1 o.result o.ensures split _ _ read.0 read.1 a.work.now c.requires.1.1.1.1.1.0 i.result one-c.result one-r.result closed-c.result (second_row a.property.now c.requires.0 a.n c.requires.1.0 c.requires.1.1.0 a.set a.worked a.bound c.requires.1.1.1.1.1.1 o.result o.ensures split _ _ read.0 read.1 f i.result i.ensures) one-c.ensures one-r.ensures closed-c.ensures in
     (omega (arith, some), (c.requires.0, (c.requires.1.0, (c.requires.1.1.0, (omega (arith, d, g.ensures.1.0, c.requires.1.1.1.0), (omega (arith, g.auto.work, c.requires.1.1.1.1.0), (kept, bounded)))))))
 
 pub returns : goal.returns
@@ -131,7 +123,7 @@ returns t c =
     let a = c.args in
     let o = c.next_open-o in
     let split = c.if-o-n.false in
-    let read = c.in-Or.ensures in
+    let read = c.operands_at-a.ensures in
     let some = c.if-left-eq0.false in
     let of-a = c.get in
     let b-first = c.has_row-b_first in
@@ -147,7 +139,7 @@ returns t c =
     let A = (listed a.work.now a.found) in
     let B = listed f.new.work f.result in
     let C = listed g.new.work g.result in (
-      both_collected a.property.now c.requires.0 a.n c.requires.1.0 c.requires.1.1.0 a.set a.worked a.bound c.requires.1.1.1.1.1.1 o.result o.ensures split _ read a.work.now c.requires.1.1.1.1.1.0 of-a.result b-first.result first.result second.result of-a.ensures b-first.ensures first.ensures second.ensures
+      both_collected a.property.now c.requires.0 a.n c.requires.1.0 c.requires.1.1.0 a.set a.worked a.bound c.requires.1.1.1.1.1.1 o.result o.ensures split _ _ read.0 read.1 a.work.now c.requires.1.1.1.1.1.0 of-a.result b-first.result first.result second.result of-a.ensures b-first.ensures first.ensures second.ensures
           a.left a.forbidden one-r.result one-first.result one-second.result closed-first.result closed-second.result A B C
           some (not-false (apart a.bound a.forbidden) c.if-not-bound-forbidden.false-raw) one-r.ensures one-first.ensures one-second.ensures closed-first.ensures closed-second.ensures f.ensures.0 g.ensures.0,
       (omega (arith, twice_below a.left some, f.ensures.1.0, g.ensures.1.0), λ q d. g.ensures.1.1 q d ∙ f.ensures.1.1 q d),
